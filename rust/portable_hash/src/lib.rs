@@ -1,0 +1,222 @@
+//! SHA-256 (FIPS 180-4) and HMAC-SHA-256 (FIPS 198-1) in plain, portable Rust.
+//!
+//! Written from the standards for the second receiver, the bench signal and the benchmark. It shares no code and no
+//! table with the proved library, so that the two can be compared. The compression keeps sixteen message words in
+//! place and does sixteen rounds a turn: the fastest portable form that was found.
+
+#![forbid(unsafe_code)]
+
+/// Bytes of a SHA-256 digest.
+pub const DIGEST_LEN: usize = 32;
+
+/// Bytes of one SHA-256 block.
+pub const BLOCK_LEN: usize = 64;
+
+/// FIPS 180-4, 5.3.3: the initial hash value.
+pub const INITIAL: [u32; 8] = [
+    0x6a09e667, 0xbb67ae85, 0x3c6ef372, 0xa54ff53a, 0x510e527f, 0x9b05688c, 0x1f83d9ab, 0x5be0cd19,
+];
+
+/// FIPS 180-4, 4.2.2: the sixty-four round constants.
+const K: [u32; 64] = [
+    0x428a2f98, 0x71374491, 0xb5c0fbcf, 0xe9b5dba5, 0x3956c25b, 0x59f111f1, 0x923f82a4, 0xab1c5ed5,
+    0xd807aa98, 0x12835b01, 0x243185be, 0x550c7dc3, 0x72be5d74, 0x80deb1fe, 0x9bdc06a7, 0xc19bf174,
+    0xe49b69c1, 0xefbe4786, 0x0fc19dc6, 0x240ca1cc, 0x2de92c6f, 0x4a7484aa, 0x5cb0a9dc, 0x76f988da,
+    0x983e5152, 0xa831c66d, 0xb00327c8, 0xbf597fc7, 0xc6e00bf3, 0xd5a79147, 0x06ca6351, 0x14292967,
+    0x27b70a85, 0x2e1b2138, 0x4d2c6dfc, 0x53380d13, 0x650a7354, 0x766a0abb, 0x81c2c92e, 0x92722c85,
+    0xa2bfe8a1, 0xa81a664b, 0xc24b8b70, 0xc76c51a3, 0xd192e819, 0xd6990624, 0xf40e3585, 0x106aa070,
+    0x19a4c116, 0x1e376c08, 0x2748774c, 0x34b0bcb5, 0x391c0cb3, 0x4ed8aa4a, 0x5b9cca4f, 0x682e6ff3,
+    0x748f82ee, 0x78a5636f, 0x84c87814, 0x8cc70208, 0x90befffa, 0xa4506ceb, 0xbef9a3f7, 0xc67178f2,
+];
+
+#[inline(always)]
+fn round(s: &mut [u32; 8], i: usize, kw: u32) {
+    // The eight variables stay in place; their roles move by one each round.
+    let at = |n: usize| (n + 64 - i) % 8;
+    let (a, b, c) = (s[at(0)], s[at(1)], s[at(2)]);
+    let (e, f, g) = (s[at(4)], s[at(5)], s[at(6)]);
+    let big1 = e.rotate_right(6) ^ e.rotate_right(11) ^ e.rotate_right(25);
+    let choose = (e & f) ^ (!e & g);
+    let t1 = s[at(7)].wrapping_add(big1).wrapping_add(choose).wrapping_add(kw);
+    let big0 = a.rotate_right(2) ^ a.rotate_right(13) ^ a.rotate_right(22);
+    let majority = (a & b) ^ (a & c) ^ (b & c);
+    s[at(3)] = s[at(3)].wrapping_add(t1);
+    s[at(7)] = t1.wrapping_add(big0).wrapping_add(majority);
+}
+
+#[inline(always)]
+fn advance(w: &mut [u32; 16], i: usize) {
+    let (x, y) = (w[(i + 1) % 16], w[(i + 14) % 16]);
+    let small0 = x.rotate_right(7) ^ x.rotate_right(18) ^ (x >> 3);
+    let small1 = y.rotate_right(17) ^ y.rotate_right(19) ^ (y >> 10);
+    w[i] = w[i].wrapping_add(small0).wrapping_add(w[(i + 9) % 16]).wrapping_add(small1);
+}
+
+/// FIPS 180-4, 6.2.2: one block of 64 bytes.
+pub fn compress(state: &mut [u32; 8], block: &[u8; BLOCK_LEN]) {
+    let mut w = [0u32; 16];
+    for (word, bytes) in w.iter_mut().zip(block.chunks_exact(4)) {
+        *word = u32::from_be_bytes([bytes[0], bytes[1], bytes[2], bytes[3]]);
+    }
+    let mut s = *state;
+    for turn in 0..4 {
+        for i in 0..16 {
+            if turn > 0 {
+                advance(&mut w, i);
+            }
+            round(&mut s, i, w[i].wrapping_add(K[turn * 16 + i]));
+        }
+    }
+    for (h, v) in state.iter_mut().zip(s) {
+        *h = h.wrapping_add(v);
+    }
+}
+
+/// A message that comes in parts.
+#[derive(Clone)]
+pub struct Sha256 {
+    state: [u32; 8],
+    block: [u8; BLOCK_LEN],
+    len: u64,
+}
+
+impl Default for Sha256 {
+    fn default() -> Self {
+        Self::new()
+    }
+}
+
+impl Sha256 {
+    pub fn new() -> Self {
+        Sha256 { state: INITIAL, block: [0; BLOCK_LEN], len: 0 }
+    }
+
+    pub fn update(&mut self, mut data: &[u8]) {
+        let used = (self.len % 64) as usize;
+        self.len += data.len() as u64;
+        if used > 0 {
+            let n = data.len().min(64 - used);
+            self.block[used..used + n].copy_from_slice(&data[..n]);
+            if used + n < 64 {
+                return;
+            }
+            compress(&mut self.state, &self.block);
+            data = &data[n..];
+        }
+        let mut blocks = data.chunks_exact(64);
+        for b in &mut blocks {
+            self.block.copy_from_slice(b);
+            compress(&mut self.state, &self.block);
+        }
+        let rest = blocks.remainder();
+        self.block[..rest.len()].copy_from_slice(rest);
+    }
+
+    pub fn finish(mut self) -> [u8; DIGEST_LEN] {
+        let used = (self.len % 64) as usize;
+        self.block[used] = 0x80;
+        self.block[used + 1..].fill(0);
+        if used >= 56 {
+            compress(&mut self.state, &self.block);
+            self.block.fill(0);
+        }
+        self.block[56..].copy_from_slice(&(self.len * 8).to_be_bytes());
+        compress(&mut self.state, &self.block);
+        let mut out = [0; DIGEST_LEN];
+        for (bytes, h) in out.chunks_exact_mut(4).zip(self.state) {
+            bytes.copy_from_slice(&h.to_be_bytes());
+        }
+        out
+    }
+}
+
+/// SHA-256 of a whole message.
+pub fn sha256(message: &[u8]) -> [u8; DIGEST_LEN] {
+    let mut h = Sha256::new();
+    h.update(message);
+    h.finish()
+}
+
+/// An HMAC key with its inner and outer pads already hashed.
+#[derive(Clone)]
+pub struct HmacKey {
+    inner: Sha256,
+    outer: Sha256,
+}
+
+impl HmacKey {
+    pub fn new(key: &[u8]) -> Self {
+        let mut k0 = [0u8; BLOCK_LEN];
+        if key.len() > BLOCK_LEN {
+            k0[..DIGEST_LEN].copy_from_slice(&sha256(key));
+        } else {
+            k0[..key.len()].copy_from_slice(key);
+        }
+        let (mut inner, mut outer) = (Sha256::new(), Sha256::new());
+        inner.update(&k0.map(|b| b ^ 0x36));
+        outer.update(&k0.map(|b| b ^ 0x5c));
+        HmacKey { inner, outer }
+    }
+
+    pub fn mac(&self, message: &[u8]) -> [u8; DIGEST_LEN] {
+        let (mut inner, mut outer) = (self.inner.clone(), self.outer.clone());
+        inner.update(message);
+        outer.update(&inner.finish());
+        outer.finish()
+    }
+}
+
+/// HMAC-SHA-256 under a key of any length.
+pub fn hmac_sha256(key: &[u8], message: &[u8]) -> [u8; DIGEST_LEN] {
+    HmacKey::new(key).mac(message)
+}
+
+#[cfg(test)]
+mod tests {
+    use super::*;
+
+    fn hex(bytes: &[u8]) -> String {
+        bytes.iter().map(|b| format!("{b:02x}")).collect()
+    }
+
+    // FIPS 180-4's examples, and one that ends in the second block of padding.
+    #[test]
+    fn digests() {
+        assert_eq!(hex(&sha256(b"abc")), "ba7816bf8f01cfea414140de5dae2223b00361a396177a9cb410ff61f20015ad");
+        assert_eq!(
+            hex(&sha256(b"abcdbcdecdefdefgefghfghighijhijkijkljklmklmnlmnomnopnopq")),
+            "248d6a61d20638b8e5c026930c3e6039a33ce45964ff2167f6ecedd419db06c1"
+        );
+        assert_eq!(hex(&sha256(b"")), "e3b0c44298fc1c149afbf4c8996fb92427ae41e4649b934ca495991b7852b855");
+        assert_eq!(hex(&sha256(&[b'a'; 1_000_000])), "cdc76e5c9914fb9281a1c7e284d73e67f1809a48a497200e046d39ccc7112cd0");
+    }
+
+    // A message gives the same digest however it is cut into parts.
+    #[test]
+    fn parts() {
+        let m: Vec<u8> = (0..300u32).map(|i| (i * 7) as u8).collect();
+        for len in 0..m.len() {
+            for cut in [0, 1, len / 2, len.saturating_sub(1), len] {
+                let mut h = Sha256::new();
+                h.update(&m[..cut.min(len)]);
+                h.update(&m[cut.min(len)..len]);
+                assert_eq!(h.finish(), sha256(&m[..len]));
+            }
+        }
+    }
+
+    // RFC 4231, cases 1, 2, 3 and 6 (a key longer than a block).
+    #[test]
+    fn macs() {
+        assert_eq!(hex(&hmac_sha256(&[0x0b; 20], b"Hi There")), "b0344c61d8db38535ca8afceaf0bf12b881dc200c9833da726e9376c2e32cff7");
+        assert_eq!(
+            hex(&hmac_sha256(b"Jefe", b"what do ya want for nothing?")),
+            "5bdcc146bf60754e6a042426089575c75a003f089d2739839dec58b964ec3843"
+        );
+        assert_eq!(hex(&hmac_sha256(&[0xaa; 20], &[0xdd; 50])), "773ea91e36800e46854db8ebd09181a72959098b3ef8c122d9635514ced565fe");
+        assert_eq!(
+            hex(&hmac_sha256(&[0xaa; 131], b"Test Using Larger Than Block-Size Key - Hash Key First")),
+            "60e431591ee0b67f0d8a26aacbf5b77f8e0bc6213728c5140546040f0ee37f54"
+        );
+    }
+}
