@@ -1,1 +1,5 @@
 -- Laws that the proofs of other crates cite.
+pub mod Splice
+pub mod Numbers
+pub mod Fill
+pub mod Refusal
