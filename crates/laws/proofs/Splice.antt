@@ -7,7 +7,7 @@ use native.Mathlib.Omega.{arith}
 use native.Mathlib.Numerals.{add-one}
 use native.Mathlib.Nat.{add-sub-cancel-left, add-assoc}
 use lib.ListN.{drop-of-length-le, length, take, drop, getD, set, length-append, length-take, length-drop, length-set, List·getD-append, take-append-drop}
-use lib.Seq.{paste, paste-zero, paste-suc, length-paste, take-take, drop-drop, take-length, length-take-le, getD-append-add, getD-drop, getD-take, ext-getD, take-at, drop-at, set-split}
+use lib.Seq.{paste, paste-zero, paste-suc, length-paste, take-take, drop-drop, take-length, length-take-le, getD-append-add, getD-drop, getD-take, ext-getD, take-at, drop-at, set-split, sets, sets-eq}
 use mathlib.Core.Bool.{Bool, true, false}
 use mathlib.Core.Logic.{_⊎_, inl, inr, ⊎-elim}
 use lib.Dec.{ltb}
@@ -70,15 +70,34 @@ paste-take : (d : List ℕ) (a : ℕ) (s : List ℕ) (j : ℕ) → j ≤ length 
 unfolding splice
 paste-take d a s j h = simp (append-assoc, drop-drop, length-take-le j s h)
 
-pub splice-more : (d : List ℕ) (a : ℕ) (s : List ℕ) (j : ℕ) → a + j < length d → j < length s
-    → set (splice d a (take j s)) (a + j) (getD s j 0) ≡ splice d a (take (j + 1) s)
-splice-more d a s j h k =
-    ap (λ (l : List ℕ). set l (a + j) (getD s j 0)) (sym (paste-take d a s j (omega arith)))
+pub splice-more : (d : List ℕ) (a : ℕ) (s : List ℕ) (j v : ℕ) → a + j < length d → j < length s → v ≡ getD s j 0
+    → set (splice d a (take j s)) (a + j) v ≡ splice d a (take (j + 1) s)
+splice-more d a s j v h k e =
+    rw e
+    (ap (λ (l : List ℕ). set l (a + j) (getD s j 0)) (sym (paste-take d a s j (omega arith)))
     ∙ paste-suc d a s j 0 h k
-    ∙ rw (add-one j) (paste-take d a s (suc j) (omega arith))
+    ∙ rw (add-one j) (paste-take d a s (suc j) (omega arith)))
 
 pub splice-all : (d : List ℕ) (a : ℕ) (s : List ℕ) (j : ℕ) → j ≡ length s → splice d a (take j s) ≡ splice d a s
 splice-all d a s j e = rw (e, take-length)
+
+-- two or four elements stored one after the other
+sets-splice : (d : List ℕ) (a : ℕ) (s : List ℕ) → a + length s ≤ length d → sets d a s ≡ splice d a s
+unfolding splice
+sets-splice d a s h = sets-eq s d a h ∙ simp (append-assoc, drop-drop)
+
+pub splice-two : (d : List ℕ) (a x y : ℕ) → a + 2 ≤ length d → set (set d a x) (a + 1) y ≡ splice d a (x ∷ y ∷ [])
+splice-two d a x y h =
+    let e : a + 1 ≡ suc a = omega arith in
+    rw e (sets-splice d a (x ∷ y ∷ []) h)
+
+pub splice-four : (d : List ℕ) (a w x y z : ℕ) → a + 4 ≤ length d
+    → set (set (set (set d a w) (a + 1) x) (a + 2) y) (a + 3) z ≡ splice d a (w ∷ x ∷ y ∷ z ∷ [])
+splice-four d a w x y z h =
+    let e1 : a + 1 ≡ suc a = omega arith in
+    let e2 : a + 2 ≡ suc (suc a) = omega arith in
+    let e3 : a + 3 ≡ suc (suc (suc a)) = omega arith in
+    rw (e1, e2, e3) (sets-splice d a (w ∷ x ∷ y ∷ z ∷ []) h)
 
 -- ---- parts
 
