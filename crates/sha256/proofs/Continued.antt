@@ -1,8 +1,9 @@
--- For callers: lengths, a message whose first block is hashed already, and a message of one block.
+-- For callers: lengths, a message from its start, one whose first block is hashed already, and one of a single block.
 -- Assumes nothing.
 use mathlib.Core.Path.{_≡_, refl, sym, ap, _∙_}
 use mathlib.Core.List.{List, [], _∷_, _++_, append-assoc}
 use Prim.Native.Nat.{ℕ, zero, suc, _+_, _-_, _*_, _/_, _<_}
+use native.Mathlib.Nat.{zero-add}
 use native.Mathlib.Omega.{arith}
 use lib.ListN.{length, take, length-append}
 use lib.Seq.{take-at, take-all}
@@ -42,6 +43,11 @@ unfolding S.sha256 S.digest
 length-sha256 m =
     let p = S.pad m in
     omega (arith, length-bytes (S.hashed S.H0 p (length p / 64)), length-hashed S.H0 p (length p / 64) length-H0)
+
+-- ---- nothing is hashed yet
+pub from-start : (m : List ℕ) → S.finished S.H0 0 m ≡ S.sha256 m
+unfolding S.finished S.sha256 S.pad
+from-start m = rw (zero-add (length m))
 
 -- ---- the first block b is hashed already
 module _ (b : List ℕ) (e : length b ≡ 64) where
