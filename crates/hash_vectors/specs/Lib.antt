@@ -1,0 +1,2 @@
+-- SHA-256 and HMAC at published examples.
+pub mod Sha

@@ -1,0 +1,2 @@
+-- What the contracts of `hmac` cite.
+pub mod Hmac
