@@ -1,4 +1,4 @@
--- The table of 01's points is right: one test that antt computes over the whole table, and one law. Assumes nothing.
+-- The tables of 01's points and of the order of checks are right: one test that antt computes over a whole table, and one law. Assumes nothing.
 use Prim.Native.Nat.{ℕ}
 use mathlib.Core.Path.{_≡_, refl}
 use mathlib.Core.Bool.{Bool, true, false, _&&_}
@@ -7,13 +7,18 @@ use lib.Count.{ones}
 use lib.Dec.{T, eqb, eqb→eq}
 use Rattle.laws.specs.Lists.{part, splice}
 use Rattle.rules.specs.Bits.{bit, bits, filled, same}
-use Rattle.rules.specs.Calls.{subframeChecks, fresh}
-use Rattle.rules.specs.Gather.{headerOf, dsmIdOf, blockIdOf, blockOf, blocksFor, totalOf, marked, withMark, storedBlock, dropsBlocks, keptMarks, reservedCount, tooHigh, withBlock, complete, dsmOf, takenOut, stored, gathered}
+use Rattle.rules.specs.Calls.{subframeChecks, fresh, wordUnfit, wordChecks, verdictChecks, setReadChecks, authStamp}
+use Rattle.rules.specs.Gather.{statusOf, cidOf, headerOf, dsmIdOf, blockIdOf, blockOf, blocksFor, totalOf, marked, withMark, storedBlock, dropsBlocks, keptMarks, reservedCount, tooHigh, withBlock, complete, dsmOf, takenOut, stored, gathered}
 use Rattle.rules.specs.Keys.{keyLength, signatureLength, keyHeld, keyType, withKey}
-use Rattle.rules.specs.Kroot.{nmackOf, hfOf, mfOf, ksOf, msOf, macltFieldOf, moOf, rootWeekOf, rootHourOf, keyWidth, tagWidth, blockBits, fieldsFor, parametersBad, pkidOf, contentsOf, leastBlocks, krootBlocks, krootChecks, noOffer}
-use Rattle.rules.specs.Mack.{tooFar}
+use Rattle.rules.specs.Kroot.{cidkrOf, rootSecondsOf, offered, offerWaits, offerId, offerMessage, offerSignature, chainContents, inForce, everForced, nmackOf, hfOf, mfOf, ksOf, msOf, macltFieldOf, moOf, rootWeekOf, rootHourOf, keyWidth, tagWidth, blockBits, fieldsFor, parametersBad, pkidOf, contentsOf, leastBlocks, krootBlocks, krootChecks, noOffer}
+use Rattle.rules.specs.Mack.{tooFar, blockChecks}
+use Rattle.rules.specs.Chain.{sentSlot}
+use Rattle.rules.specs.Orders.{orders}
+use Rattle.rules.specs.Pkr.{newTypeOf, newIdOf, emergency, pkrSizeBad, pkrChecks}
 use Rattle.rules.specs.Points.{Point, points, Right, All}
-use Rattle.rules.specs.State.{shaped, stopped, lastSubframe, lastSubframeOf, prnValid}
+use Rattle.rules.specs.State.{shaped, stopped, lastSubframe, lastSubframeOf, lastWordOf, prnValid, macltOf}
+use Rattle.rules.specs.Verdict.{messageHeader, messageContents, namesOffer, cidInForce, sameContents, statusUnfit, rootUnfit, vouchChecks}
+use Rattle.rules.specs.Words.{wordType, svidOf}
 use Rattle.rules.specs.Times.{gst, weekOf, secondOf, timeValid, secondsOf, stampOf, hourSeconds, subframeAt, slotOf, lowestSlot, delayOf, keySeconds, tagSlot}
 
 abbrev right : List Point → Bool
@@ -40,3 +45,10 @@ table-passes = tt
 
 pub points-right : All Right points
 points-right = all-right points table-passes
+
+orders-pass : T (right orders)
+unfolding part splice bit bits filled same ones subframeChecks fresh headerOf dsmIdOf blockIdOf blockOf blocksFor totalOf marked withMark storedBlock dropsBlocks keptMarks reservedCount tooHigh withBlock complete dsmOf takenOut stored gathered keyLength signatureLength keyHeld keyType withKey nmackOf hfOf mfOf ksOf msOf macltFieldOf moOf rootWeekOf rootHourOf keyWidth tagWidth blockBits fieldsFor parametersBad pkidOf contentsOf leastBlocks krootBlocks krootChecks noOffer tooFar shaped stopped lastSubframe lastSubframeOf prnValid gst weekOf secondOf timeValid secondsOf stampOf hourSeconds subframeAt slotOf lowestSlot delayOf keySeconds tagSlot statusOf cidOf cidkrOf rootSecondsOf offered offerWaits offerId offerMessage offerSignature chainContents inForce everForced wordUnfit wordChecks verdictChecks setReadChecks authStamp blockChecks sentSlot lastWordOf macltOf messageHeader messageContents namesOffer cidInForce sameContents statusUnfit rootUnfit vouchChecks wordType svidOf newTypeOf newIdOf emergency pkrSizeBad pkrChecks
+orders-pass = tt
+
+pub orders-right : All Right orders
+orders-right = all-right orders orders-pass

@@ -1,6 +1,6 @@
 -- A worked run, computed over the rules with real SHA-256 and HMAC: a slow tag arrives, the satellite's words change, the key comes. The tag's
 -- outcome is 1, it marks the bits that were the satellite's set when the tag came, and a read gives those. It is the fault of the job sheet,
--- and shows that the claim of demand 3 is not empty. NS 1, NMACK 1, KS 256, MS 40: one key a sub-frame, four fields a section.
+-- and shows that the claim of demand 3 is not empty. NS 1, NMACK 1, KS 256, MS 12: one key a sub-frame, eight fields a section.
 -- Assumes nothing.
 use Prim.Native.Nat.{ℕ, zero, suc, _+_, _*_}
 use mathlib.Core.Path.{_≡_, refl}
@@ -49,9 +49,9 @@ at second = 0x10_0000 + second
 abbrev header : ℕ
 header = 0x42
 
--- CIDKR 0, NMACK 1, HF 0, MF 0, KS code 8, MS code 9, MACLT 7, MO 0, week 1, hour 1, α, root
+-- CIDKR 0, NMACK 1, HF 0, MF 0, KS code 8, MS code 1, MACLT 7, MO 0, week 1, hour 1, α, root
 abbrev contents : List ℕ
-contents = 0x10 ∷ 0x89 ∷ 7 ∷ 0x00 ∷ 0x01 ∷ 0x01 ∷ 0xF1 ∷ 0xCA ∷ 0x38 ∷ 0x56 ∷ 0xA9 ∷ 0x75 ∷ key0
+contents = 0x10 ∷ 0x81 ∷ 7 ∷ 0x00 ∷ 0x01 ∷ 0x01 ∷ 0xF1 ∷ 0xCA ∷ 0x38 ∷ 0x56 ∷ 0xA9 ∷ 0x75 ∷ key0
 
 abbrev signature : List ℕ
 signature = replicate 56 0x5A
@@ -79,14 +79,14 @@ blockCall k = subframe area (record { prn = k + 1; time = at 3540; bytes = field
 abbrev vouch : Call
 vouch = verdict (record { good = 1; id = 0; message = header ∷ contents; signature = signature ++ replicate 76 0 })
 
--- a section of E02: tag0, the field in question, two fields of ADKD 0, the key
+-- a section of E02: eight fields of 28 bits, of which the first is tag0 and the last six are zeros, then the key
 abbrev sectionCall : ℕ → List ℕ → List ℕ → Call
-sectionCall second field key =
+sectionCall second two key =
     subframe area
     (record {
       prn = 2;
       time = at second;
-      bytes = fields (header ∷ 0x11 ∷ replicate 13 0) (replicate 7 0 ++ (field ++ (replicate 5 0 ++ (1 ∷ 0 ∷ (replicate 5 0 ++ (1 ∷ 0 ∷ key))))));
+      bytes = fields (header ∷ 0x11 ∷ replicate 13 0) (two ++ (replicate 21 0 ++ key));
     })
 
 -- words of E01: the type, IODnav, and a byte that fills the rest; word 4 has SVID 1
@@ -112,9 +112,9 @@ marks = 0 ∷ 11 ∷ replicate 12 1
 abbrev begin : Start
 begin = record { ns = 1; id = 0; type = 0; maclt = 7; marks = marks ++ marks; root = replicate 32 0; key = replicate 67 3 }
 
--- the slow tag: E01, ADKD 11, made with the key of slot 2
-abbrev slowField : List ℕ
-slowField = 0x67 ∷ 0xCC ∷ 0xD4 ∷ 0xB8 ∷ 0x1A ∷ 1 ∷ 0xB0 ∷ []
+-- the first two fields: tag0 is zeros; the slow tag is for E01, ADKD 11, made with the key of slot 2
+abbrev slowFields : List ℕ
+slowFields = 0 ∷ 0 ∷ 0 ∷ 0x06 ∷ 0x7C ∷ 1 ∷ 0xB0 ∷ []
 
 -- the message, its verdict, the words of the set that the tag authenticates
 abbrev before : List Call
@@ -124,7 +124,7 @@ before =
 -- the section with the slow tag, then other words, then the section with its key, then a read
 abbrev after : List Call
 after =
-    sectionCall 3600 slowField key1 ∷ (wordCalls 3600 6 0x22 ++ (sectionCall 3630 (replicate 7 0) key2 ∷ readSet 1 (replicate 69 0) ∷ []))
+    sectionCall 3600 slowFields key1 ∷ (wordCalls 3600 6 0x22 ++ (sectionCall 3630 (replicate 7 0) key2 ∷ readSet 1 (replicate 69 0) ∷ []))
 
 abbrev calls : List Call
 calls = before ++ after
@@ -144,7 +144,7 @@ abbrev codes : Log → List ℕ
 codes [] = []
 codes (x ∷ l) = x .reply .code ∷ codes l
 
--- what is looked at: all numbers, the records of the section with the slow tag, the first record of the section with its key, and the read
+-- what is looked at: all numbers, the first two records of the section with the slow tag, the first record of the section with its key, and the read
 record Seen : Type 0 where
   codes : List ℕ
   first-mack : ℕ
@@ -159,14 +159,14 @@ seen l =
     record {
       codes = codes l;
       first-mack = (newest 7 l) .mack;
-      first-records = (newest 7 l) .records;
+      first-records = Lists.part ((newest 7 l) .records) 0 24;
       second-mack = (newest 1 l) .mack;
       second-record = Lists.part ((newest 1 l) .records) 0 12;
       set-read = (newest 0 l) .out;
       time-read = (newest 0 l) .time;
     }
 
--- every call is taken. In the first section tag0 has no set (3), the slow tag waits (5), the others are not allowed (4). In the second the slow tag
+-- every call is taken. In the first section tag0 has no set (3), the slow tag waits (5). In the second the slow tag
 -- is authentic, its record has the old IODnav, and the read gives the old bits with the time of the tag's arrival
 abbrev wanted : Seen
 wanted =
@@ -176,8 +176,6 @@ wanted =
       first-records =
           3 ∷ 2 ∷ 2 ∷ 0 ∷ 1 ∷ 1 ∷ 0 ∷ 0 ∷ 0 ∷ 0x10 ∷ 0x0E ∷ 0x10
           ∷ 5 ∷ 2 ∷ 1 ∷ 11 ∷ 1 ∷ 2 ∷ 0 ∷ 5 ∷ 0 ∷ 0x10 ∷ 0x0E ∷ 0x10
-          ∷ 4 ∷ 2 ∷ 1 ∷ 0 ∷ 1 ∷ 3 ∷ 0 ∷ 0 ∷ 0 ∷ 0x10 ∷ 0x0E ∷ 0x10
-          ∷ 4 ∷ 2 ∷ 1 ∷ 0 ∷ 1 ∷ 4 ∷ 0 ∷ 0 ∷ 0 ∷ 0x10 ∷ 0x0E ∷ 0x10
           ∷ [];
       second-mack = 0;
       second-record = 1 ∷ 2 ∷ 1 ∷ 11 ∷ 1 ∷ 2 ∷ 0 ∷ 5 ∷ 0 ∷ 0x10 ∷ 0x0E ∷ 0x10 ∷ [];

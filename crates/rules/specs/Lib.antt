@@ -16,3 +16,4 @@ pub mod Answers
 pub mod Log
 pub mod Claim
 pub mod Points
+pub mod Orders
