@@ -1,0 +1,19 @@
+-- 01 as definitions. Read Calls first: each call is there, with its refusals in order; the other files are what it names.
+pub mod Times
+pub mod Bits
+pub mod State
+pub mod Words
+pub mod Gather
+pub mod Keys
+pub mod Kroot
+pub mod Pkr
+pub mod Chain
+pub mod Mack
+pub mod Tags
+pub mod Verdict
+pub mod Calls
+pub mod Answers
+pub mod Log
+pub mod Claim
+pub mod Points
+pub mod Orders

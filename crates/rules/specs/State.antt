@@ -1,0 +1,131 @@
+-- The state of the core: one list for each region that the caller lends, and what the regions mean.
+-- Every definition is total: it gives an answer for any contents, also for ones that no start ever leaves. Such contents are read by a
+-- stated value (a number of satellites outside 1 to 36 as 1, and so on), so that every call has a stated effect.
+use Prim.Native.Nat.{ℕ, zero, suc, _+_, _-_, _*_}
+use mathlib.Core.Bool.{Bool, cond, not, _&&_, _||_}
+use mathlib.Core.List.{List, [], _∷_, _++_}
+use lib.Dec.{leb, ltb, eqb}
+use lib.ListN.{length, getD, replicate}
+use Rattle.laws.specs.Lists.{part}
+use Rattle.rules.specs.Bits.{allOf, within}
+
+-- I/NAV words 1 to 5 of 36 satellites, 16 bytes each, and the stamp of each word's sub-frame
+pub record Nav : Type 0 where
+  pub words : List ℕ
+  pub times : List ℕ
+
+-- DSM blocks by DSM ID: 16 places of 13 bytes, the NMA header they came with, the marks of the blocks present (block k is worth
+-- 2 ^ k), and the time of the block that came first
+pub record Store : Type 0 where
+  pub blocks : List ℕ
+  pub headers : List ℕ
+  pub marks : List ℕ
+  pub times : List ℕ
+
+-- the held TESLA key and the waiting tags: numbers are the held key's slot and the count of waiting tags
+pub record Tesla : Type 0 where
+  pub numbers : List ℕ
+  pub key : List ℕ
+  pub waiting : List ℕ
+
+-- the authentic set of each satellite, 69 bytes, and the stamp of its tag's arrival
+pub record Auth : Type 0 where
+  pub sets : List ℕ
+  pub times : List ℕ
+
+pub record State : Type 0 where
+  -- NS, MACLT, 14 + 14 marks, tree root 32, and 1 where the core is stopped
+  pub config : List ℕ
+  -- stamps: the last sub-frame, the last sub-frame of each PRN, the last word of each PRN
+  pub clocks : List ℕ
+  pub nav : Nav
+  pub store : Store
+  -- by key ID: the type plus 1 (0 where none is held), and the key in 67 bytes
+  pub keys : List ℕ
+  -- the message that waits for a verdict: 1 (0 where none waits), key ID, message 45, signature 132
+  pub offer : List ℕ
+  -- 1 in force, 2 dropped, 0 where there was none; then the contents that were put in force last (44)
+  pub chain : List ℕ
+  pub tesla : Tesla
+  pub auth : Auth
+
+-- the state as its sixteen regions
+abbrev pub state : List ℕ → List ℕ → List ℕ → List ℕ → List ℕ → List ℕ → List ℕ → List ℕ → List ℕ → List ℕ → List ℕ → List ℕ → List ℕ → List ℕ → List ℕ → List ℕ → State
+state config clocks words wordTimes blocks headers marks blockTimes keys offer chain numbers key waiting sets setTimes =
+    record {
+      config = config;
+      clocks = clocks;
+      nav = record { words = words; times = wordTimes };
+      store = record { blocks = blocks; headers = headers; marks = marks; times = blockTimes };
+      keys = keys;
+      offer = offer;
+      chain = chain;
+      tesla = record { numbers = numbers; key = key; waiting = waiting };
+      auth = record { sets = sets; times = setTimes };
+    }
+
+-- every region has its length
+unfoldable pub shaped : State → Bool
+shaped s =
+    allOf
+    (eqb (length (s .config)) 63
+    ∷ eqb (length (s .clocks)) 73
+    ∷ eqb (length (s .nav .words)) 2880
+    ∷ eqb (length (s .nav .times)) 180
+    ∷ eqb (length (s .store .blocks)) 3328
+    ∷ eqb (length (s .store .headers)) 16
+    ∷ eqb (length (s .store .marks)) 16
+    ∷ eqb (length (s .store .times)) 16
+    ∷ eqb (length (s .keys)) 1088
+    ∷ eqb (length (s .offer)) 179
+    ∷ eqb (length (s .chain)) 45
+    ∷ eqb (length (s .tesla .numbers)) 2
+    ∷ eqb (length (s .tesla .key)) 32
+    ∷ eqb (length (s .tesla .waiting)) 21504
+    ∷ eqb (length (s .auth .sets)) 2484
+    ∷ eqb (length (s .auth .times)) 36
+    ∷ [])
+
+-- ---- settings
+
+-- NS; a number that no start takes counts as 1
+unfoldable pub nsOf : List ℕ → ℕ
+nsOf config = cond (within 1 36 (getD config 0 0)) (getD config 0 0) 1
+
+unfoldable pub macltOf : List ℕ → ℕ
+macltOf config = getD config 1 0
+
+-- the mark of field j of a section, from 0, counted on through all blocks: the first list at second 0 of the minute, the second at 30
+unfoldable pub markOf : List ℕ → Bool → ℕ → ℕ
+markOf config half j = getD config (2 + cond half 14 0 + j) 0
+
+unfoldable pub treeRoot : List ℕ → List ℕ
+treeRoot config = part config 30 32
+
+unfoldable pub stopped : List ℕ → Bool
+stopped config = not (eqb (getD config 62 0) 0)
+
+-- ---- clocks
+
+unfoldable pub lastSubframe : List ℕ → ℕ
+lastSubframe clocks = getD clocks 0 0
+
+unfoldable pub lastSubframeOf : List ℕ → ℕ → ℕ
+lastSubframeOf clocks prn = getD clocks prn 0
+
+unfoldable pub lastWordOf : List ℕ → ℕ → ℕ
+lastWordOf clocks prn = getD clocks (36 + prn) 0
+
+-- a PRN that is heard: 1 to 36
+unfoldable pub prnValid : ℕ → Bool
+prnValid prn = within 1 36 prn
+
+-- ---- held key and waiting tags
+
+-- the held key's slot; a number past every slot that week 4095 has counts as 0
+unfoldable pub heldSlot : List ℕ → ℕ
+heldSlot numbers = cond (ltb (getD numbers 0 0) 17179869184) (getD numbers 0 0) 0
+
+-- how many tags wait; at most 256 do
+unfoldable pub waitingCount : List ℕ → ℕ
+waitingCount numbers = cond (leb (getD numbers 1 0) 256) (getD numbers 1 0) 0

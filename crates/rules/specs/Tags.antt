@@ -1,0 +1,213 @@
+-- Tags: messages, outcomes, records, waiting tags and authentic sets (01, "MACK"; 000, 5.5 and 5.6).
+use Prim.Native.Nat.{ℕ, zero, suc, _+_, _-_, _*_, _/_, _%_, _^_}
+use mathlib.Core.Bool.{Bool, true, false, cond, not, _&&_, _||_}
+use mathlib.Core.List.{List, [], _∷_, _++_}
+use lib.Dec.{leb, ltb, eqb}
+use lib.ListN.{length, getD, set}
+use Rattle.laws.specs.Bytes.{be2, be4, u32at}
+use Rattle.laws.specs.Lists.{part, splice}
+use Rattle.laws.specs.Refusal.{Check, refuse, firstOf, neb}
+use Rattle.hmac.specs.Hmac.{hmac}
+use Rattle.rules.specs.Bits.{bits, bitList, packed, anyOf, within}
+use Rattle.rules.specs.Chain.{Held, keyOfSlot, keySlot}
+use Rattle.rules.specs.Mack.{fieldTag, fieldInfo, macseqOf}
+use Rattle.rules.specs.State.{Nav, markOf, prnValid}
+use Rattle.rules.specs.Times.{delayOf, stampOf, secondOf}
+use Rattle.rules.specs.Words.{usable, setOf, setIssue}
+use Rattle.rules.specs.declared.Chain.{Chain}
+use Rattle.rules.specs.declared.Tag.{Tag}
+
+-- ---- a tag's message and its match
+
+-- the first n bits of HMAC-SHA-256 under the key
+unfoldable pub macBits : ℕ → List ℕ → List ℕ → ℕ
+macBits n key message = bits (hmac key message) 0 n
+
+-- NMA status (2 bits), the set's 549 bits, and a zero bit: 69 bytes
+unfoldable pub statusAndSet : ℕ → List ℕ → List ℕ
+statusAndSet status navdata = packed (bitList (status * 64 ∷ []) 0 2 ++ bitList navdata 0 549) 69
+
+-- m0 of 000, 5.5: PRN_A, GST_SF, CTR, NMA status, navdata, padding: 75 bytes
+unfoldable pub firstMessage : Tag → List ℕ → List ℕ
+firstMessage t navdata = t .sender ∷ (be4 (t .time) ++ (t .position ∷ statusAndSet (t .status) navdata))
+
+-- m of 000, 5.5: PRN_N before it: 76 bytes
+unfoldable pub tagMessage : Tag → List ℕ → List ℕ
+tagMessage t navdata = t .prn ∷ firstMessage t navdata
+
+-- the key of a tag's slot, from the held key
+unfoldable pub tagKey : Chain → Held → Tag → List ℕ
+tagKey c h t = keyOfSlot c h (keySlot c (t .time) (t .block) (t .adkd))
+
+-- the tag matches the set; tag0 is the first field of a section
+unfoldable pub tagMatches : Chain → Held → Bool → Tag → List ℕ → Bool
+tagMatches c h first t navdata =
+    eqb (macBits (c .ms) (tagKey c h t) (cond first (firstMessage t navdata) (tagMessage t navdata))) (t .bits)
+
+-- ---- records
+
+-- "A tag record has 12 bytes: outcome, sending PRN, PRN authenticated, ADKD, block, position in it from 1, IODnav (2; 0 for outcomes 3, 4,
+-- 6), GST_SF of arrival (4)."
+unfoldable pub tagRecord : ℕ → Tag → ℕ → List ℕ
+tagRecord outcome t issue =
+    outcome ∷ t .sender ∷ t .prn ∷ t .adkd ∷ t .block ∷ t .position ∷ (be2 issue ++ be4 (t .time))
+
+unfoldable pub recordIssue : ℕ → List ℕ → ℕ
+recordIssue outcome navdata = cond (anyOf (eqb outcome 3 ∷ eqb outcome 4 ∷ eqb outcome 6 ∷ [])) 0 (setIssue navdata)
+
+-- ---- waiting tags: an entry of 84 bytes each, in arrival order
+
+-- sender, PRN, ADKD, block, position, GST_SF (4), status, tag (5), the copy of its set (69)
+unfoldable pub tagEntry : Tag → List ℕ → List ℕ
+tagEntry t navdata =
+    t .sender ∷ t .prn ∷ t .adkd ∷ t .block ∷ t .position
+    ∷ (be4 (t .time) ++ (t .status ∷ t .bits / 2 ^ 32 % 256 ∷ (be4 (t .bits) ++ navdata)))
+
+-- entry k of the region, and the tag and set in it
+unfoldable pub entryAt : List ℕ → ℕ → List ℕ
+entryAt waiting k = part waiting (k * 84) 84
+
+unfoldable pub entryTag : List ℕ → Tag
+entryTag e =
+    record {
+      sender = getD e 0 0;
+      prn = getD e 1 0;
+      adkd = getD e 2 0;
+      block = getD e 3 0;
+      position = getD e 4 0;
+      time = u32at e 5;
+      status = getD e 9 0 % 4;
+      bits = getD e 10 0 * 2 ^ 32 + u32at e 11;
+    }
+
+unfoldable pub entrySet : List ℕ → List ℕ
+entrySet e = part e 15 69
+
+-- "A waiting tag is due once the held slot reaches its key's slot."
+unfoldable pub isDue : Chain → Held → Tag → Bool
+isDue c h t = leb (keySlot c (t .time) (t .block) (t .adkd)) (h .slot)
+
+-- ---- what the tags of a section leave
+
+-- the waiting entries so far and their count, the authentic sets and their stamps, the records so far
+pub record Work : Type 0 where
+  pub kept : List ℕ
+  pub count : ℕ
+  pub sets : List ℕ
+  pub times : List ℕ
+  pub records : List ℕ
+
+-- "Outcome 1 replaces the satellite's authentic set unless that set's tag came later."
+unfoldable pub setsEntered : List ℕ → List ℕ → Tag → List ℕ → List ℕ
+setsEntered sets times t navdata = cond (ltb (stampOf (t .time)) (getD times (t .prn - 1) 0)) sets (splice sets ((t .prn - 1) * 69) navdata)
+
+unfoldable pub timesEntered : List ℕ → Tag → List ℕ
+timesEntered times t = cond (ltb (stampOf (t .time)) (getD times (t .prn - 1) 0)) times (set times (t .prn - 1) (stampOf (t .time)))
+
+-- a tag that gets an outcome: its record, and for outcome 1 its set; entries that no start leaves may name no satellite
+unfoldable pub told : ℕ → Tag → List ℕ → Work → Work
+told outcome t navdata w =
+    let marks = eqb outcome 1 && prnValid (t .prn) in
+    record {
+      kept = w .kept;
+      count = w .count;
+      sets = cond marks (setsEntered (w .sets) (w .times) t navdata) (w .sets);
+      times = cond marks (timesEntered (w .times) t) (w .times);
+      records = w .records ++ tagRecord outcome t (recordIssue outcome navdata);
+    }
+
+-- a tag that waits keeps a copy of its set
+unfoldable pub kept : List ℕ → Work → Work
+kept entry w = record { kept = w .kept ++ entry; count = w .count + 1; sets = w .sets; times = w .times; records = w .records }
+
+-- a waiting tag: judged if it is due, else it stays
+unfoldable pub dueJudged : Chain → Held → List ℕ → Work → Work
+dueJudged c h e w =
+    let t = entryTag e in
+    cond (isDue c h t) (told (cond (tagMatches c h false t (entrySet e)) 1 2) t (entrySet e) w) (kept e w)
+
+-- the first n waiting tags: "Due tags are judged in arrival order before the section's own, and free their places."
+unfoldable pub duesJudged : Chain → Held → List ℕ → ℕ → Work → Work
+duesJudged c h waiting zero w = w
+duesJudged c h waiting (suc n) w = dueJudged c h (entryAt waiting n) (duesJudged c h waiting n w)
+
+-- ---- the section's own tags
+
+-- what a section brings beside its 60 bytes
+pub record Section : Type 0 where
+  pub prn : ℕ
+  pub time : ℕ
+  pub status : ℕ
+  pub mack : List ℕ
+
+-- second 30 of the minute
+unfoldable pub secondHalf : ℕ → Bool
+secondHalf g = eqb (secondOf g % 60) 30
+
+-- "0 to 15 fixed ADKD, 255 flexible"
+unfoldable pub flexible : List ℕ → ℕ → ℕ → Bool
+flexible config g j = eqb (markOf config (secondHalf g) j) 255
+
+-- field j as a tag: tag0 is the sender's own, ADKD 0
+unfoldable pub ownTag : Chain → Section → ℕ → Tag
+ownTag c x j =
+    let info = fieldInfo c (x .mack) j in
+    record {
+      sender = x .prn;
+      prn = cond (eqb j 0) (x .prn) (info / 256);
+      adkd = cond (eqb j 0) 0 (info / 16 % 16);
+      block = j / c .fields + 1;
+      position = j % c .fields + 1;
+      time = x .time;
+      status = x .status;
+      bits = fieldTag c (x .mack) j;
+    }
+
+-- m of 000, 5.6: PRN_A, GST_SF and the MAC-Info of the flexible ones of the first n fields, in order
+unfoldable pub macseqMessage : List ℕ → Chain → Section → ℕ → List ℕ
+macseqMessage config c x zero = x .prn ∷ be4 (x .time)
+macseqMessage config c x (suc j) =
+    macseqMessage config c x j ++ cond (flexible config (x .time) j) (be2 (fieldInfo c (x .mack) j)) []
+
+-- "MACSEQ uses the key of block 1's tags."
+unfoldable pub macseqFits : List ℕ → Chain → Held → Section → Bool
+macseqFits config c h x =
+    eqb (macBits 12 (keyOfSlot c h (keySlot c (x .time) 1 0)) (macseqMessage config c x (c .nmack * c .fields))) (macseqOf c (x .mack))
+
+-- "4 ADKD not 0, 11, 12, or not the fixed one, or PRN not 1 to 36"
+unfoldable pub notAllowed : List ℕ → ℕ → Tag → Bool
+notAllowed config j t =
+    anyOf
+    (not (anyOf (eqb (t .adkd) 0 ∷ eqb (t .adkd) 11 ∷ eqb (t .adkd) 12 ∷ []))
+    ∷ (not (flexible config (t .time) j) && neb (t .adkd) (markOf config (secondHalf (t .time)) j))
+    ∷ not (prnValid (t .prn))
+    ∷ [])
+
+-- "Tag outcomes, first that applies: 4 ..; 6 flexible and MACSEQ fails; 3 no usable set; then, without delay, 1 authentic or 2 wrong; with
+-- delay, 5 waits with a copy of its set, or 7 if all 256 places are taken."
+unfoldable pub ownOutcome : List ℕ → Nav → Chain → Held → Section → ℕ → ℕ → ℕ
+ownOutcome config nav c h x j count =
+    let t = ownTag c x j in
+    firstOf
+    (refuse (notAllowed config j t) 4
+    ∷ refuse (flexible config (t .time) j && not (macseqFits config c h x)) 6
+    ∷ refuse (not (usable nav (t .prn) (t .time))) 3
+    ∷ refuse (eqb (delayOf (t .adkd)) 0 && tagMatches c h (eqb j 0) t (setOf (nav .words) (t .prn))) 1
+    ∷ refuse (eqb (delayOf (t .adkd)) 0) 2
+    ∷ refuse (ltb count 256) 5
+    ∷ refuse true 7
+    ∷ [])
+
+-- field j of the section
+unfoldable pub ownJudged : List ℕ → Nav → Chain → Held → Section → ℕ → Work → Work
+ownJudged config nav c h x j w =
+    let t = ownTag c x j in
+    let navdata = setOf (nav .words) (t .prn) in
+    let outcome = ownOutcome config nav c h x j (w .count) in
+    let told-w = told outcome t navdata w in
+    cond (eqb outcome 5) (kept (tagEntry t navdata) told-w) told-w
+
+-- the first n fields, in order
+unfoldable pub ownsJudged : List ℕ → Nav → Chain → Held → Section → ℕ → Work → Work
+ownsJudged config nav c h x zero w = w
+ownsJudged config nav c h x (suc j) w = ownJudged config nav c h x j (ownsJudged config nav c h x j w)

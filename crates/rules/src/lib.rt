@@ -1,0 +1,75 @@
+// The types that the rules, the leaves and the calls share. The rules themselves are definitions in specs/; this crate has no function.
+
+// The numbers of the chain in force, read once for a call (000, table 7).
+pub struct Chain {
+    // satellites with keys of their own in a block
+    pub ns: u64,
+    // MACK blocks of a section
+    pub nmack: u64,
+    // seconds since week 0 of the root's sub-frame 0
+    pub root: u64,
+    // the chain's pattern
+    pub alpha: [u8; 6],
+    // bytes of a key
+    pub width: usize,
+    // bits of a tag
+    pub ms: u64,
+    // fields of a MACK block
+    pub fields: u64,
+}
+
+// A tag with what its message needs beside the set.
+pub struct Tag {
+    // the satellite that sent it, and the one whose set it authenticates
+    pub sender: u8,
+    pub prn: u8,
+    pub adkd: u8,
+    // block of the section, and position in the block, from 1
+    pub block: u8,
+    pub position: u8,
+    // GST_SF of its arrival
+    pub time: u32,
+    // NMA status of the sub-frame it came in
+    pub status: u8,
+    // its MS bits as a number
+    pub bits: u64,
+}
+
+// What a call answers: a case for each number of 01's table. The definition `number` of specs/Answers.antt gives the number.
+pub enum Answer {
+    Done,
+    WrongLength,
+    OutOfRange,
+    OutOfOrder,
+    Stopped,
+    AllZero,
+    BlockUnfit,
+    KeyNotHeld,
+    ParametersUnfit,
+    NotNewer,
+    TreeUnfit,
+    NotInForce,
+    KeyUnfit,
+    TooFar,
+    NotWaiting,
+    VerdictBad,
+    NoSet,
+}
+
+// A sub-frame's answer: a number for each half, and how many tag records were written.
+pub struct Halves {
+    pub hkroot: Answer,
+    pub mack: Answer,
+    pub records: u32,
+}
+
+// What becomes of a tag (01, "Tag outcomes"). The definition `outcomeNumber` of specs/Answers.antt gives the number of its record.
+pub enum Outcome {
+    Authentic,
+    Wrong,
+    NoUsableSet,
+    NotAllowed,
+    Waits,
+    SequenceUnfit,
+    NoPlace,
+}
