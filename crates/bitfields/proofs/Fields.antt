@@ -1,18 +1,18 @@
 -- Laws of `bit`, `bits` and `bytesAt`: bounds, a field split in two, a field inside one byte, whole bytes, a field cut out of a wider one,
 -- and a field of a part of a string.
 -- Assumes nothing.
-use mathlib.Core.Path.{_≡_, refl, sym, ap, _∙_}
+use mathlib.Core.Path.{_≡_, refl, sym, _∙_}
 use mathlib.Core.List.{List, [], _∷_, _++_, append-assoc}
 use Prim.Native.Nat.{ℕ, zero, suc, _+_, _-_, _*_, _/_, _%_, _^_, _≤_, _<_}
 use native.Mathlib.Omega.{arith}
 use native.Mathlib.Numerals.{add-one}
 use native.Mathlib.Nat.{add-zero, add-suc, add-assoc, pow-suc, mod-one, mod-lt, lt-of-lt-of-le}
 use lib.ListN.{length, getD, take, drop, set, length-append, length-drop, List·getD-append}
-use lib.Seq.{getD-at, set-at, drop-cons, ext-getD, length-take-le}
+use lib.Seq.{getD-at, set-at, set-split, drop-cons, drop-drop, ext-getD, length-take-le}
 use mathlib.Core.Logic.{⊎-elim}
-use lib.Pow.{pow-pos, pow-mono, high, low, shr-shr, mod-pow-add}
+use lib.Pow.{pow-mono, high, low, shr-shr, mod-pow-add}
 use Rattle.laws.specs.Lists.{part, splice}
-use Rattle.laws.proofs.Splice.{getD-part, length-part, below?}
+use Rattle.laws.proofs.Splice.{getD-part, length-part, splice-append, below?}
 use Rattle.rules.specs.Bits.{bit, bits, bytesAt}
 
 -- a bit is 0 or 1
@@ -149,3 +149,13 @@ splice-push d a l v h =
     rw (c, ← append-assoc (take a d) l (getD (drop a d) (length l) 0 ∷ drop (suc (length l)) (drop a d)))
     (set-at (take a d ++ l) (getD (drop a d) (length l) 0) (drop (suc (length l)) (drop a d)) v (a + length l) n
     ∙ simp (append-assoc, length-append, add-one))
+
+-- one element replaced
+pub splice-one : (d : List ℕ) (a v : ℕ) → a < length d → set d a v ≡ splice d a (v ∷ [])
+unfolding splice
+splice-one d a v h = rw (drop-drop 1 a d, add-one) (set-split d a v h)
+
+-- a second part right after the first
+pub splice-next : (d : List ℕ) (a : ℕ) (l m : List ℕ) (n k : ℕ) → length l ≡ n → length m ≡ k → a + (n + k) ≤ length d
+    → splice (splice d a l) (a + n) m ≡ splice d a (l ++ m)
+splice-next d a l m n k e f h = rw (← e) (splice-append d a l m (omega arith))

@@ -3,7 +3,7 @@
 use mathlib.Core.Path.{_≡_, refl, sym, ap, _∙_}
 use mathlib.Core.List.{List, [], _∷_, _++_, append-assoc, append-nil}
 use mathlib.Core.Logic.{⊎-elim}
-use Prim.Native.Nat.{ℕ, zero, suc, _+_, _-_, _*_, _/_, _%_, _^_, _≤_, _<_}
+use Prim.Native.Nat.{ℕ, zero, suc, _+_, _*_, _≤_, _<_}
 use native.Mathlib.Omega.{arith}
 use native.Mathlib.Nat.{zero-add, add-zero, add-suc, add-assoc}
 use lib.ListN.{length, getD, drop, length-append, List·getD-append}
@@ -95,6 +95,14 @@ pub packed-byte : (s : List ℕ) (at : ℕ) (rest : List ℕ) (m : ℕ) → pack
 packed-byte s at rest m =
     packed-front (bitList s at 8 ++ rest) m
     ∙ rw (octet-byte s at rest, drop-at (bitList s at 8) rest 8 (length-bitList s at 8))
+
+-- a byte that two strings share in front
+pub packed-seam : (s : List ℕ) (at : ℕ) (u : List ℕ) (to : ℕ) (rest : List ℕ) (m : ℕ)
+    → packed (bitList s at 2 ++ (bitList u to 6 ++ rest)) (suc m) ≡ (bits s at 2 * 64 + bits u to 6) ∷ packed rest m
+packed-seam s at u to rest m =
+    let e : length (bitList s at 2 ++ bitList u to 6) ≡ 8 = simp (length-append, length-bitList) in
+    packed-front (bitList s at 2 ++ (bitList u to 6 ++ rest)) m
+    ∙ rw (octet-seam s at u to rest, ← append-assoc (bitList s at 2) (bitList u to 6) rest, drop-at (bitList s at 2 ++ bitList u to 6) rest 8 e)
 
 -- whole bytes of a string in front
 pub packed-bytes : (s : List ℕ) (at k : ℕ) (rest : List ℕ) (m : ℕ) → packed (bitList s at (8 * k) ++ rest) (k + m) ≡ bytesAt s at k ++ packed rest m
