@@ -191,6 +191,6 @@ status-spliced d to status s h =
 
 -- ---- tests
 
-pub and-true : (b : Bool) → b ≡ (b && true)
+pub and-true : (b : Bool) → (b && true) ≡ b
 and-true true = refl
 and-true false = refl

@@ -2,6 +2,7 @@
 // `words` holds words 1 to 5 of 36 satellites, 16 bytes each; `times` holds the stamp of each word's sub-frame, its time plus 1, or 0
 // where no word is held.
 ghost use mathlib.Core.Path.{_≡_};
+ghost use mathlib.Core.Bool.{_&&_};
 ghost use mathlib.Core.List.{List, [], _∷_};
 ghost use Prim.Native.Nat.{ℕ, _+_, _-_, _*_, _≤_, _<_};
 ghost use lib.ListN.{length};
@@ -57,7 +58,7 @@ pub fn store_word(
 
 // ---- sets that can be used
 
-// The IODnav of a satellite's word of type 1 to 4.
+// Bits 6 to 15 of a satellite's word: its IODnav in words 1 to 4.
 pub fn word_issue(words: &[u8], prn: usize, kind: usize) -> u64
     requires { ⌜ length (now words) ≡ 2880 ⌝ }
     requires { ⌜ ((1 ≤ prn) × (prn ≤ 36)) × ((1 ≤ kind) × (kind ≤ 5)) ⌝ }
@@ -66,19 +67,23 @@ pub fn word_issue(words: &[u8], prn: usize, kind: usize) -> u64
     bitfields::bits_at(words, (prn - 1) * 640 + ((kind - 1) * 128 + 6), 10)
 }
 
+// Both tests hold.
+fn both(a: bool, b: bool) -> bool
+    ensures { λ r. ⌜ r ≡ (a && b) ⌝ }
+{
+    if a { b } else { false }
+}
+
 // Words 1 to 4 have one IODnav.
 pub fn one_issue(words: &[u8], prn: usize) -> bool
     requires { ⌜ (length (now words) ≡ 2880) × ((1 ≤ prn) × (prn ≤ 36)) ⌝ }
     ensures { λ r. ⌜ ((times : List ℕ) → r ≡ oneIssue (wordCame (nav (now (words .entry)) times) prn 1) (wordCame (nav (now (words .entry)) times) prn 2) (wordCame (nav (now (words .entry)) times) prn 3) (wordCame (nav (now (words .entry)) times) prn 4)) ⌝ }
 {
     let issue = word_issue(words, prn, 1);
-    if word_issue(words, prn, 2) != issue {
-        return false;
-    }
-    if word_issue(words, prn, 3) != issue {
-        return false;
-    }
-    word_issue(words, prn, 4) == issue
+    let two = word_issue(words, prn, 2) == issue;
+    let three = word_issue(words, prn, 3) == issue;
+    let four = word_issue(words, prn, 4) == issue;
+    both(two, both(three, four))
 }
 
 // A word of the type is held, and came in an earlier sub-frame than t.
@@ -88,10 +93,7 @@ pub fn came_before(times: &[u32], prn: usize, t: u32, kind: usize) -> bool
 {
     let place = word_place(prn, kind);
     let stamp = times[place];
-    if stamp < 1 {
-        return false;
-    }
-    stamp <= t
+    both(1 <= stamp, stamp <= t)
 }
 
 // A satellite's set can be used for a section of sub-frame t.
@@ -99,22 +101,18 @@ pub fn usable(words: &[u8], times: &[u32], prn: usize, t: u32) -> bool
     requires { ⌜ ((length (now words) ≡ 2880) × (length (now times) ≡ 180)) × ((1 ≤ prn) × (prn ≤ 36)) ⌝ }
     ensures { λ r. ⌜ r ≡ rules.usable (nav (now (words .entry)) (now (times .entry))) prn t ⌝ }
 {
-    if !came_before(times, prn, t, 1) {
-        return false;
-    }
-    if !came_before(times, prn, t, 2) {
-        return false;
-    }
-    if !came_before(times, prn, t, 3) {
-        return false;
-    }
-    if !came_before(times, prn, t, 4) {
-        return false;
-    }
-    if !came_before(times, prn, t, 5) {
-        return false;
-    }
-    one_issue(words, prn)
+    let one = came_before(times, prn, t, 1);
+    let two = came_before(times, prn, t, 2);
+    let three = came_before(times, prn, t, 3);
+    let four = came_before(times, prn, t, 4);
+    let five = came_before(times, prn, t, 5);
+    both(
+        one,
+        both(
+            two,
+            both(three, both(four, both(five, one_issue(words, prn)))),
+        ),
+    )
 }
 
 // ---- a set's bytes
