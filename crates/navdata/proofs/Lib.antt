@@ -1,0 +1,2 @@
+-- Laws of words and sets that other crates cite.
+pub mod Sets

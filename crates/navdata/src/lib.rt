@@ -1,0 +1,199 @@
+// I/NAV words and navigation sets (01, "A word is 16 bytes, type in bits 0 to 5 ..").
+// `words` holds words 1 to 5 of 36 satellites, 16 bytes each; `times` holds the stamp of each word's sub-frame, its time plus 1, or 0
+// where no word is held.
+ghost use mathlib.Core.Path.{_≡_};
+ghost use mathlib.Core.Bool.{_&&_};
+ghost use mathlib.Core.List.{List, [], _∷_};
+ghost use Prim.Native.Nat.{ℕ, _+_, _-_, _*_, _≤_, _<_};
+ghost use lib.ListN.{length};
+ghost use Rattle.laws.specs.Lists.{splice};
+ghost use Rattle.rules.specs.Tags.{statusAndSet};
+ghost use Rattle.rules.specs.Words.{wordType, svidOf, wordIssue, wordPlace, wordAt, wordStored, setOf, setIssue, wordCame, cameBefore, oneIssue};
+ghost use Rattle.rules.specs.Words as rules;
+ghost use Rattle.navdata.specs.Pieces.{nav, seamOf, frontOf, backOf};
+
+// ---- words
+
+// A word's type.
+pub fn word_type(w: &[u8]) -> usize
+    requires { ⌜ length (now w) ≡ 16 ⌝ }
+    ensures { λ r. ⌜ r ≡ wordType (now (w .entry)) ⌝ }
+{
+    bitfields::bits_at(w, 0, 6) as usize
+}
+
+// The SVID of a word 4.
+pub fn svid(w: &[u8]) -> usize
+    requires { ⌜ length (now w) ≡ 16 ⌝ }
+    ensures { λ r. ⌜ r ≡ svidOf (now (w .entry)) ⌝ }
+{
+    bitfields::bits_at(w, 16, 6) as usize
+}
+
+// The place of a satellite's word of a type.
+fn word_place(prn: usize, kind: usize) -> usize
+    requires { ⌜ ((1 ≤ prn) × (prn ≤ 36)) × ((1 ≤ kind) × (kind ≤ 5)) ⌝ }
+    ensures { λ r. ⌜ (r ≡ wordPlace prn kind) × (r < 180) ⌝ }
+{
+    (prn - 1) * 5 + (kind - 1)
+}
+
+// A word takes its place, with the stamp of its sub-frame.
+pub fn store_word(
+    words: &mut [u8],
+    times: &mut [u32],
+    prn: usize,
+    kind: usize,
+    w: &[u8],
+    stamp: u32,
+)
+    requires { ⌜ ((length (now words) ≡ 2880) × (length (now times) ≡ 180)) × (length (now w) ≡ 16) ⌝ }
+    requires { ⌜ ((1 ≤ prn) × (prn ≤ 36)) × ((1 ≤ kind) × (kind ≤ 5)) ⌝ }
+    ensures { λ _. ⌜ nav (now (words .exit)) (now (times .exit)) ≡ wordStored (nav (now (words .entry)) (now (times .entry))) prn kind (now (w .entry)) stamp ⌝ }
+{
+    let place = word_place(prn, kind);
+    buffer::copy_at(words, place * 16, w);
+    times[place] = stamp;
+}
+
+// ---- sets that can be used
+
+// Bits 6 to 15 of a satellite's word: its IODnav in words 1 to 4.
+pub fn word_issue(words: &[u8], prn: usize, kind: usize) -> u64
+    requires { ⌜ length (now words) ≡ 2880 ⌝ }
+    requires { ⌜ ((1 ≤ prn) × (prn ≤ 36)) × ((1 ≤ kind) × (kind ≤ 5)) ⌝ }
+    ensures { λ r. ⌜ r ≡ wordIssue (wordAt (now (words .entry)) prn kind) ⌝ }
+{
+    bitfields::bits_at(words, (prn - 1) * 640 + ((kind - 1) * 128 + 6), 10)
+}
+
+// Both tests hold.
+fn both(a: bool, b: bool) -> bool
+    ensures { λ r. ⌜ r ≡ (a && b) ⌝ }
+{
+    if a { b } else { false }
+}
+
+// Words 1 to 4 have one IODnav.
+pub fn one_issue(words: &[u8], prn: usize) -> bool
+    requires { ⌜ (length (now words) ≡ 2880) × ((1 ≤ prn) × (prn ≤ 36)) ⌝ }
+    ensures { λ r. ⌜ ((times : List ℕ) → r ≡ oneIssue (wordCame (nav (now (words .entry)) times) prn 1) (wordCame (nav (now (words .entry)) times) prn 2) (wordCame (nav (now (words .entry)) times) prn 3) (wordCame (nav (now (words .entry)) times) prn 4)) ⌝ }
+{
+    let issue = word_issue(words, prn, 1);
+    let two = word_issue(words, prn, 2) == issue;
+    let three = word_issue(words, prn, 3) == issue;
+    let four = word_issue(words, prn, 4) == issue;
+    both(two, both(three, four))
+}
+
+// A word of the type is held, and came in an earlier sub-frame than t.
+pub fn came_before(times: &[u32], prn: usize, t: u32, kind: usize) -> bool
+    requires { ⌜ (length (now times) ≡ 180) × (((1 ≤ prn) × (prn ≤ 36)) × ((1 ≤ kind) × (kind ≤ 5))) ⌝ }
+    ensures { λ r. ⌜ ((words : List ℕ) → r ≡ cameBefore t (wordCame (nav words (now (times .entry))) prn kind)) ⌝ }
+{
+    let place = word_place(prn, kind);
+    let stamp = times[place];
+    both(1 <= stamp, stamp <= t)
+}
+
+// A satellite's set can be used for a section of sub-frame t.
+pub fn usable(words: &[u8], times: &[u32], prn: usize, t: u32) -> bool
+    requires { ⌜ ((length (now words) ≡ 2880) × (length (now times) ≡ 180)) × ((1 ≤ prn) × (prn ≤ 36)) ⌝ }
+    ensures { λ r. ⌜ r ≡ rules.usable (nav (now (words .entry)) (now (times .entry))) prn t ⌝ }
+{
+    let one = came_before(times, prn, t, 1);
+    let two = came_before(times, prn, t, 2);
+    let three = came_before(times, prn, t, 3);
+    let four = came_before(times, prn, t, 4);
+    let five = came_before(times, prn, t, 5);
+    both(
+        one,
+        both(
+            two,
+            both(three, both(four, both(five, one_issue(words, prn)))),
+        ),
+    )
+}
+
+// ---- a set's bytes
+
+// The IODnav of a set.
+pub fn set_issue(set: &[u8]) -> u16
+    requires { ⌜ length (now set) ≡ 69 ⌝ }
+    ensures { λ r. ⌜ r ≡ setIssue (now (set .entry)) ⌝ }
+{
+    bitfields::bits_at(set, 0, 10) as u16
+}
+
+// A byte of two bits of one word and six of the next.
+fn seam(words: &[u8], one: usize, next: usize) -> u8
+    requires { ⌜ (length (now words) ≡ 2880) × ((one + 2 ≤ 23040) × (next + 6 ≤ 23040)) ⌝ }
+    ensures { λ r. ⌜ r ≡ seamOf (now (words .entry)) one next ⌝ }
+{
+    bitfields::field_at(words, one, 2) * 64 + bitfields::field_at(words, next, 6)
+}
+
+// A byte at a place.
+fn put(out: &mut [u8], at: usize, x: u8)
+    requires { ⌜ at < length (now out) ⌝ }
+    ensures { λ _. ⌜ now (out .exit) ≡ splice (now (out .entry)) at (x ∷ []) ⌝ }
+{
+    out[at] = x;
+}
+
+// The first 45 bytes of the set whose word 1 starts at bit b.
+fn put_front(words: &[u8], b: usize, out: &mut [u8], to: usize)
+    requires { ⌜ ((length (now words) ≡ 2880) × (b + 640 ≤ 23040)) × (to + 45 ≤ length (now out)) ⌝ }
+    ensures { λ _. ⌜ now (out .exit) ≡ splice (now (out .entry)) to (frontOf (now (words .entry)) b) ⌝ }
+{
+    bitfields::bytes_to(words, b + 6, 15, out, to);
+    bitfields::bytes_to(words, b + 134, 15, out, to + 15);
+    bitfields::bytes_to(words, b + 262, 15, out, to + 30);
+}
+
+// Its last 24 bytes.
+fn put_back(words: &[u8], b: usize, out: &mut [u8], to: usize)
+    requires { ⌜ ((length (now words) ≡ 2880) × (b + 640 ≤ 23040)) × (to + 24 ≤ length (now out)) ⌝ }
+    ensures { λ _. ⌜ now (out .exit) ≡ splice (now (out .entry)) to (backOf (now (words .entry)) b) ⌝ }
+{
+    let one = seam(words, b + 382, b + 390);
+    let next = seam(words, b + 508, b + 518);
+    let last = bitfields::field_at(words, b + 580, 5) * 8;
+    put(out, to, one);
+    bitfields::bytes_to(words, b + 396, 14, out, to + 1);
+    put(out, to + 15, next);
+    bitfields::bytes_to(words, b + 524, 7, out, to + 16);
+    put(out, to + 23, last);
+}
+
+// The set of a satellite's held words into `out` from place `to`.
+pub fn set_bytes(words: &[u8], prn: usize, out: &mut [u8], to: usize)
+    requires { ⌜ ((length (now words) ≡ 2880) × ((1 ≤ prn) × (prn ≤ 36))) × (to + 69 ≤ length (now out)) ⌝ }
+    ensures { λ _. ⌜ now (out .exit) ≡ splice (now (out .entry)) to (setOf (now (words .entry)) prn) ⌝ }
+{
+    let b = (prn - 1) * 640;
+    put_front(words, b, out, to);
+    put_back(words, b, out, to + 45);
+}
+
+// The set of a satellite's held words.
+pub fn set_of(words: &[u8], prn: usize) -> [u8; 69]
+    requires { ⌜ (length (now words) ≡ 2880) × ((1 ≤ prn) × (prn ≤ 36)) ⌝ }
+    ensures { λ r. ⌜ r ≡ setOf (now (words .entry)) prn ⌝ }
+{
+    let mut set = [0u8; 69];
+    set_bytes(words, prn, &mut set, 0);
+    set
+}
+
+// The NMA status and a set's 549 bits, and a zero bit, into `out` from place `to`.
+pub fn status_and_set(status: u8, set: &[u8], out: &mut [u8], to: usize)
+    requires { ⌜ (length (now set) ≡ 69) × (to + 69 ≤ length (now out)) ⌝ }
+    ensures { λ _. ⌜ now (out .exit) ≡ splice (now (out .entry)) to (statusAndSet status (now (set .entry))) ⌝ }
+{
+    let first = (status % 4) * 64 + bitfields::field_at(set, 0, 6);
+    let last = bitfields::field_at(set, 542, 7) * 2;
+    put(out, to, first);
+    bitfields::bytes_to(set, 6, 67, out, to + 1);
+    put(out, to + 68, last);
+}
