@@ -46,7 +46,7 @@ impl Marks {
 
     /// The list for a section.
     fn at(&self, time: Gst) -> &[u8; MARKS] {
-        if time.second_of_week() % 60 == 0 {
+        if time.second_of_week().is_multiple_of(60) {
             &self.second_0
         } else {
             &self.second_30
@@ -252,24 +252,14 @@ impl ProvedSection<'_> {
         waiting: &mut Vec<WaitingTag>,
         authentic: &mut AuthenticSets,
     ) -> Vec<Record> {
-        let (due, later) = std::mem::take(waiting)
+        let (due, later): (Vec<_>, Vec<_>) = std::mem::take(waiting)
             .into_iter()
             .partition(|tag| tag.is_due(chain));
         *waiting = later;
-        let due: Vec<WaitingTag> = due;
-        let own: Vec<Tag> = self
-            .section
-            .fields
-            .iter()
-            .map(|field| self.tag(field))
-            .collect();
 
         let now = self.time.seconds();
-        let block_slots = self
-            .section
-            .fields
-            .iter()
-            .map(|f| chain.slots.of_tags(now, f.block));
+        let fields = &self.section.fields;
+        let block_slots = fields.iter().map(|f| chain.slots.of_tags(now, f.block));
         let due_slots = due.iter().map(|waiting| waiting.tag.key_slot(&chain.slots));
         let keys = tag_keys(chain, block_slots.chain(due_slots).collect());
         let key_of = |tag: &Tag| &keys[&tag.key_slot(&chain.slots)];
@@ -284,11 +274,11 @@ impl ProvedSection<'_> {
         }
         let marks = marks.at(self.time);
         let macseq_holds = self.macseq_holds(marks, &keys[&chain.slots.of_tags(now, 1)]);
-        for (tag, mark) in own.into_iter().zip(marks) {
-            let usable = || words.of(tag.prn).usable(self.time);
+        for (field, mark) in fields.iter().zip(marks) {
+            let tag = self.tag(field);
             let (outcome, set) = match early_outcome(&tag, *mark, macseq_holds) {
                 Some(outcome) => (outcome, None),
-                None => match usable() {
+                None => match words.of(tag.prn).usable(self.time) {
                     None => (Outcome::NoUsableSet, None),
                     Some(set) if delay(tag.adkd) == Some(0) => {
                         (tag.judge(&set, key_of(&tag), self.tag_bits), Some(set))
@@ -316,7 +306,8 @@ impl ProvedSection<'_> {
 /// and MACSEQ fails.
 fn early_outcome(tag: &Tag, mark: u8, macseq_holds: bool) -> Option<Outcome> {
     let flexible = mark == FLEXIBLE;
-    if delay(tag.adkd).is_none() || !flexible && tag.adkd != mark || !is_prn(tag.prn) {
+    let not_the_fixed_one = !flexible && tag.adkd != mark;
+    if delay(tag.adkd).is_none() || not_the_fixed_one || !is_prn(tag.prn) {
         Some(Outcome::NotTaken)
     } else if flexible && !macseq_holds {
         Some(Outcome::MacseqFails)

@@ -31,7 +31,7 @@ impl Gst {
 
     /// A multiple of 30 up to 604770, in any week (A2, A3).
     pub fn is_valid(self) -> bool {
-        self.second_of_week() <= LAST_SECOND && self.second_of_week() % 30 == 0
+        self.second_of_week() <= LAST_SECOND && self.second_of_week().is_multiple_of(30)
     }
 
     /// Seconds since week 0; weeks do not roll over.

@@ -1012,26 +1012,23 @@ fn number_13_gap() {
         chain.keys[1_000_001]
     );
     assert_eq!(far(&near, 1_000_001).0, 13, "slot 1,000,002 from slot 1");
-    // A slot past 32 bits is far, too.
+    // A slot past 32 bits is far, too, where its low 32 bits are near.
+    let chain = TestChain {
+        week: 1,
+        hour: 1,
+        ..TestChain::with(36, 3, (0, 96), (0, 10))
+    }
+    .keyed(1);
     let mut bench = Bench::in_force(
         &Start {
             ns: 36,
             ..Start::default()
         },
-        &TestChain {
-            week: 1,
-            hour: 1,
-            ..TestChain::with(36, 3, (0, 96), (0, 10))
-        }
-        .keyed(1),
+        &chain,
     );
-    for week in 1990..1996 {
-        assert_eq!(
-            bench.section(1, gst(week, 0), HEADER, &[0; 60]).0,
-            13,
-            "week {week}"
-        );
-    }
+    let subframe = 39_768_216;
+    assert_eq!((subframe * 108 + 1) as u32, 33);
+    assert_eq!(bench.section(1, chain.at(subframe), HEADER, &[0; 60]).0, 13);
 }
 
 // Per block first 13, then 12; the gap is counted from the key held when the section came.

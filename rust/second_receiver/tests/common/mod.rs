@@ -8,7 +8,7 @@ use second_receiver::receiver::RECORDS_LEN;
 use second_receiver::Receiver;
 
 pub fn hex(text: &str) -> Vec<u8> {
-    assert!(text.len() % 2 == 0, "{} digits", text.len());
+    assert!(text.len().is_multiple_of(2), "{} digits", text.len());
     let digit = |at| u8::from_str_radix(&text[at..at + 2], 16).unwrap();
     (0..text.len()).step_by(2).map(digit).collect()
 }
@@ -346,7 +346,7 @@ impl Start {
 }
 
 /// Operational, CID 1, CPKS nominal: the header of most sub-frames here.
-pub const HEADER: u8 = 0b10_01_001_0;
+pub const HEADER: u8 = 0b1001_0010;
 
 /// A receiver with its lent record area.
 #[derive(Clone)]
@@ -444,7 +444,7 @@ impl Bench {
         let time = chain.at(subframe as i64);
         // The usual marks: all flexible at second 30, none at second 0.
         let count = chain.block_fields() * usize::from(chain.nmack);
-        let flexible: Vec<usize> = if time % 60 == 0 {
+        let flexible: Vec<usize> = if (time & 0xF_FFFF).is_multiple_of(60) {
             vec![]
         } else {
             (1..count).collect()
