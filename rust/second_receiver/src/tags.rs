@@ -1,4 +1,5 @@
-//! MACSEQ, the outcomes of tags, waiting tags, authentic sets and tag records (000, 5.5 and 5.6; 01, MACK).
+//! MACSEQ, the outcomes of tags, waiting tags, authentic sets and tag records (000, 5.5 and 5.6;
+//! 01, MACK).
 
 use crate::bits::{take, BitString};
 use crate::chain::Chain;
@@ -92,7 +93,7 @@ impl Tag {
     }
 
     /// The slot of this tag's key: the lowest of its block, in the sub-frame of its key (A59).
-    fn key_slot(&self, slots: &Slots) -> u64 {
+    pub fn key_slot(&self, slots: &Slots) -> u64 {
         slots.of_tags(self.key_seconds(), self.block)
     }
 
@@ -111,7 +112,7 @@ impl Tag {
     }
 
     /// Whether the tag is the first MS bits of the MAC.
-    fn matches(&self, set: &NavSet, key: &HmacKey, tag_bits: usize) -> bool {
+    pub fn matches(&self, set: &NavSet, key: &HmacKey, tag_bits: usize) -> bool {
         self.bits == take(&key.mac(&self.message(set)), 0, tag_bits)
     }
 
@@ -229,9 +230,9 @@ impl ProvedSection<'_> {
         tag
     }
 
-    /// MACSEQ is the first 12 bits of the MAC of sender, GST_SF and the MAC-Info of all flexible fields (000, 5.6),
-    /// those of outcome 4 too (A62), under the key of block 1's tags.
-    fn macseq_holds(&self, marks: &[u8; MARKS], key: &HmacKey) -> bool {
+    /// The message of MACSEQ: sender, GST_SF and the MAC-Info of all flexible fields (000, 5.6),
+    /// those of outcome 4 too (A62).
+    pub fn macseq_message(&self, marks: &[u8; MARKS]) -> Vec<u8> {
         let mut message = vec![self.sender];
         message.extend_from_slice(&self.time.0.to_be_bytes());
         for (field, mark) in self.section.fields.iter().zip(marks) {
@@ -239,11 +240,17 @@ impl ProvedSection<'_> {
                 message.extend_from_slice(&field.info.to_be_bytes());
             }
         }
-        let macseq = u64::from(self.section.fields[0].info >> 4);
-        macseq == take(&key.mac(&message), 0, MACSEQ_BITS)
+        message
     }
 
-    /// Judges the waiting tags that are due, in the order in which they came, then the section's own in theirs.
+    /// MACSEQ is the first 12 bits of its message's MAC under the key of block 1's tags.
+    fn macseq_holds(&self, marks: &[u8; MARKS], key: &HmacKey) -> bool {
+        let macseq = u64::from(self.section.fields[0].info >> 4);
+        macseq == take(&key.mac(&self.macseq_message(marks)), 0, MACSEQ_BITS)
+    }
+
+    /// Judges the waiting tags that are due, in the order in which they came, then the section's
+    /// own in theirs.
     pub fn judge(
         &self,
         chain: &Chain,
@@ -302,9 +309,9 @@ impl ProvedSection<'_> {
     }
 }
 
-/// Outcomes 4 and 6, which need no set: ADKD not 0, 11, 12, or not the fixed one, or PRN not 1 to 36; then flexible
-/// and MACSEQ fails.
-fn early_outcome(tag: &Tag, mark: u8, macseq_holds: bool) -> Option<Outcome> {
+/// Outcomes 4 and 6, which need no set: ADKD not 0, 11, 12, or not the fixed one, or PRN not 1 to
+/// 36; then flexible and MACSEQ fails.
+pub fn early_outcome(tag: &Tag, mark: u8, macseq_holds: bool) -> Option<Outcome> {
     let flexible = mark == FLEXIBLE;
     let not_the_fixed_one = !flexible && tag.adkd != mark;
     if delay(tag.adkd).is_none() || not_the_fixed_one || !is_prn(tag.prn) {

@@ -76,7 +76,8 @@ impl Slots {
         u64::from(self.ns) * u64::from(self.nmack)
     }
 
-    /// The lowest slot of block `block` (from 1) of the sub-frame at `seconds`: the key of that block's tags.
+    /// The lowest slot of block `block` (from 1) of the sub-frame at `seconds`: the key of that
+    /// block's tags.
     pub fn of_tags(&self, seconds: u64, block: u8) -> u64 {
         let subframe = (seconds - self.start) / SUBFRAME_SECONDS;
         subframe * self.a_subframe() + u64::from(block - 1) * u64::from(self.ns) + 1

@@ -221,7 +221,8 @@ fn random_bytes() {
     assert!(last.starts_with("100000 "), "{last}");
 }
 
-// The recorded cases with bytes changed and records dropped, doubled and swapped: no panic, and the reads hold.
+// The recorded cases with bytes changed and records dropped, doubled and swapped: no panic, and the
+// reads hold.
 #[test]
 fn damaged_cases() {
     let directory = Path::new(env!("CARGO_MANIFEST_DIR")).join("tests/cases");
