@@ -517,6 +517,9 @@ fn annex_start() -> Start {
 // A.1.5 through the receiver: E18's section at 947/432030, keys of slots 90 and 126, tag key 73.
 #[test]
 fn a_1_5_through_the_receiver() {
+    let chain = chain();
+    let key_126 = chain.hash_down(&TeslaKey::new(&hex(SEED)), 414_721, 126);
+    let key_90 = chain.hash_down(&key_126, 126, 90);
     let run = |change: fn(&mut String)| {
         let mut bench = Bench::started(&annex_start());
         assert_eq!(
@@ -526,8 +529,6 @@ fn a_1_5_through_the_receiver() {
         let waiting = bench.receiver.waiting_message().unwrap().clone();
         assert_eq!(bench.good(0, &waiting.message, &waiting.signature), 0);
         bench.words(18, gst(947, 432_000), &words_of_e18());
-        let chain = chain();
-        let seed = TeslaKey::new(&hex(SEED));
         let mut bits = "111001011000110000100100".to_string() + "0000";
         bits += "000000000000"; // The second tag's bits are not given.
         bits += "1111111101000000";
@@ -535,9 +536,9 @@ fn a_1_5_through_the_receiver() {
         bits += "0001001010110000";
         bits += &"0".repeat(28);
         change(&mut bits);
-        bits += &binary(chain.hash_down(&seed, 414_721, 90).as_slice());
+        bits += &binary(key_90.as_slice());
         bits += &"0".repeat(112);
-        bits += &binary(chain.hash_down(&seed, 414_721, 126).as_slice());
+        bits += &binary(key_126.as_slice());
         let (number, records) = bench.section(18, gst(947, 432_030), HEADER_A, &packed(&bits));
         assert_eq!(number, 0);
         (bench, records)
