@@ -204,11 +204,16 @@ fn outcome_3() {
         bench.receiver.word(2, chain.at(4), &two[missing]);
         assert_eq!(outcome(&bench), 3, "word {} again", missing + 1);
     }
+    // Each bit of the IODnav of each of words 1 to 4.
     for other in 0..4 {
-        let mut bench = bench.clone();
-        bench.words(2, chain.at(2), &two);
-        bench.receiver.word(2, chain.at(3), &words(2, 10, 0)[other]);
-        assert_eq!(outcome(&bench), 3, "another IODnav in word {}", other + 1);
+        for bit in 0..10 {
+            let mut bench = bench.clone();
+            bench.words(2, chain.at(2), &two);
+            bench
+                .receiver
+                .word(2, chain.at(3), &words(2, 9 ^ 1 << bit, 0)[other]);
+            assert_eq!(outcome(&bench), 3, "IODnav bit {bit} in word {}", other + 1);
+        }
     }
     // Word 5 is not tied to an issue; words of years ago are usable.
     let mut bench = bench;
