@@ -1,0 +1,118 @@
+//! Whole runs: realistic, adversarial and random ones.
+//!
+//! Every scenario is built from a seed, which gives its keys, α, navigation bits and signatures; the same seed gives
+//! the same bytes. What a run intends stands in [`Run::expects`].
+
+mod bench;
+mod realistic;
+
+use crate::replay::Run;
+
+/// A named scenario.
+#[derive(Clone, Copy)]
+pub struct Scenario {
+    pub name: &'static str,
+    /// One line.
+    pub about: &'static str,
+    build: fn(&str, &str, u64) -> Run,
+}
+
+impl Scenario {
+    pub fn run(&self, seed: u64) -> Run {
+        (self.build)(self.name, self.about, seed)
+    }
+}
+
+/// The seed of a run when none is asked for. What the runs intend is checked with it; with another seed a wrong tag
+/// of few bits can match by chance.
+pub const SEED: u64 = 1;
+
+/// All named scenarios.
+pub fn all() -> &'static [Scenario] {
+    ALL
+}
+
+/// The scenario of this name.
+pub fn find(name: &str) -> Option<&'static Scenario> {
+    ALL.iter().find(|s| s.name == name)
+}
+
+const fn scenario(
+    name: &'static str,
+    about: &'static str,
+    build: fn(&str, &str, u64) -> Run,
+) -> Scenario {
+    Scenario { name, about, build }
+}
+
+const ALL: &[Scenario] = &[
+    scenario(
+        "nominal",
+        "eight satellites, twelve minutes, one data change",
+        realistic::nominal,
+    ),
+    scenario(
+        "floating_root",
+        "a later root of the same chain; slow tags that stay and that go",
+        realistic::floating_root,
+    ),
+    scenario(
+        "chain_renewal",
+        "a new chain at its hour, announced before",
+        realistic::chain_renewal,
+    ),
+    scenario(
+        "chain_revoked",
+        "status 3 drops the chain; only a later root counts",
+        realistic::chain_revoked,
+    ),
+    scenario(
+        "new_public_key",
+        "a public key by DSM-PKR, a root under it, lower keys dropped",
+        realistic::new_public_key,
+    ),
+    scenario(
+        "emergency",
+        "an emergency message stops the receiver until a new start",
+        realistic::emergency,
+    ),
+    scenario(
+        "data_change",
+        "a repeater's words replace a set while its slow tag waits",
+        realistic::data_change,
+    ),
+    scenario(
+        "newer_set_stays",
+        "an old slow tag does not replace a newer authentic set",
+        realistic::newer_set_stays,
+    ),
+    scenario(
+        "week_change",
+        "sections and slow tags across the end of a week",
+        realistic::week_change,
+    ),
+    scenario(
+        "last_week",
+        "the last half minutes of week 4095",
+        realistic::last_week,
+    ),
+    scenario(
+        "fitter",
+        "half an hour, 12 satellites, a repeater's words in the middle",
+        realistic::fitter,
+    ),
+    scenario(
+        "full_sky",
+        "half an hour of 36 satellites",
+        realistic::full_sky,
+    ),
+    scenario(
+        "places_full",
+        "256 slow tags waiting, and 270 records from one section",
+        realistic::places_full,
+    ),
+];
+
+pub fn random(seed: u64) -> Run {
+    ALL[0].run(seed)
+}
