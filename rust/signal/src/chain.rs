@@ -162,9 +162,14 @@ impl Chain {
 
     /// The lowest slot of a block: that of its tags' key.
     pub fn lowest_slot(&self, gst: Gst, block: u8) -> u64 {
+        self.tag_slot(gst, 0, block)
+    }
+
+    /// The slot of the key for tags that come at `gst` and wait for `delay` sub-frames.
+    pub fn tag_slot(&self, gst: Gst, delay: u64, block: u8) -> u64 {
         let s = self.subframe(gst);
         assert!(s >= 0, "before sub-frame 0");
-        s as u64 * self.slots() + u64::from(block - 1) * u64::from(self.ns) + 1
+        (s as u64 + delay) * self.slots() + u64::from(block - 1) * u64::from(self.ns) + 1
     }
 
     /// The same chain seen from a root `hours` later: a floating root (000, 6.3).

@@ -116,7 +116,7 @@ impl Layout {
 }
 
 /// Sub-frames from a tag's arrival to that of its key; none for an ADKD that is no tag over words 1 to 5.
-pub fn delay(adkd: u8) -> Option<i64> {
+pub fn delay(adkd: u8) -> Option<u64> {
     match adkd {
         0 => Some(0),
         11 => Some(1),
@@ -187,7 +187,7 @@ impl Sending<'_> {
                 (info.prn, info.adkd)
             };
             if let (Some(delay), Some(set)) = (delay(adkd), set(prn)) {
-                let slot = self.chain.lowest_slot(self.gst.plus(delay), block);
+                let slot = self.chain.tag_slot(self.gst, delay, block);
                 if slot <= self.chain.top() {
                     let named = (field > 0).then_some(prn);
                     let message = tag_message(named, self.sender, self.gst, ctr, self.status, &set);

@@ -5,6 +5,7 @@
 
 mod bench;
 mod realistic;
+mod refusals;
 
 use crate::replay::Run;
 
@@ -77,6 +78,11 @@ const ALL: &[Scenario] = &[
         realistic::emergency,
     ),
     scenario(
+        "stopped",
+        "reads after an emergency message still give the authentic sets",
+        realistic::stopped,
+    ),
+    scenario(
         "data_change",
         "a repeater's words replace a set while its slow tag waits",
         realistic::data_change,
@@ -110,6 +116,61 @@ const ALL: &[Scenario] = &[
         "places_full",
         "256 slow tags waiting, and 270 records from one section",
         realistic::places_full,
+    ),
+    scenario(
+        "words",
+        "words refused for every reason, alone and in pairs; other types",
+        refusals::words,
+    ),
+    scenario(
+        "subframes",
+        "sub-frames refused for every reason, alone and in pairs",
+        refusals::subframes,
+    ),
+    scenario(
+        "sections",
+        "MACK sections refused for every reason, alone and in pairs, block by block",
+        refusals::sections,
+    ),
+    scenario(
+        "root_messages",
+        "DSM-KROOT refused for every reason, alone and in pairs",
+        refusals::root_messages,
+    ),
+    scenario(
+        "root_sizes",
+        "DSM-KROOT of every key type and KS: the least number of blocks",
+        refusals::root_sizes,
+    ),
+    scenario(
+        "key_messages",
+        "DSM-PKR refused for every reason, alone and in pairs",
+        refusals::key_messages,
+    ),
+    scenario(
+        "emergencies",
+        "emergency messages of 11 to 16 blocks",
+        refusals::emergencies,
+    ),
+    scenario(
+        "verdicts",
+        "verdicts refused for every reason, alone and in pairs",
+        refusals::verdicts,
+    ),
+    scenario(
+        "starts",
+        "starts refused for every reason; calls before a start",
+        refusals::starts,
+    ),
+    scenario(
+        "records",
+        "records of every other kind, and bytes that are not read",
+        refusals::records,
+    ),
+    scenario(
+        "short_record",
+        "a last record of 255 bytes",
+        refusals::short_record,
     ),
 ];
 

@@ -11,8 +11,16 @@ use std::rc::Rc;
 
 /// Half a minute of all satellites seen: their fields, then their words.
 fn half_minute(b: &mut Bench) {
+    half_minute_with_change(b, &[]);
+}
+
+/// The same; these satellites have new data from this half minute's words on.
+fn half_minute_with_change(b: &mut Bench, changed: &[u8]) {
     for prn in b.seen.clone() {
         b.send(prn);
+    }
+    for &prn in changed {
+        b.change(prn);
     }
     b.all_words();
     b.step();
@@ -35,15 +43,10 @@ pub fn nominal(name: &str, about: &str, seed: u64) -> Run {
     b.seen = vec![1, 4, 9, 11, 18, 24, 30, 36];
     running(&mut b, 40);
     for n in 0..24 {
-        if n == 15 {
-            b.change(18);
-        }
-        half_minute(&mut b);
+        half_minute_with_change(&mut b, if n == 15 { &[18] } else { &[] });
     }
-    // Changed words came after the fields of their own half minute, so every tag finds the set that it covers, save
-    // those of the half minute in which the new words came.
     b.run.expects.some = vec![1, 5];
-    b.run.expects.never = vec![3, 4, 6, 7];
+    b.run.expects.never = vec![2, 3, 4, 6, 7];
     let last = b.now.plus(-1);
     for prn in b.seen.clone() {
         let read = b.set_read(prn, last);
@@ -85,7 +88,7 @@ pub fn floating_root(name: &str, about: &str, seed: u64) -> Run {
     b.verdict(&earlier.verdict, 9);
     half_minute(&mut b);
     b.run.expects.some = vec![1, 5];
-    b.run.expects.never = vec![2, 3, 4, 6, 7];
+    b.run.expects.never = vec![2, 4, 6, 7];
     b.run
 }
 
@@ -118,7 +121,7 @@ pub fn chain_renewal(name: &str, about: &str, seed: u64) -> Run {
         half_minute(&mut b);
     }
     b.run.expects.some = vec![1, 5];
-    b.run.expects.never = vec![2, 3, 4, 6, 7];
+    b.run.expects.never = vec![2, 4, 6, 7];
     b.run
 }
 
@@ -201,28 +204,29 @@ pub fn new_public_key(name: &str, about: &str, seed: u64) -> Run {
     b.run
 }
 
+/// A receiver that an emergency message stopped, with a root waiting: the verdict that would be good for it.
+fn stopped_bench(b: &mut Bench) -> Root {
+    b.seen = vec![1, 2];
+    let chain = running(b, 100);
+    half_minute(b);
+    half_minute(b);
+    let root = b.root(b.header, &chain);
+    b.deliver(b.header, 6, &root.dsm, 0);
+    b.stop();
+    root
+}
+
 pub fn emergency(name: &str, about: &str, seed: u64) -> Run {
     let mut b = Bench::new(name, about, seed);
-    b.seen = vec![1, 2];
-    running(&mut b, 100);
-    half_minute(&mut b);
-    half_minute(&mut b);
-    let last = b.now.plus(-1);
-    let root = {
-        let chain = b.force.clone().expect("adopted");
-        b.root(b.header, &chain)
-    };
-    b.deliver(b.header, 6, &root.dsm, 0);
-    let read = b.set_read(2, b.now.plus(-1));
-    b.stop();
-    // Stopped: words, sub-frames and verdicts are 4, and what waits stays. A refused start leaves it stopped.
+    let root = stopped_bench(&mut b);
+    // Stopped: words, sub-frames and verdicts are 4. A refused start leaves it stopped, a good one begins anew.
     let word = b.sets[0].words[0];
     b.run.push(replay::word(1, b.now, &word));
     b.run.gives(4, 0);
     let (hkroot, mack) = (b.idle(), b.section(1, b.now));
     b.subframe(1, b.now, &hkroot, &mack);
     b.run.gives(4, 4);
-    b.subframe(1, last, &hkroot, &mack);
+    b.subframe(1, b.now.plus(-5), &hkroot, &mack);
     b.run.gives(4, 4);
     b.verdict(&root.verdict, 4);
     let mut bad = b.start.clone();
@@ -230,13 +234,24 @@ pub fn emergency(name: &str, about: &str, seed: u64) -> Run {
     b.run.push(replay::start(&bad));
     b.run.gives(2, 0);
     b.verdict(&root.verdict, 4);
-    // The read of the last authentic set is that of the sub-frame before the stop's, whose tags were judged.
-    drop(read);
     b.start();
     b.verdict(&root.verdict, 14);
     b.reads(1, Read::None);
     b.reads(2, Read::None);
     b.send(1);
+    b.run
+}
+
+pub fn stopped(name: &str, about: &str, seed: u64) -> Run {
+    let mut b = Bench::new(name, about, seed);
+    stopped_bench(&mut b);
+    // The last tags that were judged came in the sub-frame of the emergency message, before its last block.
+    let last = b.now.plus(-1);
+    for prn in [1, 2] {
+        let read = b.set_read(prn, last);
+        b.reads(prn, read);
+    }
+    b.reads(3, Read::None);
     b.run
 }
 
@@ -362,11 +377,12 @@ pub fn last_week(name: &str, about: &str, seed: u64) -> Run {
     b.now = Gst::new(4095, 604_770).plus(-13);
     b.all_words();
     b.step();
-    for _ in 0..13 {
+    for _ in 0..12 {
         half_minute(&mut b);
     }
     // The last half minute of the last week; its slow tags never fall due. A second of 604800 is refused.
-    assert_eq!(b.now.plus(-1), Gst::new(4095, 604_770));
+    assert_eq!(b.now, Gst::new(4095, 604_770));
+    half_minute(&mut b);
     let (hkroot, mack) = (b.idle(), [0xC3; 60]);
     b.subframe(33, Gst::new(4095, 604_800), &hkroot, &mack);
     b.run.gives(2, 2);
@@ -380,11 +396,12 @@ struct HalfHour {
     root: Root,
     vouched: bool,
     turn: usize,
+    /// Blocks sent so far, a bit each.
+    sent: u16,
 }
 
 impl HalfHour {
     fn begin(b: &mut Bench) -> Self {
-        b.start.marks = [table_marks(), table_marks()];
         b.start();
         let params = b.params(0);
         let chain = b.chain(params, 90);
@@ -395,27 +412,28 @@ impl HalfHour {
             root,
             vouched: false,
             turn: 0,
+            sent: 0,
         }
     }
 
-    /// Fields, then words of each satellite; `word` gives the words that are heard. Blocks go out with an offset by
-    /// PRN (000, 6.13).
-    fn half_minute(&mut self, b: &mut Bench, heard: impl Fn(&Bench, u8) -> NavSet) {
+    /// Fields, then new data of the changed satellites, then the words that are heard of each. Blocks go out with an
+    /// offset by PRN (000, 6.13).
+    fn half_minute(&mut self, b: &mut Bench, changed: &[u8], heard: impl Fn(&Bench, u8) -> NavSet) {
         let count = dsm::blocks(&self.root.dsm);
         for prn in b.seen.clone() {
-            let hkroot = dsm::hkroot(
-                self.root.header,
-                5,
-                &self.root.dsm,
-                (self.turn + usize::from(prn) % 8) % count,
-            );
+            let block = (self.turn + usize::from(prn) % 8) % count;
+            self.sent |= 1 << block;
+            let hkroot = dsm::hkroot(self.root.header, 5, &self.root.dsm, block);
             let mack = b.section(prn, b.now);
             b.subframe(prn, b.now, &hkroot, &mack);
             b.run.gives(0, if self.vouched { 0 } else { 11 });
         }
-        if !self.vouched {
+        if !self.vouched && self.sent.count_ones() as usize == count {
             b.verdict(&self.root.verdict.clone(), 0);
             self.vouched = true;
+        }
+        for &prn in changed {
+            b.change(prn);
         }
         for prn in b.seen.clone() {
             for word in heard(b, prn).words {
@@ -444,10 +462,7 @@ pub fn fitter(name: &str, about: &str, seed: u64) -> Run {
         .collect();
     let mut signal = HalfHour::begin(&mut b);
     for n in 0..60 {
-        if n == 40 {
-            b.change(9);
-        }
-        signal.half_minute(&mut b, |b, prn| {
+        signal.half_minute(&mut b, if n == 40 { &[9] } else { &[] }, |b, prn| {
             let heard = if REPEATER.contains(&n) && REPEATED.contains(&prn) {
                 &old
             } else {
@@ -456,8 +471,8 @@ pub fn fitter(name: &str, about: &str, seed: u64) -> Run {
             heard[usize::from(prn) - 1]
         });
     }
-    b.run.expects.some = vec![1, 2, 3, 5];
-    b.run.expects.never = vec![4, 6, 7];
+    b.run.expects.some = vec![1, 2, 5];
+    b.run.expects.never = vec![3, 4, 6, 7];
     let last = b.now.plus(-1);
     for prn in b.seen.clone() {
         let read = b.set_read(prn, last);
@@ -470,16 +485,13 @@ pub fn full_sky(name: &str, about: &str, seed: u64) -> Run {
     let mut b = Bench::new(name, about, seed);
     b.seen = (1..=36).collect();
     let mut signal = HalfHour::begin(&mut b);
+    let all: Vec<u8> = (1..=36).collect();
     for n in 0..60 {
-        if n % 20 == 19 {
-            for prn in 1..=36 {
-                b.change(prn);
-            }
-        }
-        signal.half_minute(&mut b, |b, prn| b.sets[usize::from(prn) - 1]);
+        let changed = if n % 20 == 19 { &all[..] } else { &[] };
+        signal.half_minute(&mut b, changed, |b, prn| b.sets[usize::from(prn) - 1]);
     }
-    b.run.expects.some = vec![1, 3, 5, 7];
-    b.run.expects.never = vec![4, 6];
+    b.run.expects.some = vec![1, 5, 7];
+    b.run.expects.never = vec![2, 3, 4, 6];
     b.run
 }
 
