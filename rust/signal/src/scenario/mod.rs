@@ -4,8 +4,10 @@
 //! the same bytes. What a run intends stands in [`Run::expects`].
 
 mod bench;
+mod gathering;
 mod realistic;
 mod refusals;
+mod tags;
 
 use crate::replay::Run;
 
@@ -171,6 +173,66 @@ const ALL: &[Scenario] = &[
         "short_record",
         "a last record of 255 bytes",
         refusals::short_record,
+    ),
+    scenario(
+        "gathering_drops",
+        "blocks that go by age, header or other bytes",
+        gathering::drops,
+    ),
+    scenario(
+        "gathering_counts",
+        "reserved NB, block IDs too high, block 0 that comes late",
+        gathering::counts,
+    ),
+    scenario(
+        "gathering_ids",
+        "sixteen DSM IDs side by side, messages that replace each other",
+        gathering::identities,
+    ),
+    scenario(
+        "outcomes",
+        "every outcome of a tag, by fixed and flexible fields",
+        tags::outcomes,
+    ),
+    scenario(
+        "outcome_order",
+        "outcomes in pairs, so that their order shows",
+        tags::outcome_order,
+    ),
+    scenario(
+        "no_flexible",
+        "MACSEQ without a flexible field",
+        tags::no_flexible,
+    ),
+    scenario(
+        "flexible_blocks",
+        "flexible fields in every block",
+        tags::flexible_blocks,
+    ),
+    scenario(
+        "usable_sets",
+        "sets that are not whole, mixed, or came too late",
+        tags::usable_sets,
+    ),
+    scenario(
+        "word_bits",
+        "each bit of words 1 to 5 turned over",
+        tags::word_bits,
+    ),
+    scenario(
+        "field_bits",
+        "each bit of a sub-frame's field turned over",
+        tags::field_bits,
+    ),
+    scenario(
+        "waiting_sets",
+        "words that change while slow tags wait",
+        tags::waiting_sets,
+    ),
+    scenario(
+        "waiting_tags",
+        "slow tags over new roots, new chains, drops and refused sections",
+        tags::waiting_tags,
     ),
 ];
 
