@@ -18,15 +18,20 @@ struct Gathering {
 impl Gathering {
     fn new(name: &str, about: &str, seed: u64) -> Self {
         let mut b = Bench::new(name, about, seed);
+        // The root lies in the last hour, so that every section comes before its sub-frame 0.
         let params = b.params(0);
-        let chain = b.chain(params, 2);
+        let chain = b.chain_at(params, 4095, 167, 2);
         let root = b.root(b.header, &chain);
         Gathering { b, root }
     }
 
     /// A case: a good start, time begins anew.
     fn case(&mut self) {
-        self.b.now = Gst::new(947, 400_020);
+        self.case_at(Gst::new(947, 400_020));
+    }
+
+    fn case_at(&mut self, gst: Gst) {
+        self.b.now = gst;
         self.b.start();
     }
 
@@ -74,15 +79,23 @@ pub fn drops(name: &str, about: &str, seed: u64) -> Run {
     g.complete(false);
 
     // The oldest block is 3,600 s old: it stays. 30 s more: all go, and the block that came is stored.
-    for (late, waits) in [(120, true), (121, false)] {
-        g.case();
-        let begin = g.b.now;
-        g.blocks(0..=6);
-        g.b.now = begin.plus(late);
-        g.block(7);
-        g.complete(waits);
-        g.blocks(0..=6);
-        g.complete(!waits);
+    // The same across the end of a week and in the last week.
+    for (week, second) in [
+        (947, 400_020),
+        (947, 604_770),
+        (947, 603_000),
+        (4095, 590_010),
+    ] {
+        for (late, waits) in [(120, true), (121, false)] {
+            g.case_at(Gst::new(week, second));
+            let begin = g.b.now;
+            g.blocks(0..=6);
+            g.b.now = begin.plus(late);
+            g.block(7);
+            g.complete(waits);
+            g.blocks(0..=6);
+            g.complete(!waits);
+        }
     }
 
     // A block repeated with equal bytes keeps its first time, also where the repeat comes when it is too old.

@@ -5,6 +5,7 @@
 
 mod bench;
 mod gathering;
+mod parameters;
 mod realistic;
 mod refusals;
 mod tags;
@@ -233,6 +234,42 @@ const ALL: &[Scenario] = &[
         "waiting_tags",
         "slow tags over new roots, new chains, drops and refused sections",
         tags::waiting_tags,
+    ),
+    scenario(
+        "sizes_1",
+        "every KS and MS with one block",
+        parameters::sizes_1,
+    ),
+    scenario(
+        "sizes_2",
+        "every KS and MS with two blocks",
+        parameters::sizes_2,
+    ),
+    scenario(
+        "sizes_3",
+        "every KS and MS with three blocks",
+        parameters::sizes_3,
+    ),
+    scenario("every_ns", "every NS from 1 to 36", parameters::every_ns),
+    scenario(
+        "gaps",
+        "keys 1,000,000 and 1,000,001 slots past the one held",
+        parameters::gaps,
+    ),
+    scenario(
+        "gap_full",
+        "256 slow tags due at the end of a gap of 1,000,000",
+        parameters::gap_full,
+    ),
+    scenario(
+        "wide_slots",
+        "slots and seconds past 32 bits",
+        parameters::wide_slots,
+    ),
+    scenario(
+        "message_bits",
+        "bits of verdicts, DSM-KROOT and DSM-PKR turned over",
+        parameters::message_bits,
     ),
 ];
 

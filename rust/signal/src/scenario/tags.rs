@@ -152,18 +152,13 @@ pub fn outcome_order(name: &str, about: &str, seed: u64) -> Run {
             wrong(&mut b, &[bit], &[1, 4, 3, 1, 1, 5]);
         }
     }
-    // The PRN of a fixed field: a satellite without set, one with another set, one out of range.
-    for (bit, outcome) in layout.prn(4).zip([4, 4, 4, 3, 3, 3, 2, 2]) {
-        // PRN 3 with this bit turned: 131, 67, 35, 19, 11, 7, 1, 2; of these 131 and 67 are out of range.
-        let outcome = if bit == layout.prn(4).start + 2 {
-            3
-        } else {
-            outcome
-        };
+    // The PRN of a fixed field, 3 with one bit turned: 131 and 67 are out of range, 35 to 7 have no set, 1 and 2 have
+    // another. Its ADKD is then not the fixed one.
+    for (bit, outcome) in layout.prn(4).zip([4, 4, 3, 3, 3, 3, 2, 2]) {
         wrong(&mut b, &[bit], &[1, 4, 3, 1, outcome, 5]);
     }
-    for (bit, outcome) in layout.adkd(4).zip([4, 4, 4, 4]) {
-        wrong(&mut b, &[bit], &[1, 4, 3, 1, outcome, 5]);
+    for bit in layout.adkd(4) {
+        wrong(&mut b, &[bit], &[1, 4, 3, 1, 4, 5]);
     }
     // A slow tag that is wrong is judged so when its key comes.
     wrong(&mut b, &[tag(5)], &[1, 4, 3, 1, 1, 5]);
