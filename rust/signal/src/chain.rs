@@ -9,7 +9,7 @@ pub const KEY_BITS: [usize; 9] = [96, 104, 112, 120, 128, 160, 192, 224, 256];
 pub const TAG_BITS: [usize; 10] = [10, 12, 14, 16, 18, 20, 24, 28, 32, 40];
 
 /// Slots between two stored keys of a chain.
-const STRIDE: u64 = 256;
+const STRIDE: u64 = 32;
 
 /// What DSM-KROOT says of a chain (000, table 7), each field as its code. Any codes can be held, also ones that a
 /// receiver refuses.
@@ -60,7 +60,7 @@ impl Params {
 }
 
 /// A chain with the keys of slots 0 (its root) to its seed key's slot. Every `STRIDE`th key is stored and the others
-/// are computed from these, so that a chain of some millions of slots takes less than a megabyte.
+/// are computed from these, so that a chain of a million slots takes a megabyte at most.
 #[derive(Clone, Debug)]
 pub struct Chain {
     pub params: Params,
@@ -70,13 +70,16 @@ pub struct Chain {
     pub hour: u32,
     top: u64,
     seed: Vec<u8>,
-    stored: Vec<Vec<u8>>,
+    /// Keys of slots 0, `STRIDE`, 2 `STRIDE`, ..., one after the other.
+    stored: Vec<u8>,
 }
 
 impl Chain {
     /// The chain whose key of slot `top` is `seed`, cut to KS.
     pub fn new(params: Params, ns: u8, week: u32, hour: u32, top: u64, seed: &[u8]) -> Self {
-        let mut key = seed[..params.key_len()].to_vec();
+        let len = params.key_len();
+        let mut key = seed[..len].to_vec();
+        let stored = vec![0; top.div_ceil(STRIDE) as usize * len];
         let mut chain = Chain {
             params,
             ns,
@@ -84,15 +87,15 @@ impl Chain {
             hour,
             top,
             seed: key.clone(),
-            stored: Vec::new(),
+            stored,
         };
         for slot in (0..top).rev() {
-            key = chain.step(&key, slot);
+            chain.step(&mut key, slot);
             if slot % STRIDE == 0 {
-                chain.stored.push(key.clone());
+                let at = (slot / STRIDE) as usize * len;
+                chain.stored[at..at + len].copy_from_slice(&key);
             }
         }
-        chain.stored.reverse();
         chain
     }
 
@@ -119,12 +122,13 @@ impl Chain {
         }
     }
 
-    /// The key of `slot` from the key of the slot above it.
-    fn step(&self, above: &[u8], slot: u64) -> Vec<u8> {
-        let mut message = above.to_vec();
-        message.extend(self.time(slot).bytes());
-        message.extend(self.params.alpha);
-        sha256(&message)[..self.params.key_len()].to_vec()
+    /// From the key of the slot above to the key of `slot`.
+    fn step(&self, key: &mut [u8], slot: u64) {
+        let (len, mut message) = (key.len(), [0; 42]);
+        message[..len].copy_from_slice(key);
+        message[len..len + 4].copy_from_slice(&self.time(slot).bytes());
+        message[len + 4..len + 10].copy_from_slice(&self.params.alpha);
+        key.copy_from_slice(&sha256(&message[..len + 10])[..len]);
     }
 
     /// The key of a slot up to [`Chain::top`].
@@ -134,14 +138,15 @@ impl Chain {
             "no key of slot {slot}, the chain ends at {}",
             self.top
         );
-        let above = slot.div_ceil(STRIDE);
-        let (mut at, mut key) = match self.stored.get(above as usize) {
-            Some(k) => (above * STRIDE, k.clone()),
-            None => (self.top, self.seed.clone()),
+        let (above, len) = (slot.div_ceil(STRIDE), self.params.key_len());
+        let at = above as usize * len;
+        let (mut now, mut key) = match self.stored.get(at..at + len) {
+            Some(key) if above * STRIDE < self.top => (above * STRIDE, key.to_vec()),
+            _ => (self.top, self.seed.clone()),
         };
-        while at > slot {
-            at -= 1;
-            key = self.step(&key, at);
+        while now > slot {
+            now -= 1;
+            self.step(&mut key, now);
         }
         key
     }
@@ -254,8 +259,11 @@ mod tests {
         for ks in 0..9 {
             let chain = Chain::new(Params::new(0, 1, ks, 0, 0, [7; 6]), 3, 1, 1, 700, &[9; 32]);
             assert_eq!(chain.root().len() * 8, KEY_BITS[usize::from(ks)]);
-            assert_eq!(chain.step(&chain.key(300), 299), chain.key(299));
-            assert_eq!(chain.step(&chain.key(700), 699), chain.key(699));
+            for slot in [0, 1, 31, 32, 33, 299, 671, 672, 673, 699] {
+                let mut key = chain.key(slot + 1);
+                chain.step(&mut key, slot);
+                assert_eq!(key, chain.key(slot), "slot {slot}");
+            }
         }
     }
 }
