@@ -260,6 +260,11 @@ const ALL: &[Scenario] = &[
         parameters::gaps,
     ),
     scenario(
+        "held_key",
+        "from which key a gap is counted after equal contents and after a new root",
+        parameters::held_key,
+    ),
+    scenario(
         "gap_full",
         "256 slow tags due at the end of a gap of 1,000,000",
         parameters::gap_full,

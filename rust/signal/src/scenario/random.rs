@@ -22,6 +22,9 @@ const BEGINNINGS: [(u32, u32); 6] = [
     (4095, 166),
 ];
 
+/// Sub-frames for which a chain has keys.
+const SUBFRAMES: u64 = 330;
+
 struct Mix {
     b: Bench,
     /// One in so many calls is damaged; 0 for none.
@@ -96,14 +99,14 @@ impl Mix {
     }
 
     fn event(&mut self) {
-        // A chain has keys for 200 sub-frames, and the weeks end.
+        // A chain has keys for some sub-frames only, and the weeks end.
         let gone = self
             .b
             .force
             .as_ref()
             .is_some_and(|c| c.subframe(self.b.now) > 170);
         let ends = self.b.now.plus(400) < self.b.now;
-        if ends || (gone || self.stopped) && self.b.rng.once_in(2) {
+        if ends || gone || self.stopped && self.b.rng.once_in(2) {
             return self.restart();
         }
         match self.b.rng.below(24) {
@@ -153,7 +156,7 @@ impl Mix {
         self.b.start_with_leaf(self.leaf);
         let (week, hour) = *self.b.rng.pick(&BEGINNINGS);
         let params = self.params(0);
-        let chain = self.b.chain_at(params, week, hour, 200);
+        let chain = self.b.chain_at(params, week, hour, SUBFRAMES);
         self.b.now = chain.start().plus(90 + self.b.rng.below(30) as i64);
         self.b.header = dsm::header(OPERATIONAL, params.cid, NOMINAL);
         (self.last, self.stopped) = (None, false);
@@ -445,7 +448,7 @@ impl Mix {
         let start = Gst::from_seconds(hours * 3600);
         let chain = self
             .b
-            .chain_at(params, start.week(), start.second() / 3600, 200);
+            .chain_at(params, start.week(), start.second() / 3600, SUBFRAMES);
         let header = dsm::header(*self.b.rng.pick(&[1, 2, 2]), params.cid, NOMINAL);
         if self.b.rng.once_in(3) {
             // Announced under the present CID first.
