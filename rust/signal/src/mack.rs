@@ -5,7 +5,7 @@ use crate::chain::{Chain, Params};
 use crate::subframe::Mack;
 use crate::time::Gst;
 use crate::words::Authenticated;
-use portable_hash::hmac_sha256;
+use portable_hash::HmacKey;
 use std::ops::Range;
 
 /// One list of marks of a start: 0 to 15 a fixed ADKD, 255 flexible.
@@ -177,7 +177,13 @@ impl Sending<'_> {
     /// tag.
     pub fn section(&self, set: impl Fn(u8) -> Option<Authenticated>) -> Mack {
         let layout = Layout::new(&self.chain.params).expect("a block has room for a field");
-        let mut out = [0; 60];
+        let (mut out, mut keys) = (
+            [0; 60],
+            TagKeys {
+                chain: self.chain,
+                known: Vec::new(),
+            },
+        );
         for field in 0..layout.fields() {
             let info = self.infos.get(field).copied().unwrap_or(Info::new(0, 0, 0));
             let (block, ctr) = layout.position(field);
@@ -191,7 +197,7 @@ impl Sending<'_> {
                 if slot <= self.chain.top() {
                     let named = (field > 0).then_some(prn);
                     let message = tag_message(named, self.sender, self.gst, ctr, self.status, &set);
-                    let mac = hmac_sha256(&self.chain.key(slot), &message);
+                    let mac = keys.get(slot).mac(&message);
                     bits::copy(&mut out, layout.tag(field).start, &mac, 0, layout.tag);
                 }
             }
@@ -202,7 +208,12 @@ impl Sending<'_> {
                 u64::from(info.word()),
             );
         }
-        bits::put(&mut out, layout.macseq().start, 12, self.macseq(&layout));
+        bits::put(
+            &mut out,
+            layout.macseq().start,
+            12,
+            self.macseq(&layout, &mut keys),
+        );
         for block in 1..=layout.blocks as u8 {
             let key = self
                 .chain
@@ -212,7 +223,7 @@ impl Sending<'_> {
         out
     }
 
-    fn macseq(&self, layout: &Layout) -> u64 {
+    fn macseq(&self, layout: &Layout, keys: &mut TagKeys) -> u64 {
         let fields = layout.fields().min(self.marks.len());
         let flexible = (1..fields).filter(|&n| self.marks[n] == FLEXIBLE);
         let message = macseq_message(
@@ -220,8 +231,28 @@ impl Sending<'_> {
             self.gst,
             flexible.filter_map(|n| self.infos.get(n).copied()),
         );
-        let key = self.chain.key(self.chain.lowest_slot(self.gst, 1));
-        bits::get(&hmac_sha256(&key, &message), 0, 12)
+        let key = keys.get(self.chain.lowest_slot(self.gst, 1));
+        bits::get(&key.mac(&message), 0, 12)
+    }
+}
+
+/// The keys of a section's tags, each computed once.
+struct TagKeys<'a> {
+    chain: &'a Chain,
+    known: Vec<(u64, HmacKey)>,
+}
+
+impl TagKeys<'_> {
+    fn get(&mut self, slot: u64) -> &HmacKey {
+        let at = self
+            .known
+            .iter()
+            .position(|k| k.0 == slot)
+            .unwrap_or_else(|| {
+                self.known.push((slot, HmacKey::new(&self.chain.key(slot))));
+                self.known.len() - 1
+            });
+        &self.known[at].1
     }
 }
 
@@ -229,6 +260,7 @@ impl Sending<'_> {
 mod tests {
     use super::*;
     use crate::words::NavSet;
+    use portable_hash::hmac_sha256;
 
     fn hex(bytes: &[u8]) -> String {
         bytes.iter().map(|b| format!("{b:02X}")).collect()

@@ -286,10 +286,21 @@ mod tests {
     use super::*;
     use crate::replay::RECORD;
 
-    // Each run has whole records, is the same from the same seed, and states something that it has.
+    /// Runs whose chains have a million slots and more; without optimisation they take minutes to build.
+    const LONG: [&str; 4] = ["sections", "gaps", "held_key", "gap_full"];
+
+    // Each run has whole records, is the same from the same seed, and states answers to records that it has.
     #[test]
     fn structure() {
         for (n, s) in ALL.iter().enumerate() {
+            assert!(
+                ALL[n + 1..].iter().all(|other| other.name != s.name),
+                "{} stands twice",
+                s.name
+            );
+            if cfg!(debug_assertions) && LONG.contains(&s.name) {
+                continue;
+            }
             let run = s.run(SEED);
             assert_eq!((run.name.as_str(), run.about.as_str()), (s.name, s.about));
             assert_eq!(
@@ -309,11 +320,6 @@ mod tests {
                 "{}",
                 s.name
             );
-            assert!(
-                ALL[n + 1..].iter().all(|other| other.name != s.name),
-                "{} stands twice",
-                s.name
-            );
         }
     }
 
@@ -326,7 +332,7 @@ mod tests {
 
     #[test]
     fn random_runs() {
-        for seed in 0..40 {
+        for seed in 0..8 {
             let run = random(seed);
             assert_eq!(run.bytes, random(seed).bytes, "seed {seed}");
             assert!(seed % 4 > 0 || run.bytes.len() % RECORD == 0, "seed {seed}");
