@@ -154,6 +154,11 @@ const ALL: &[Scenario] = &[
         refusals::key_messages,
     ),
     scenario(
+        "keys_kept",
+        "which calls drop public keys and which do not",
+        refusals::keys_kept,
+    ),
+    scenario(
         "emergencies",
         "emergency messages of 11 to 16 blocks",
         refusals::emergencies,
@@ -232,6 +237,11 @@ const ALL: &[Scenario] = &[
         "waiting_sets",
         "words that change while slow tags wait",
         tags::waiting_sets,
+    ),
+    scenario(
+        "same_time_sets",
+        "two sections of one time that saw different sets",
+        tags::same_time_sets,
     ),
     scenario(
         "waiting_tags",

@@ -512,6 +512,76 @@ pub fn emergencies(name: &str, about: &str, seed: u64) -> Run {
     b.run
 }
 
+/// Which calls drop public keys: only a good verdict with status 1 or 2, and only lower ones.
+pub fn keys_kept(name: &str, about: &str, seed: u64) -> Run {
+    let mut b = Bench::new(name, about, seed);
+    // Leaf 7 has the key bytes of the start's key under another ID.
+    let mut leaves: Vec<Vec<u8>> = (0..16).map(|i| b.tree.leaf(i).to_vec()).collect();
+    leaves[7] = dsm::leaf(1, 7, &b.start.key);
+    b.tree = Tree::new(leaves);
+    b.start.tree_root = b.tree.root();
+    let chain = plain_chain(&mut b, 400);
+    let later = Rc::new(chain.floating(1));
+    let last = Rc::new(chain.floating(2));
+    fresh(&mut b, &chain);
+    let held = |b: &mut Bench, key_id: u8, first: u8| {
+        let root = b.root_under(b.header, &chain, key_id, 1);
+        b.deliver(b.header, 10, &root.dsm, first);
+    };
+    held(&mut b, 7, 7);
+    let (same, higher) = (b.tree.pkr(4), b.tree.pkr(7));
+    b.deliver(b.header, 12, &same, 0);
+    b.deliver(b.header, 12, &higher, 0);
+    b.deliver(b.header, 12, &higher, 0);
+    held(&mut b, 7, 0);
+    held(&mut b, START_KEY, 0);
+    // A message between those held.
+    let between = b.tree.pkr(5);
+    b.deliver(b.header, 12, &between, 9);
+    // Refused verdicts under key 7: bad, other CID, earlier root.
+    let root = b.root_under(b.header, &later, 7, 1);
+    b.deliver(b.header, 1, &root.dsm, 0);
+    b.verdict(
+        &Verdict {
+            good: 0,
+            ..root.verdict
+        },
+        15,
+    );
+    let header = dsm::header(OPERATIONAL, 1, NOMINAL);
+    let root = b.root_under(header, &later, 7, 1);
+    b.deliver(header, 1, &root.dsm, 0);
+    b.verdict(&root.verdict, 11);
+    let mut odd = (*chain).clone();
+    odd.hour -= 1;
+    let root = b.root_under(b.header, &odd, 7, 1);
+    b.deliver(b.header, 1, &root.dsm, 0);
+    b.verdict(&root.verdict, 9);
+    held(&mut b, START_KEY, 0);
+    // A drop under key 7 takes the chain and no key.
+    let header = dsm::header(DONT_USE, 0, CHAIN_REVOKED);
+    let root = b.root_under(header, &chain, 7, 1);
+    b.deliver(header, 1, &root.dsm, 0);
+    b.verdict(&root.verdict, 0);
+    b.force = None;
+    held(&mut b, START_KEY, 0);
+    // A root under the lower key keeps the higher one; then one under the higher key drops the lower.
+    let root = b.root_under(b.header, &later, START_KEY, 1);
+    b.deliver(b.header, 1, &root.dsm, 0);
+    b.verdict(&root.verdict, 0);
+    b.now = later.start();
+    b.force = Some(later);
+    let root = b.root_under(b.header, &last, 7, 1);
+    b.deliver(b.header, 1, &root.dsm, 0);
+    b.verdict(&root.verdict, 0);
+    b.force = Some(last);
+    held(&mut b, START_KEY, 7);
+    held(&mut b, 7, 0);
+    b.deliver(b.header, 12, &same, 9);
+    b.deliver(b.header, 12, &higher, 0);
+    b.run
+}
+
 /// A verdict on a message that waits, and the message.
 struct VerdictCall {
     verdict: Vec<fn(&mut Verdict)>,

@@ -444,6 +444,27 @@ pub fn waiting_sets(name: &str, about: &str, seed: u64) -> Run {
     b.run
 }
 
+/// Two sections of one time that saw different sets: the set of the tag that is judged last stays.
+pub fn same_time_sets(name: &str, about: &str, seed: u64) -> Run {
+    let mut b = Bench::new(name, about, seed);
+    let chain = six_fields(&mut b, [0, 12, 0, 0, 0, 0], [0, 12, 0, 0, 0, 0]);
+    let slow = [0, 12, 0, 0, 0, 0].map(|adkd| Info::new(if adkd > 0 { 3 } else { 1 }, adkd, 0));
+    b.step();
+    let arrival = b.now;
+    b.send_fields(1, &slow, &[1, 5, 1, 1, 1, 1]);
+    let first = b.set_read(3, arrival);
+    // Words of the half minute before, lent after fields of this one, are usable for the next section.
+    b.now = arrival.plus(-1);
+    b.change(3);
+    b.words(3);
+    b.now = arrival;
+    b.send_fields(2, &[Info::new(3, 0, 0); 6], &[1, 4, 1, 1, 1, 1]);
+    b.now = chain.start().plus(11);
+    b.send_fields(1, &[Info::new(1, 0, 0); 6], &[1, 1, 4, 1, 1, 1, 1]);
+    b.reads(3, first);
+    b.run
+}
+
 /// What a new root, a new chain and a drop do to the tags that wait.
 pub fn waiting_tags(name: &str, about: &str, seed: u64) -> Run {
     let mut b = Bench::new(name, about, seed);
