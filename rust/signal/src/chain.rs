@@ -16,15 +16,25 @@ const STRIDE: u64 = 32;
 /// receiver refuses.
 #[derive(Clone, Copy, Debug, PartialEq, Eq)]
 pub struct Params {
+    /// CIDKR, the chain's ID.
     pub cid: u8,
+    /// Blocks of a section.
     pub nmack: u8,
+    /// Hash function; 0 is SHA-256.
     pub hf: u8,
+    /// MAC function; 0 is HMAC-SHA-256.
     pub mf: u8,
+    /// Code of the key size.
     pub ks: u8,
+    /// Code of the tag size.
     pub ms: u8,
+    /// Row of the MAC lookup table.
     pub maclt: u8,
+    /// Two reserved bits.
     pub rsvd: u8,
+    /// MACK offset; 0 is none.
     pub mo: u8,
+    /// The chain's random pattern.
     pub alpha: [u8; 6],
 }
 
@@ -50,6 +60,7 @@ impl Params {
         KEY_BITS.get(usize::from(self.ks)).copied().unwrap_or(0)
     }
 
+    /// KS in bytes.
     pub fn key_len(&self) -> usize {
         self.key_bits() / 8
     }
@@ -137,10 +148,13 @@ impl Keys {
 /// roots that a receiver refuses; its keys stay.
 #[derive(Clone, Debug)]
 pub struct Chain {
+    /// What its DSM-KROOT says.
     pub params: Params,
+    /// Satellites with a key of their own in a block.
     pub ns: u8,
     /// Week and hour of the root.
     pub week: u32,
+    /// Hour of the root's week.
     pub hour: u32,
     keys: Arc<Keys>,
     /// The root's slot among the keys.
@@ -188,6 +202,7 @@ impl Chain {
         self.keys.key(self.root + slot)
     }
 
+    /// KROOT, the key of slot 0.
     pub fn root(&self) -> Vec<u8> {
         self.key(0)
     }

@@ -106,6 +106,7 @@ pub struct Tree {
 }
 
 impl Tree {
+    /// The tree over exactly 16 leaves.
     pub fn new(leaves: Vec<Vec<u8>>) -> Self {
         assert_eq!(leaves.len(), 16);
         let mut levels = vec![leaves.iter().map(|l| sha256(l)).collect::<Vec<_>>()];
@@ -126,10 +127,12 @@ impl Tree {
         self.levels[level][index]
     }
 
+    /// The root that a receiver has installed.
     pub fn root(&self) -> [u8; 32] {
         self.node(4, 0)
     }
 
+    /// The bytes of a leaf.
     pub fn leaf(&self, index: usize) -> &[u8] {
         &self.leaves[index]
     }

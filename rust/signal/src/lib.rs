@@ -8,6 +8,7 @@
 //! [`replay::Run::check`] to compare a replay program's answers with what the run intends.
 
 #![forbid(unsafe_code)]
+#![warn(missing_docs)]
 
 pub mod bits;
 pub mod chain;

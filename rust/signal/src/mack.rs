@@ -16,12 +16,16 @@ pub const FLEXIBLE: u8 = 255;
 /// The MAC-Info of a field (000, table 18). Of the section's first field only the IOD is sent.
 #[derive(Clone, Copy, Debug, PartialEq, Eq)]
 pub struct Info {
+    /// Satellite whose data is authenticated.
     pub prn: u8,
+    /// What is authenticated, and the delay of its key.
     pub adkd: u8,
+    /// Four bits that enter MACSEQ alone.
     pub iod: u8,
 }
 
 impl Info {
+    /// These three values.
     pub fn new(prn: u8, adkd: u8, iod: u8) -> Self {
         Info { prn, adkd, iod }
     }
@@ -80,21 +84,25 @@ impl Layout {
         (usize::from(block) - 1) * (480 / self.blocks)
     }
 
+    /// A field's tag.
     pub fn tag(&self, field: usize) -> Range<usize> {
         let at = self.block(self.position(field).0) + field % self.per_block * (self.tag + 16);
         at..at + self.tag
     }
 
+    /// A field's PRN.
     pub fn prn(&self, field: usize) -> Range<usize> {
         let at = self.tag(field).end;
         at..at + 8
     }
 
+    /// A field's ADKD.
     pub fn adkd(&self, field: usize) -> Range<usize> {
         let at = self.prn(field).end;
         at..at + 4
     }
 
+    /// A field's IOD.
     pub fn iod(&self, field: usize) -> Range<usize> {
         let at = self.adkd(field).end;
         at..at + 4
@@ -105,11 +113,13 @@ impl Layout {
         self.prn(0).start..self.adkd(0).end
     }
 
+    /// A block's key.
     pub fn key(&self, block: u8) -> Range<usize> {
         let at = self.block(block) + self.per_block * (self.tag + 16);
         at..at + self.key
     }
 
+    /// The zero bits after a block's key; may be empty.
     pub fn spare(&self, block: u8) -> Range<usize> {
         self.key(block).end..self.block(block + 1)
     }
@@ -160,8 +170,11 @@ pub fn macseq_message(sender: u8, gst: Gst, flexible: impl Iterator<Item = Info>
 /// What a satellite sends in one sub-frame.
 #[derive(Clone, Copy)]
 pub struct Sending<'a> {
+    /// The chain whose keys it sends.
     pub chain: &'a Chain,
+    /// PRN of the satellite.
     pub sender: u8,
+    /// Time of the sub-frame.
     pub gst: Gst,
     /// NMA status of this sub-frame's header.
     pub status: u8,

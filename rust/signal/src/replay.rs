@@ -11,13 +11,19 @@ pub const RECORD: usize = 256;
 /// What a start gives.
 #[derive(Clone, Debug)]
 pub struct Start {
+    /// Satellites with a key of their own in a block.
     pub ns: u8,
+    /// ID of the public key.
     pub key_id: u8,
+    /// Type of the public key.
     pub key_type: u8,
+    /// The one MACLT number that is taken.
     pub maclt: u8,
     /// Marks for second 0 and second 30 of the minute.
     pub marks: [Marks; 2],
+    /// Root of the tree of public keys.
     pub tree_root: [u8; 32],
+    /// The public key, up to 67 bytes.
     pub key: Vec<u8>,
 }
 
@@ -26,8 +32,11 @@ pub struct Start {
 pub struct Verdict {
     /// 1 good, 0 bad.
     pub good: u8,
+    /// ID of the public key.
     pub key_id: u8,
+    /// The signed message, followed by zeros.
     pub message: [u8; 45],
+    /// The signature, followed by zeros.
     pub signature: [u8; 132],
 }
 
@@ -53,19 +62,23 @@ fn record(parts: &[&[u8]]) -> [u8; RECORD] {
     out
 }
 
+/// A record of kind 1.
 pub fn start(s: &Start) -> [u8; RECORD] {
     let head = [1, s.ns, s.key_id, s.key_type, s.maclt];
     record(&[&head, &s.marks[0], &s.marks[1], &s.tree_root, &s.key])
 }
 
+/// A record of kind 2.
 pub fn word(prn: u8, gst: Gst, word: &Word) -> [u8; RECORD] {
     record(&[&[2, prn], &gst.bytes(), word])
 }
 
+/// A record of kind 3.
 pub fn subframe(prn: u8, gst: Gst, field: &Field) -> [u8; RECORD] {
     record(&[&[3, prn], &gst.bytes(), field])
 }
 
+/// A record of kind 4.
 pub fn verdict(v: &Verdict) -> [u8; RECORD] {
     record(&[&[4, v.good, v.key_id], &v.message, &v.signature])
 }
@@ -75,9 +88,13 @@ pub fn verdict(v: &Verdict) -> [u8; RECORD] {
 pub enum Read {
     /// 16: no authentic set.
     None,
+    /// 0: these bits.
     Set {
+        /// The 549 bits.
         bits: Authenticated,
+        /// IODnav of the set.
         iodnav: u16,
+        /// When its tag came.
         gst: Gst,
     },
 }
@@ -100,14 +117,18 @@ pub struct Expects {
 /// A replay input with what it is for.
 #[derive(Clone, Debug)]
 pub struct Run {
+    /// The scenario's name.
     pub name: String,
     /// One line.
     pub about: String,
+    /// The replay input.
     pub bytes: Vec<u8>,
+    /// What a receiver must answer.
     pub expects: Expects,
 }
 
 impl Run {
+    /// A run without records.
     pub fn new(name: &str, about: &str) -> Self {
         Run {
             name: name.into(),
@@ -202,6 +223,7 @@ impl Run {
 /// The answer to one record, as a replay program prints it.
 #[derive(Clone, Debug, PartialEq, Eq)]
 pub struct Given {
+    /// The two numbers.
     pub answers: (u8, u8),
     /// First byte of each tag record.
     pub outcomes: Vec<u8>,

@@ -1,13 +1,16 @@
 //! A small generator of numbers from a fixed seed (splitmix64), so that every run can be made again.
 
+/// The generator's state.
 #[derive(Clone, Debug)]
 pub struct Rng(u64);
 
 impl Rng {
+    /// The generator that starts from a seed.
     pub fn new(seed: u64) -> Self {
         Rng(seed)
     }
 
+    /// The next number.
     pub fn next(&mut self) -> u64 {
         self.0 = self.0.wrapping_add(0x9E37_79B9_7F4A_7C15);
         let mut z = self.0;
@@ -35,22 +38,26 @@ impl Rng {
         self.below(n) == 0
     }
 
+    /// One of them; there must be one.
     pub fn pick<'a, T>(&mut self, from: &'a [T]) -> &'a T {
         &from[self.below(from.len() as u64) as usize]
     }
 
+    /// Any bytes in place.
     pub fn fill(&mut self, bytes: &mut [u8]) {
         for b in bytes {
             *b = self.next() as u8;
         }
     }
 
+    /// `n` bytes.
     pub fn bytes(&mut self, n: usize) -> Vec<u8> {
         let mut v = vec![0; n];
         self.fill(&mut v);
         v
     }
 
+    /// `N` bytes.
     pub fn array<const N: usize>(&mut self) -> [u8; N] {
         let mut a = [0; N];
         self.fill(&mut a);

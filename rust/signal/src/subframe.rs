@@ -1,9 +1,13 @@
 //! The authentication field of a sub-frame: 15 times one byte of HKROOT and four of MACK (01, HKROOT).
 
+/// An HKROOT section.
 pub type Hkroot = [u8; 15];
+/// A MACK section.
 pub type Mack = [u8; 60];
+/// The field of a sub-frame.
 pub type Field = [u8; 75];
 
+/// The field that carries both sections.
 pub fn join(hkroot: &Hkroot, mack: &Mack) -> Field {
     let mut out = [0; 75];
     for (i, five) in out.chunks_exact_mut(5).enumerate() {

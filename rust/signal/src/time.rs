@@ -10,14 +10,17 @@ pub const SUBFRAME: u64 = 30;
 pub struct Gst(pub u32);
 
 impl Gst {
+    /// A week and a second of it.
     pub fn new(week: u32, second: u32) -> Self {
         Gst(week << 20 | second)
     }
 
+    /// The first 12 bits.
     pub fn week(self) -> u32 {
         self.0 >> 20
     }
 
+    /// The other 20 bits.
     pub fn second(self) -> u32 {
         self.0 & 0xF_FFFF
     }
@@ -37,6 +40,7 @@ impl Gst {
         Gst::from_seconds(self.seconds().wrapping_add_signed(n * SUBFRAME as i64))
     }
 
+    /// High byte first.
     pub fn bytes(self) -> [u8; 4] {
         self.0.to_be_bytes()
     }

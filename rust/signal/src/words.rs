@@ -3,6 +3,7 @@
 use crate::bits;
 use crate::rng::Rng;
 
+/// A navigation word; its type stands in bits 0 to 5.
 pub type Word = [u8; 16];
 /// The 549 bits of a set, followed by three zero bits.
 pub type Authenticated = [u8; 69];
@@ -13,6 +14,7 @@ const MASK: [(usize, usize); 5] = [(6, 125), (6, 125), (6, 127), (6, 125), (6, 7
 /// The words 1 to 5 of one satellite.
 #[derive(Clone, Copy, Debug, PartialEq, Eq)]
 pub struct NavSet {
+    /// Words of types 1 to 5 in order.
     pub words: [Word; 5],
 }
 
@@ -38,6 +40,7 @@ impl NavSet {
         }
     }
 
+    /// IODnav of word 1.
     pub fn iodnav(&self) -> u16 {
         bits::get(&self.words[0], 6, 10) as u16
     }
@@ -47,6 +50,7 @@ impl NavSet {
         bits::put(&mut self.words[3], 16, 6, u64::from(svid));
     }
 
+    /// The bits that tags cover, packed.
     pub fn authenticated(&self) -> Authenticated {
         let (mut out, mut at) = ([0; 69], 0);
         for (word, (first, last)) in self.words.iter().zip(MASK) {

@@ -18,6 +18,7 @@ pub use random::random;
 /// A named scenario.
 #[derive(Clone, Copy)]
 pub struct Scenario {
+    /// What `signal NAME` takes.
     pub name: &'static str,
     /// One line.
     pub about: &'static str,
@@ -25,6 +26,7 @@ pub struct Scenario {
 }
 
 impl Scenario {
+    /// Builds the run.
     pub fn run(&self, seed: u64) -> Run {
         (self.build)(self.name, self.about, seed)
     }
