@@ -11,7 +11,7 @@ impl Rng {
     }
 
     /// The next number.
-    pub fn next(&mut self) -> u64 {
+    pub fn number(&mut self) -> u64 {
         self.0 = self.0.wrapping_add(0x9E37_79B9_7F4A_7C15);
         let mut z = self.0;
         z = (z ^ (z >> 30)).wrapping_mul(0xBF58_476D_1CE4_E5B9);
@@ -24,7 +24,7 @@ impl Rng {
         if n == 0 {
             0
         } else {
-            self.next() % n
+            self.number() % n
         }
     }
 
@@ -46,7 +46,7 @@ impl Rng {
     /// Any bytes in place.
     pub fn fill(&mut self, bytes: &mut [u8]) {
         for b in bytes {
-            *b = self.next() as u8;
+            *b = self.number() as u8;
         }
     }
 

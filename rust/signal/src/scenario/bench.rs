@@ -160,10 +160,15 @@ impl Bench {
         out
     }
 
+    /// The list of marks for a half minute: the first at second 0 of the minute, the second at 30.
+    pub fn marks_at(&self, gst: Gst) -> &Marks {
+        &self.start.marks[usize::from(!gst.second().is_multiple_of(60))]
+    }
+
     /// MAC-Info of each field: tag0, then by the marks; flexible fields take ADKD 12, 11 and 0 in turn. The PRNs go
     /// round the satellites seen.
     pub fn infos(&self, sender: u8, gst: Gst, layout: &Layout) -> Vec<Info> {
-        let marks = &self.start.marks[usize::from(gst.second() % 60 != 0)];
+        let marks = self.marks_at(gst);
         let mut flexible = 0;
         (0..layout.fields())
             .map(|n| {
@@ -195,7 +200,7 @@ impl Bench {
     /// The correct section of a satellite under the chain in force, with these fields.
     pub fn section_of(&self, sender: u8, gst: Gst, infos: &[Info]) -> Mack {
         let chain = self.force.as_ref().expect("a chain is in force");
-        let marks = &self.start.marks[usize::from(gst.second() % 60 != 0)];
+        let marks = self.marks_at(gst);
         let sending = Sending {
             chain,
             sender,

@@ -347,7 +347,10 @@ mod tests {
         for seed in 0..8 {
             let run = random(seed);
             assert_eq!(run.bytes, random(seed).bytes, "seed {seed}");
-            assert!(seed % 4 > 0 || run.bytes.len() % RECORD == 0, "seed {seed}");
+            assert!(
+                seed % 4 > 0 || run.bytes.len().is_multiple_of(RECORD),
+                "seed {seed}"
+            );
             assert!(run.places() > 10, "seed {seed}");
         }
         assert_ne!(random(1).bytes, random(2).bytes);

@@ -152,7 +152,7 @@ impl Mix {
             }
         }
         self.b.start.ns = ns;
-        self.b.start.maclt = self.b.rng.next() as u8;
+        self.b.start.maclt = self.b.rng.number() as u8;
         self.b.start_with_leaf(self.leaf);
         let (week, hour) = *self.b.rng.pick(&BEGINNINGS);
         let params = self.params(0);
@@ -292,7 +292,7 @@ impl Mix {
             return self.b.rng.array();
         }
         let layout = self.b.layout();
-        let list = self.b.start.marks[usize::from(now.second() % 60 != 0)];
+        let list = *self.b.marks_at(now);
         let infos: Vec<Info> = (0..layout.fields())
             .map(|n| self.info(sender, list[n]))
             .collect();
