@@ -37,7 +37,10 @@ fn round(s: &mut [u32; 8], i: usize, kw: u32) {
     let (e, f, g) = (s[at(4)], s[at(5)], s[at(6)]);
     let big1 = e.rotate_right(6) ^ e.rotate_right(11) ^ e.rotate_right(25);
     let choose = (e & f) ^ (!e & g);
-    let t1 = s[at(7)].wrapping_add(big1).wrapping_add(choose).wrapping_add(kw);
+    let t1 = s[at(7)]
+        .wrapping_add(big1)
+        .wrapping_add(choose)
+        .wrapping_add(kw);
     let big0 = a.rotate_right(2) ^ a.rotate_right(13) ^ a.rotate_right(22);
     let majority = (a & b) ^ (a & c) ^ (b & c);
     s[at(3)] = s[at(3)].wrapping_add(t1);
@@ -49,7 +52,10 @@ fn advance(w: &mut [u32; 16], i: usize) {
     let (x, y) = (w[(i + 1) % 16], w[(i + 14) % 16]);
     let small0 = x.rotate_right(7) ^ x.rotate_right(18) ^ (x >> 3);
     let small1 = y.rotate_right(17) ^ y.rotate_right(19) ^ (y >> 10);
-    w[i] = w[i].wrapping_add(small0).wrapping_add(w[(i + 9) % 16]).wrapping_add(small1);
+    w[i] = w[i]
+        .wrapping_add(small0)
+        .wrapping_add(w[(i + 9) % 16])
+        .wrapping_add(small1);
 }
 
 /// FIPS 180-4, 6.2.2: one block of 64 bytes.
@@ -88,7 +94,11 @@ impl Default for Sha256 {
 
 impl Sha256 {
     pub fn new() -> Self {
-        Sha256 { state: INITIAL, block: [0; BLOCK_LEN], len: 0 }
+        Sha256 {
+            state: INITIAL,
+            block: [0; BLOCK_LEN],
+            len: 0,
+        }
     }
 
     pub fn update(&mut self, mut data: &[u8]) {
@@ -182,13 +192,24 @@ mod tests {
     // FIPS 180-4's examples, and one that ends in the second block of padding.
     #[test]
     fn digests() {
-        assert_eq!(hex(&sha256(b"abc")), "ba7816bf8f01cfea414140de5dae2223b00361a396177a9cb410ff61f20015ad");
         assert_eq!(
-            hex(&sha256(b"abcdbcdecdefdefgefghfghighijhijkijkljklmklmnlmnomnopnopq")),
+            hex(&sha256(b"abc")),
+            "ba7816bf8f01cfea414140de5dae2223b00361a396177a9cb410ff61f20015ad"
+        );
+        assert_eq!(
+            hex(&sha256(
+                b"abcdbcdecdefdefgefghfghighijhijkijkljklmklmnlmnomnopnopq"
+            )),
             "248d6a61d20638b8e5c026930c3e6039a33ce45964ff2167f6ecedd419db06c1"
         );
-        assert_eq!(hex(&sha256(b"")), "e3b0c44298fc1c149afbf4c8996fb92427ae41e4649b934ca495991b7852b855");
-        assert_eq!(hex(&sha256(&[b'a'; 1_000_000])), "cdc76e5c9914fb9281a1c7e284d73e67f1809a48a497200e046d39ccc7112cd0");
+        assert_eq!(
+            hex(&sha256(b"")),
+            "e3b0c44298fc1c149afbf4c8996fb92427ae41e4649b934ca495991b7852b855"
+        );
+        assert_eq!(
+            hex(&sha256(&[b'a'; 1_000_000])),
+            "cdc76e5c9914fb9281a1c7e284d73e67f1809a48a497200e046d39ccc7112cd0"
+        );
     }
 
     // A message gives the same digest however it is cut into parts.
@@ -208,14 +229,23 @@ mod tests {
     // RFC 4231, cases 1, 2, 3 and 6 (a key longer than a block).
     #[test]
     fn macs() {
-        assert_eq!(hex(&hmac_sha256(&[0x0b; 20], b"Hi There")), "b0344c61d8db38535ca8afceaf0bf12b881dc200c9833da726e9376c2e32cff7");
+        assert_eq!(
+            hex(&hmac_sha256(&[0x0b; 20], b"Hi There")),
+            "b0344c61d8db38535ca8afceaf0bf12b881dc200c9833da726e9376c2e32cff7"
+        );
         assert_eq!(
             hex(&hmac_sha256(b"Jefe", b"what do ya want for nothing?")),
             "5bdcc146bf60754e6a042426089575c75a003f089d2739839dec58b964ec3843"
         );
-        assert_eq!(hex(&hmac_sha256(&[0xaa; 20], &[0xdd; 50])), "773ea91e36800e46854db8ebd09181a72959098b3ef8c122d9635514ced565fe");
         assert_eq!(
-            hex(&hmac_sha256(&[0xaa; 131], b"Test Using Larger Than Block-Size Key - Hash Key First")),
+            hex(&hmac_sha256(&[0xaa; 20], &[0xdd; 50])),
+            "773ea91e36800e46854db8ebd09181a72959098b3ef8c122d9635514ced565fe"
+        );
+        assert_eq!(
+            hex(&hmac_sha256(
+                &[0xaa; 131],
+                b"Test Using Larger Than Block-Size Key - Hash Key First"
+            )),
             "60e431591ee0b67f0d8a26aacbf5b77f8e0bc6213728c5140546040f0ee37f54"
         );
     }

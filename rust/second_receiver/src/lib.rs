@@ -1,1 +1,37 @@
+//! A second receiver of Galileo OSNMA (SIS testing specification v1.1), written from the papers alone.
+//!
+//! "01" in a comment is the scope document, "000" the OSNMA specification, "A<n>" an entry of the adopted readings.
+//! One module a topic, each rule in one place:
+//!
+//! - `numbers`: the numbers that calls return;
+//! - `bits`: bit strings read from and written to bytes;
+//! - `times`: GST_SF, seconds, key slots;
+//! - `words`: I/NAV words 1 to 5 of each satellite and the 549 authenticated bits;
+//! - `gather`: DSM blocks gathered into whole messages;
+//! - `keys`: the public keys held;
+//! - `kroot`, `pkr`: the two kinds of DSM, read and judged;
+//! - `chain`: the TESLA chain in force and its key walk;
+//! - `verdict`: the message that waits and what a verdict on it does;
+//! - `mack`: the layout of a MACK section and the check of its keys;
+//! - `tags`: MACSEQ, tag outcomes, waiting tags, authentic sets, tag records;
+//! - `receiver`: the calls of 01 over the whole state;
+//! - `replay`: the replay program's format.
 
+#![forbid(unsafe_code)]
+
+pub mod bits;
+pub mod chain;
+pub mod gather;
+pub mod keys;
+pub mod kroot;
+pub mod mack;
+pub mod numbers;
+pub mod pkr;
+pub mod receiver;
+pub mod replay;
+pub mod tags;
+pub mod times;
+pub mod verdict;
+pub mod words;
+
+pub use receiver::{Receiver, SetAnswer, SubframeAnswer, WaitingAnswer};

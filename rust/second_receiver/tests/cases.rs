@@ -1,0 +1,44 @@
+//! Every replay input under tests/cases gives the lines and the reads beside it.
+
+use second_receiver::replay::{replay, write_reads};
+use std::fs;
+use std::path::Path;
+
+/// The first line in which two outputs differ.
+fn first_difference(got: &[u8], want: &[u8]) -> Option<String> {
+    let (got, want) = (String::from_utf8_lossy(got), String::from_utf8_lossy(want));
+    let (mut got, mut want) = (got.split('\n'), want.split('\n'));
+    for line in 1.. {
+        match (got.next(), want.next()) {
+            (None, None) => break,
+            (g, w) if g == w => {}
+            (g, w) => return Some(format!("line {line}: got {g:?}, want {w:?}")),
+        }
+    }
+    None
+}
+
+#[test]
+fn all_cases() {
+    let directory = Path::new(env!("CARGO_MANIFEST_DIR")).join("tests/cases");
+    let mut differences = Vec::new();
+    let mut count = 0;
+    for entry in fs::read_dir(directory).unwrap() {
+        let path = entry.unwrap().path();
+        if path.extension().is_none_or(|extension| extension != "in") {
+            continue;
+        }
+        count += 1;
+        let (mut lines, mut reads) = (Vec::new(), Vec::new());
+        let receiver = replay(&fs::read(&path).unwrap()[..], &mut lines).unwrap();
+        write_reads(&receiver, &mut reads).unwrap();
+        for (extension, got) in [("out", lines), ("reads", reads)] {
+            let want = fs::read(path.with_extension(extension)).unwrap();
+            if let Some(difference) = first_difference(&got, &want) {
+                differences.push(format!("{} {extension} {difference}", path.display()));
+            }
+        }
+    }
+    assert_eq!(count, 20, "inputs found");
+    assert!(differences.is_empty(), "{}", differences.join("\n"));
+}
