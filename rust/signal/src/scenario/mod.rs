@@ -1,0 +1,278 @@
+//! Whole runs: realistic, adversarial and random ones.
+//!
+//! Every scenario is built from a seed, which gives its keys, α, navigation bits and signatures; the same seed gives
+//! the same bytes. What a run intends stands in [`Run::expects`].
+
+mod bench;
+mod gathering;
+mod parameters;
+mod realistic;
+mod refusals;
+mod tags;
+
+use crate::replay::Run;
+
+/// A named scenario.
+#[derive(Clone, Copy)]
+pub struct Scenario {
+    pub name: &'static str,
+    /// One line.
+    pub about: &'static str,
+    build: fn(&str, &str, u64) -> Run,
+}
+
+impl Scenario {
+    pub fn run(&self, seed: u64) -> Run {
+        (self.build)(self.name, self.about, seed)
+    }
+}
+
+/// The seed of a run when none is asked for. What the runs intend is checked with it; with another seed a wrong tag
+/// of few bits can match by chance.
+pub const SEED: u64 = 1;
+
+/// All named scenarios.
+pub fn all() -> &'static [Scenario] {
+    ALL
+}
+
+/// The scenario of this name.
+pub fn find(name: &str) -> Option<&'static Scenario> {
+    ALL.iter().find(|s| s.name == name)
+}
+
+const fn scenario(
+    name: &'static str,
+    about: &'static str,
+    build: fn(&str, &str, u64) -> Run,
+) -> Scenario {
+    Scenario { name, about, build }
+}
+
+const ALL: &[Scenario] = &[
+    scenario(
+        "nominal",
+        "eight satellites, twelve minutes, one data change",
+        realistic::nominal,
+    ),
+    scenario(
+        "floating_root",
+        "a later root of the same chain; slow tags that stay and that go",
+        realistic::floating_root,
+    ),
+    scenario(
+        "chain_renewal",
+        "a new chain at its hour, announced before",
+        realistic::chain_renewal,
+    ),
+    scenario(
+        "chain_revoked",
+        "status 3 drops the chain; only a later root counts",
+        realistic::chain_revoked,
+    ),
+    scenario(
+        "new_public_key",
+        "a public key by DSM-PKR, a root under it, lower keys dropped",
+        realistic::new_public_key,
+    ),
+    scenario(
+        "emergency",
+        "an emergency message stops the receiver until a new start",
+        realistic::emergency,
+    ),
+    scenario(
+        "stopped",
+        "reads after an emergency message still give the authentic sets",
+        realistic::stopped,
+    ),
+    scenario(
+        "data_change",
+        "a repeater's words replace a set while its slow tag waits",
+        realistic::data_change,
+    ),
+    scenario(
+        "newer_set_stays",
+        "an old slow tag does not replace a newer authentic set",
+        realistic::newer_set_stays,
+    ),
+    scenario(
+        "week_change",
+        "sections and slow tags across the end of a week",
+        realistic::week_change,
+    ),
+    scenario(
+        "last_week",
+        "the last half minutes of week 4095",
+        realistic::last_week,
+    ),
+    scenario(
+        "fitter",
+        "half an hour, 12 satellites, a repeater's words in the middle",
+        realistic::fitter,
+    ),
+    scenario(
+        "full_sky",
+        "half an hour of 36 satellites",
+        realistic::full_sky,
+    ),
+    scenario(
+        "places_full",
+        "256 slow tags waiting, and 270 records from one section",
+        realistic::places_full,
+    ),
+    scenario(
+        "words",
+        "words refused for every reason, alone and in pairs; other types",
+        refusals::words,
+    ),
+    scenario(
+        "subframes",
+        "sub-frames refused for every reason, alone and in pairs",
+        refusals::subframes,
+    ),
+    scenario(
+        "sections",
+        "MACK sections refused for every reason, alone and in pairs, block by block",
+        refusals::sections,
+    ),
+    scenario(
+        "root_messages",
+        "DSM-KROOT refused for every reason, alone and in pairs",
+        refusals::root_messages,
+    ),
+    scenario(
+        "root_sizes",
+        "DSM-KROOT of every key type and KS: the least number of blocks",
+        refusals::root_sizes,
+    ),
+    scenario(
+        "key_messages",
+        "DSM-PKR refused for every reason, alone and in pairs",
+        refusals::key_messages,
+    ),
+    scenario(
+        "emergencies",
+        "emergency messages of 11 to 16 blocks",
+        refusals::emergencies,
+    ),
+    scenario(
+        "verdicts",
+        "verdicts refused for every reason, alone and in pairs",
+        refusals::verdicts,
+    ),
+    scenario(
+        "starts",
+        "starts refused for every reason; calls before a start",
+        refusals::starts,
+    ),
+    scenario(
+        "records",
+        "records of every other kind, and bytes that are not read",
+        refusals::records,
+    ),
+    scenario(
+        "short_record",
+        "a last record of 255 bytes",
+        refusals::short_record,
+    ),
+    scenario(
+        "gathering_drops",
+        "blocks that go by age, header or other bytes",
+        gathering::drops,
+    ),
+    scenario(
+        "gathering_counts",
+        "reserved NB, block IDs too high, block 0 that comes late",
+        gathering::counts,
+    ),
+    scenario(
+        "gathering_ids",
+        "sixteen DSM IDs side by side, messages that replace each other",
+        gathering::identities,
+    ),
+    scenario(
+        "outcomes",
+        "every outcome of a tag, by fixed and flexible fields",
+        tags::outcomes,
+    ),
+    scenario(
+        "outcome_order",
+        "outcomes in pairs, so that their order shows",
+        tags::outcome_order,
+    ),
+    scenario(
+        "no_flexible",
+        "MACSEQ without a flexible field",
+        tags::no_flexible,
+    ),
+    scenario(
+        "flexible_blocks",
+        "flexible fields in every block",
+        tags::flexible_blocks,
+    ),
+    scenario(
+        "usable_sets",
+        "sets that are not whole, mixed, or came too late",
+        tags::usable_sets,
+    ),
+    scenario(
+        "word_bits",
+        "each bit of words 1 to 5 turned over",
+        tags::word_bits,
+    ),
+    scenario(
+        "field_bits",
+        "each bit of a sub-frame's field turned over",
+        tags::field_bits,
+    ),
+    scenario(
+        "waiting_sets",
+        "words that change while slow tags wait",
+        tags::waiting_sets,
+    ),
+    scenario(
+        "waiting_tags",
+        "slow tags over new roots, new chains, drops and refused sections",
+        tags::waiting_tags,
+    ),
+    scenario(
+        "sizes_1",
+        "every KS and MS with one block",
+        parameters::sizes_1,
+    ),
+    scenario(
+        "sizes_2",
+        "every KS and MS with two blocks",
+        parameters::sizes_2,
+    ),
+    scenario(
+        "sizes_3",
+        "every KS and MS with three blocks",
+        parameters::sizes_3,
+    ),
+    scenario("every_ns", "every NS from 1 to 36", parameters::every_ns),
+    scenario(
+        "gaps",
+        "keys 1,000,000 and 1,000,001 slots past the one held",
+        parameters::gaps,
+    ),
+    scenario(
+        "gap_full",
+        "256 slow tags due at the end of a gap of 1,000,000",
+        parameters::gap_full,
+    ),
+    scenario(
+        "wide_slots",
+        "slots and seconds past 32 bits",
+        parameters::wide_slots,
+    ),
+    scenario(
+        "message_bits",
+        "bits of verdicts, DSM-KROOT and DSM-PKR turned over",
+        parameters::message_bits,
+    ),
+];
+
+pub fn random(seed: u64) -> Run {
+    ALL[0].run(seed)
+}
