@@ -15,3 +15,4 @@ pub mod Calls
 pub mod Answers
 pub mod Log
 pub mod Claim
+pub mod Points
