@@ -246,6 +246,28 @@ impl Loader {
             Err(error) => return fail(&path, 0, format!("the file cannot be read: {error}")),
         };
         let items = syntax::items(&path, &text)?;
+        // a module that leads back to itself finds nothing there
+        self.defined.insert(module.clone(), HashMap::new());
+        let mut scope = HashMap::new();
+        let mut given = HashMap::new();
+        for item in &items {
+            let Item::Use {
+                line,
+                public,
+                path: used,
+                names,
+            } = item
+            else {
+                continue;
+            };
+            for name in names {
+                let meaning = self.meaning(&path, *line, used, name)?;
+                scope.insert(name.clone(), meaning.clone());
+                if *public {
+                    given.insert(name.clone(), meaning);
+                }
+            }
+        }
         let mut own = HashMap::new();
         let mut arities: HashMap<&str, usize> = HashMap::new();
         for item in &items {
@@ -291,27 +313,13 @@ impl Loader {
                 _ => {}
             }
         }
-        self.defined.insert(module.clone(), own.clone());
-        let mut scope = HashMap::new();
-        for item in &items {
-            let Item::Use {
-                line,
-                path: used,
-                names,
-            } = item
-            else {
-                continue;
-            };
-            for name in names {
-                let meaning = self.meaning(&path, *line, used, name)?;
-                scope.insert(name.clone(), meaning);
-            }
-        }
         for (name, meaning) in own {
-            if scope.insert(name.clone(), meaning).is_some() {
+            if scope.insert(name.clone(), meaning.clone()).is_some() {
                 return fail(&path, 0, format!("'{name}' is both used and defined"));
             }
+            given.insert(name, meaning);
         }
+        self.defined.insert(module.clone(), given);
         self.modules.insert(module, Module { path, items, scope });
         Ok(())
     }

@@ -55,6 +55,8 @@ pub struct Clause {
 pub enum Item {
     Use {
         line: usize,
+        /// The names are given on to those who use this module.
+        public: bool,
         path: Vec<String>,
         names: Vec<String>,
     },
@@ -466,7 +468,7 @@ impl<'t> Parser<'t> {
         let mut marked = false;
         loop {
             match self.word() {
-                Some("use") if !marked => {
+                Some("use") => {
                     self.at += 1;
                     let path = self.path()?;
                     self.expect_sign('{')?;
@@ -477,7 +479,12 @@ impl<'t> Parser<'t> {
                     }
                     self.expect_sign('}')?;
                     self.end()?;
-                    return Ok(Some(Item::Use { line, path, names }));
+                    return Ok(Some(Item::Use {
+                        line,
+                        public: marked,
+                        path,
+                        names,
+                    }));
                 }
                 // what a proof may see through plays no part in a run
                 Some("unfolding") if !marked => {
