@@ -73,7 +73,7 @@ impl<'p> Machine<'p> {
             }
             Value::List(list) if list.numbers().is_none() => {
                 let values = list.values().into_iter().map(|value| self.whole(value));
-                Value::List(List::of_values(values.collect()))
+                Value::List(List::of_values(values))
             }
             value => value,
         }
@@ -320,10 +320,7 @@ impl<'p> Machine<'p> {
             }
             Expr::Primitive(primitive, arguments) => self.primitive(*primitive, arguments, base),
             Expr::List(elements, rest) => {
-                let elements: Vec<Value> = elements
-                    .iter()
-                    .map(|element| self.eval(element, base))
-                    .collect();
+                let elements = elements.iter().map(|element| self.eval(element, base));
                 let list = List::of_values(elements);
                 Value::List(match rest {
                     Some(rest) => list.append(&self.list(rest, base)),
@@ -431,7 +428,7 @@ impl<'p> Machine<'p> {
                 };
                 let list = self.list(at(1), base);
                 let values = list.values().into_iter();
-                let values = values.map(|value| self.apply(&function, value)).collect();
+                let values = values.map(|value| self.apply(&function, value));
                 Value::List(List::of_values(values))
             }
         }

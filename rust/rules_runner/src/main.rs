@@ -6,7 +6,7 @@
 
 use rules_runner::machine::with_large_stack;
 use rules_runner::program::Hashes;
-use rules_runner::replay::{records, Replay};
+use rules_runner::replay::replay;
 use rules_runner::rules::Rules;
 use std::error::Error;
 use std::fs;
@@ -39,14 +39,10 @@ fn run(options: &Options) -> Result<(), Box<dyn Error + Send + Sync>> {
     let rules = Rules::load(&options.crates, Hashes::Portable)?;
     let mut input = Vec::new();
     io::stdin().lock().read_to_end(&mut input)?;
-    let mut output = io::stdout().lock();
-    let mut replay = Replay::new(&rules);
-    for record in records(&input) {
-        output.write_all(replay.lines(record).as_bytes())?;
-    }
-    output.flush()?;
+    let (lines, reads) = replay(&rules, &input);
+    io::stdout().lock().write_all(lines.as_bytes())?;
     if let Some(path) = &options.reads {
-        fs::write(path, replay.reads())?;
+        fs::write(path, reads)?;
     }
     Ok(())
 }

@@ -11,7 +11,7 @@ const OUT_OF_RANGE: u64 = 2;
 const NO_START: u64 = 11;
 
 /// A replay of the definitions; the first accepted start begins its list of calls.
-pub struct Replay<'r> {
+struct Replay<'r> {
     rules: &'r Rules,
     run: Run<'r>,
     started: bool,
@@ -29,7 +29,7 @@ fn gst(bytes: &[u8]) -> u32 {
 }
 
 impl<'r> Replay<'r> {
-    pub fn new(rules: &'r Rules) -> Self {
+    fn new(rules: &'r Rules) -> Self {
         Replay {
             rules,
             run: rules.run(),
@@ -64,7 +64,7 @@ impl<'r> Replay<'r> {
     }
 
     /// The lines for the next record.
-    pub fn lines(&mut self, record: &[u8]) -> String {
+    fn lines(&mut self, record: &[u8]) -> String {
         self.place += 1;
         let (first, second, count) = self.answer(record);
         let mut lines = format!("{} {first} {second} {count}\n", self.place);
@@ -79,7 +79,7 @@ impl<'r> Replay<'r> {
 
     /// What all reads give: `A PRN 0 SET IODnav GST_SF` or `A PRN 16` for PRN 1 to 36, then
     /// `W 0 KEYID MESSAGE SIGNATURE TYPE KEY` or `W 14`; `no start` alone before an accepted start.
-    pub fn reads(&self) -> String {
+    fn reads(&self) -> String {
         if !self.started {
             return "no start\n".into();
         }
@@ -109,7 +109,10 @@ impl<'r> Replay<'r> {
     }
 }
 
-/// The records of a replay input; the last may be short.
-pub fn records(input: &[u8]) -> impl Iterator<Item = &[u8]> {
-    input.chunks(INPUT_LEN)
+/// What a replay program prints for an input, and what all reads give after it.
+pub fn replay(rules: &Rules, input: &[u8]) -> (String, String) {
+    let mut replay = Replay::new(rules);
+    let records = input.chunks(INPUT_LEN);
+    let lines = records.map(|record| replay.lines(record)).collect();
+    (lines, replay.reads())
 }

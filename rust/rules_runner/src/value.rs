@@ -67,23 +67,26 @@ impl List {
         }
     }
 
-    pub fn of_values(values: Vec<Value>) -> List {
-        let mut numbers = Vec::with_capacity(values.len());
-        for value in &values {
+    pub fn of_values(values: impl IntoIterator<Item = Value>) -> List {
+        let mut values = values.into_iter();
+        let mut numbers = Vec::with_capacity(values.size_hint().0);
+        for value in &mut values {
             match value {
-                Value::Number(number) => numbers.push(*number),
-                _ => break,
+                Value::Number(number) => numbers.push(number),
+                other => {
+                    let before = numbers.into_iter().map(Value::Number);
+                    let all = before.chain([other]).chain(values);
+                    let all: Vec<Value> = all.collect();
+                    let len = all.len();
+                    return List {
+                        elements: Elements::Values(Rc::new(all)),
+                        from: 0,
+                        len,
+                    };
+                }
             }
         }
-        if numbers.len() == values.len() {
-            return List::of_numbers(numbers);
-        }
-        let len = values.len();
-        List {
-            elements: Elements::Values(Rc::new(values)),
-            from: 0,
-            len,
-        }
+        List::of_numbers(numbers)
     }
 
     pub fn replicate(count: usize, value: Value) -> List {
@@ -174,6 +177,11 @@ impl List {
     pub fn set(self, at: usize, value: Value) -> List {
         if at >= self.len {
             return self;
+        }
+        if let (Some(numbers), Value::Number(number)) = (self.numbers(), &value) {
+            let mut numbers = numbers.to_vec();
+            numbers[at] = *number;
+            return List::of_numbers(numbers);
         }
         let mut values = self.values();
         values[at] = value;
