@@ -2,6 +2,7 @@
 
 use crate::time::Gst;
 use portable_hash::sha256;
+use std::sync::Arc;
 
 /// Key bits for KS codes 0 to 8 (000, table 12).
 pub const KEY_BITS: [usize; 9] = [96, 104, 112, 120, 128, 160, 192, 224, 256];
@@ -9,7 +10,7 @@ pub const KEY_BITS: [usize; 9] = [96, 104, 112, 120, 128, 160, 192, 224, 256];
 pub const TAG_BITS: [usize; 10] = [10, 12, 14, 16, 18, 20, 24, 28, 32, 40];
 
 /// Slots between two stored keys of a chain.
-const STRIDE: u64 = 256;
+const STRIDE: u64 = 32;
 
 /// What DSM-KROOT says of a chain (000, table 7), each field as its code. Any codes can be held, also ones that a
 /// receiver refuses.
@@ -59,8 +60,81 @@ impl Params {
     }
 }
 
-/// A chain with the keys of slots 0 (its root) to its seed key's slot. Every `STRIDE`th key is stored and the others
-/// are computed from these, so that a chain of some millions of slots takes less than a megabyte.
+/// The keys of a chain from its first root to its seed key. Every `STRIDE`th key is stored and the others are computed
+/// from these, so that a million slots take a megabyte at most.
+#[derive(Debug)]
+struct Keys {
+    alpha: [u8; 6],
+    /// Slots of one sub-frame.
+    slots: u64,
+    start: Gst,
+    top: u64,
+    seed: Vec<u8>,
+    /// Keys of slots 0, `STRIDE`, 2 `STRIDE`, ..., one after the other.
+    stored: Vec<u8>,
+}
+
+impl Keys {
+    fn new(alpha: [u8; 6], slots: u64, start: Gst, top: u64, seed: &[u8]) -> Self {
+        let stored = vec![0; top.div_ceil(STRIDE) as usize * seed.len()];
+        let mut keys = Keys {
+            alpha,
+            slots,
+            start,
+            top,
+            seed: seed.to_vec(),
+            stored,
+        };
+        let mut key = seed.to_vec();
+        for slot in (0..top).rev() {
+            keys.step(&mut key, slot);
+            if slot % STRIDE == 0 {
+                let at = (slot / STRIDE) as usize * key.len();
+                keys.stored[at..at + key.len()].copy_from_slice(&key);
+            }
+        }
+        keys
+    }
+
+    /// GST_SF of a slot; the root's lies 30 s before sub-frame 0.
+    fn time(&self, slot: u64) -> Gst {
+        match slot {
+            0 => self.start.plus(-1),
+            m => self.start.plus(((m - 1) / self.slots) as i64),
+        }
+    }
+
+    /// From the key of the slot above to the key of `slot`.
+    fn step(&self, key: &mut [u8], slot: u64) {
+        let (len, mut message) = (key.len(), [0; 42]);
+        message[..len].copy_from_slice(key);
+        message[len..len + 4].copy_from_slice(&self.time(slot).bytes());
+        message[len + 4..len + 10].copy_from_slice(&self.alpha);
+        key.copy_from_slice(&sha256(&message[..len + 10])[..len]);
+    }
+
+    fn key(&self, slot: u64) -> Vec<u8> {
+        assert!(
+            slot <= self.top,
+            "no key of slot {slot}, the chain ends at {}",
+            self.top
+        );
+        let (above, len) = (slot.div_ceil(STRIDE), self.seed.len());
+        let at = above as usize * len;
+        let (mut now, mut key) = match self.stored.get(at..at + len) {
+            Some(key) => (above * STRIDE, key.to_vec()),
+            None => (self.top, self.seed.clone()),
+        };
+        while now > slot {
+            now -= 1;
+            self.step(&mut key, now);
+        }
+        key
+    }
+}
+
+/// A chain with the keys of slots 0 (its root) to its seed key's slot. What it says of itself can be changed, to make
+/// roots that a receiver refuses; its keys stay.
 #[derive(Clone, Debug)]
 pub struct Chain {
     pub params: Params,
@@ -68,32 +142,25 @@ pub struct Chain {
     /// Week and hour of the root.
     pub week: u32,
     pub hour: u32,
-    top: u64,
-    seed: Vec<u8>,
-    stored: Vec<Vec<u8>>,
+    keys: Arc<Keys>,
+    /// The root's slot among the keys.
+    root: u64,
 }
 
 impl Chain {
     /// The chain whose key of slot `top` is `seed`, cut to KS.
     pub fn new(params: Params, ns: u8, week: u32, hour: u32, top: u64, seed: &[u8]) -> Self {
-        let mut key = seed[..params.key_len()].to_vec();
-        let mut chain = Chain {
+        let slots = u64::from(ns) * u64::from(params.nmack);
+        let start = Gst::new(week, hour * 3600);
+        let keys = Keys::new(params.alpha, slots, start, top, &seed[..params.key_len()]);
+        Chain {
             params,
             ns,
             week,
             hour,
-            top,
-            seed: key.clone(),
-            stored: Vec::new(),
-        };
-        for slot in (0..top).rev() {
-            key = chain.step(&key, slot);
-            if slot % STRIDE == 0 {
-                chain.stored.push(key.clone());
-            }
+            keys: Arc::new(keys),
+            root: 0,
         }
-        chain.stored.reverse();
-        chain
     }
 
     /// The root's week and hour: the start of sub-frame 0.
@@ -103,47 +170,22 @@ impl Chain {
 
     /// Slots of one sub-frame.
     pub fn slots(&self) -> u64 {
-        u64::from(self.ns) * u64::from(self.params.nmack)
+        self.keys.slots
     }
 
     /// The highest slot that has a key.
     pub fn top(&self) -> u64 {
-        self.top
+        self.keys.top - self.root
     }
 
-    /// GST_SF of a slot; the root's lies 30 s before sub-frame 0.
+    /// GST_SF of a slot.
     pub fn time(&self, slot: u64) -> Gst {
-        match slot {
-            0 => self.start().plus(-1),
-            m => self.start().plus(((m - 1) / self.slots()) as i64),
-        }
-    }
-
-    /// The key of `slot` from the key of the slot above it.
-    fn step(&self, above: &[u8], slot: u64) -> Vec<u8> {
-        let mut message = above.to_vec();
-        message.extend(self.time(slot).bytes());
-        message.extend(self.params.alpha);
-        sha256(&message)[..self.params.key_len()].to_vec()
+        self.keys.time(self.root + slot)
     }
 
     /// The key of a slot up to [`Chain::top`].
     pub fn key(&self, slot: u64) -> Vec<u8> {
-        assert!(
-            slot <= self.top,
-            "no key of slot {slot}, the chain ends at {}",
-            self.top
-        );
-        let above = slot.div_ceil(STRIDE);
-        let (mut at, mut key) = match self.stored.get(above as usize) {
-            Some(k) => (above * STRIDE, k.clone()),
-            None => (self.top, self.seed.clone()),
-        };
-        while at > slot {
-            at -= 1;
-            key = self.step(&key, at);
-        }
-        key
+        self.keys.key(self.root + slot)
     }
 
     pub fn root(&self) -> Vec<u8> {
@@ -175,16 +217,14 @@ impl Chain {
     /// The same chain seen from a root `hours` later: a floating root (000, 6.3).
     pub fn floating(&self, hours: u32) -> Chain {
         let start = Gst::from_seconds(self.start().seconds() + u64::from(hours) * 3600);
-        let gone = u64::from(hours) * 120 * self.slots();
-        let (week, hour) = (start.week(), start.second() / 3600);
-        Chain::new(
-            self.params,
-            self.ns,
-            week,
-            hour,
-            self.top - gone,
-            &self.seed,
-        )
+        let root = self.root + u64::from(hours) * 120 * self.slots();
+        assert!(root <= self.keys.top, "the chain has ended by then");
+        Chain {
+            week: start.week(),
+            hour: start.second() / 3600,
+            root,
+            ..self.clone()
+        }
     }
 }
 
@@ -254,8 +294,11 @@ mod tests {
         for ks in 0..9 {
             let chain = Chain::new(Params::new(0, 1, ks, 0, 0, [7; 6]), 3, 1, 1, 700, &[9; 32]);
             assert_eq!(chain.root().len() * 8, KEY_BITS[usize::from(ks)]);
-            assert_eq!(chain.step(&chain.key(300), 299), chain.key(299));
-            assert_eq!(chain.step(&chain.key(700), 699), chain.key(699));
+            for slot in [0, 1, 31, 32, 33, 299, 671, 672, 673, 699] {
+                let mut key = chain.key(slot + 1);
+                chain.keys.step(&mut key, slot);
+                assert_eq!(key, chain.key(slot), "slot {slot}");
+            }
         }
     }
 }

@@ -6,11 +6,14 @@
 mod bench;
 mod gathering;
 mod parameters;
+mod random;
 mod realistic;
 mod refusals;
 mod tags;
 
 use crate::replay::Run;
+
+pub use random::random;
 
 /// A named scenario.
 #[derive(Clone, Copy)]
@@ -257,6 +260,11 @@ const ALL: &[Scenario] = &[
         parameters::gaps,
     ),
     scenario(
+        "held_key",
+        "from which key a gap is counted after equal contents and after a new root",
+        parameters::held_key,
+    ),
+    scenario(
         "gap_full",
         "256 slow tags due at the end of a gap of 1,000,000",
         parameters::gap_full,
@@ -273,6 +281,57 @@ const ALL: &[Scenario] = &[
     ),
 ];
 
-pub fn random(seed: u64) -> Run {
-    ALL[0].run(seed)
+#[cfg(test)]
+mod tests {
+    use super::*;
+    use crate::replay::RECORD;
+
+    // Each run has whole records, is the same from the same seed, and states something that it has.
+    #[test]
+    fn structure() {
+        for (n, s) in ALL.iter().enumerate() {
+            let run = s.run(SEED);
+            assert_eq!((run.name.as_str(), run.about.as_str()), (s.name, s.about));
+            assert_eq!(
+                run.bytes.len() % RECORD,
+                if s.name == "short_record" { 255 } else { 0 },
+                "{}",
+                s.name
+            );
+            assert_eq!(run.bytes, s.run(SEED).bytes, "{}", s.name);
+            assert!(!run.expects.answers.is_empty(), "{}", s.name);
+            let places = run.bytes.len().div_ceil(RECORD);
+            assert!(
+                run.expects
+                    .answers
+                    .iter()
+                    .all(|a| (1..=places).contains(&a.0)),
+                "{}",
+                s.name
+            );
+            assert!(
+                ALL[n + 1..].iter().all(|other| other.name != s.name),
+                "{} stands twice",
+                s.name
+            );
+        }
+    }
+
+    #[test]
+    fn another_seed_is_another_signal() {
+        let nominal = find("nominal").unwrap();
+        assert_ne!(nominal.run(1).bytes, nominal.run(2).bytes);
+        assert!(find("nothing").is_none());
+    }
+
+    #[test]
+    fn random_runs() {
+        for seed in 0..40 {
+            let run = random(seed);
+            assert_eq!(run.bytes, random(seed).bytes, "seed {seed}");
+            assert!(seed % 4 > 0 || run.bytes.len() % RECORD == 0, "seed {seed}");
+            assert!(run.places() > 10, "seed {seed}");
+        }
+        assert_ne!(random(1).bytes, random(2).bytes);
+    }
 }

@@ -264,6 +264,55 @@ pub fn gap_full(name: &str, about: &str, seed: u64) -> Run {
     b.run
 }
 
+/// From which key a gap is counted: equal contents leave the held key, a new root takes it back to slot 0.
+pub fn held_key(name: &str, about: &str, seed: u64) -> Run {
+    let mut b = Bench::new(name, about, seed);
+    b.start.marks = [[0; 14]; 2];
+    let params = Params {
+        nmack: 1,
+        ..b.params(0)
+    };
+    let chain = b.chain(params, 30_300);
+    fresh(&mut b, &chain);
+    b.now = chain.start().plus(25_000);
+    reach(&mut b, 1, 0);
+    b.step();
+    let vouch = |b: &mut Bench, chain: &Rc<Chain>| {
+        let root = b.root(b.header, chain);
+        for block in 0..dsm::blocks(&root.dsm) {
+            // Zero keys: these sections are refused.
+            let hkroot = dsm::hkroot(root.header, 4, &root.dsm, block);
+            b.subframe(block as u8 + 1, b.now, &hkroot, &[0; 60]);
+            b.run.gives(0, 12);
+        }
+        b.verdict(&root.verdict, 0);
+        b.step();
+    };
+    vouch(&mut b, &chain);
+    b.now = chain.start().plus(30_000);
+    reach(&mut b, 2, 0);
+    b.step();
+    // The same contents as an hour ago, but for the root: 1,078,561 slots to the section after it.
+    let later = Rc::new(chain.floating(1));
+    vouch(&mut b, &later);
+    b.force = Some(later);
+    b.now = chain.start().plus(30_080);
+    reach(&mut b, 1, 13);
+    b.step();
+    let near = Rc::new(chain.floating(200));
+    let root = b.root(b.header, &near);
+    for block in 0..dsm::blocks(&root.dsm) {
+        let hkroot = dsm::hkroot(root.header, 5, &root.dsm, block);
+        b.subframe(block as u8 + 1, b.now, &hkroot, &[0; 60]);
+        b.run.gives(0, 13);
+    }
+    b.verdict(&root.verdict, 0);
+    b.force = Some(near);
+    b.step();
+    reach(&mut b, 1, 0);
+    b.run
+}
+
 /// Slots and seconds that need more than 32 bits: a root of week 0 and sections thousands of weeks later.
 pub fn wide_slots(name: &str, about: &str, seed: u64) -> Run {
     let mut b = Bench::new(name, about, seed);
