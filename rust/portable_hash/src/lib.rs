@@ -1,8 +1,9 @@
 //! SHA-256 (FIPS 180-4) and HMAC-SHA-256 (FIPS 198-1) in plain, portable Rust.
 //!
-//! Written from the standards for the second receiver, the bench signal and the benchmark. It shares no code and no
-//! table with the proved library, so that the two can be compared. The compression keeps sixteen message words in
-//! place and does sixteen rounds a turn: the fastest portable form that was found.
+//! Written from the standards for the second receiver, the bench signal and the benchmark. It
+//! shares no code and no table with the proved library, so that the two can be compared. The
+//! compression keeps sixteen message words in place and does sixteen rounds a turn: the fastest
+//! portable form that was found.
 
 #![forbid(unsafe_code)]
 

@@ -18,7 +18,7 @@ impl BitString {
     /// Appends the low `width` bits of `value`, the most significant first.
     pub fn push(&mut self, value: u64, width: usize) {
         for bit in (0..width).rev() {
-            if self.len % 8 == 0 {
+            if self.len.is_multiple_of(8) {
                 self.bytes.push(0);
             }
             self.bytes[self.len / 8] |= ((value >> bit & 1) as u8) << (7 - self.len % 8);

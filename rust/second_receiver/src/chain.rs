@@ -1,4 +1,5 @@
-//! The TESLA chain in force: its parameters, root and held key, and the walk down its keys (000, 5.4; 01).
+//! The TESLA chain in force: its parameters, root and held key, and the walk down its keys (000,
+//! 5.4; 01).
 
 use crate::kroot::{ChainParameters, RootFields};
 use crate::times::{RootTime, Slots};
@@ -43,7 +44,8 @@ pub struct Chain {
 }
 
 impl Chain {
-    /// The chain of a message that has passed the checks of a DSM-KROOT. The held key begins at its root.
+    /// The chain of a message that has passed the checks of a DSM-KROOT. The held key begins at its
+    /// root.
     pub fn new(contents: &[u8], ns: u8) -> Chain {
         let fields = RootFields::read(contents);
         let root = TeslaKey::new(&contents[12..]);

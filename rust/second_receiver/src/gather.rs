@@ -84,8 +84,9 @@ impl DsmStore {
             .and_then(|block| block_count(&block.bytes))
     }
 
-    /// The stored blocks are dropped before `new` is stored if the oldest is over 3,600 s old, the header differs,
-    /// the same block ID held other bytes, or `new` is a block 0 whose count is not above every stored ID.
+    /// The stored blocks are dropped before `new` is stored if the oldest is over 3,600 s old, the
+    /// header differs, the same block ID held other bytes, or `new` is a block 0 whose count is not
+    /// above every stored ID.
     fn is_dropped_by(&self, new: &Hkroot, time: Gst) -> bool {
         let stored = || {
             self.blocks
@@ -107,7 +108,7 @@ impl DsmStore {
     }
 
     /// A block comes. The complete DSM, if this block completes it, is taken out.
-    fn add(&mut self, new: &Hkroot, time: Gst) -> Result<Option<Vec<u8>>, Number> {
+    pub fn add(&mut self, new: &Hkroot, time: Gst) -> Result<Option<Vec<u8>>, Number> {
         // A reserved NB drops only its block (A25).
         if new.block_id == 0 && block_count(&new.block).is_none() {
             return Err(WRONG_SIZE);

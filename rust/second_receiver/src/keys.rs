@@ -46,7 +46,8 @@ impl PublicKeys {
         self.0.iter().find(|key| key.id == id)
     }
 
-    /// A proved key with an ID above all held is added; the same key again changes nothing; else 9 (A35, A36).
+    /// A proved key with an ID above all held is added; the same key again changes nothing; else 9
+    /// (A35, A36).
     pub fn add(&mut self, new: PublicKey) -> Result<(), Number> {
         if self.0.iter().all(|key| key.id < new.id) {
             self.0.push(new);

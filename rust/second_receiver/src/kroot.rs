@@ -19,7 +19,8 @@ const KEY_BITS: [usize; 9] = [96, 104, 112, 120, 128, 160, 192, 224, 256];
 /// 000, table 13.
 const TAG_BITS: [usize; 10] = [10, 12, 14, 16, 18, 20, 24, 28, 32, 40];
 
-/// What makes a chain the same chain: CID, parameters and alpha (01, "Verdicts"). Rsvd is none of them (A41).
+/// What makes a chain the same chain: CID, parameters and alpha (01, "Verdicts"). Rsvd is none of
+/// them (A41).
 #[derive(Clone, Debug, PartialEq, Eq)]
 pub struct ChainParameters {
     /// CIDKR.
@@ -46,7 +47,8 @@ impl ChainParameters {
     }
 }
 
-/// The fields of table 7 from CIDKR up to alpha: the first twelve bytes of the contents that are signed.
+/// The fields of table 7 from CIDKR up to alpha: the first twelve bytes of the contents that are
+/// signed.
 #[derive(Clone, Debug, PartialEq, Eq)]
 pub struct RootFields {
     pub parameters: ChainParameters,
@@ -115,7 +117,8 @@ pub fn judge(
     if dsm.len() / BLOCK_LEN != least_count(end) {
         return Err(WRONG_SIZE);
     }
-    // The signed message is the NMA header, then the DSM from byte 1 through KROOT. Padding is not examined.
+    // The signed message is the NMA header, then the DSM from byte 1 through KROOT. Padding is not
+    // examined.
     let mut message = vec![header];
     message.extend_from_slice(&dsm[1..signed_end]);
     Ok(WaitingMessage {

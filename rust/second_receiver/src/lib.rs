@@ -1,7 +1,8 @@
-//! A second receiver of Galileo OSNMA (SIS testing specification v1.1), written from the papers alone.
+//! A second receiver of Galileo OSNMA (SIS testing specification v1.1), written from the papers
+//! alone.
 //!
-//! "01" in a comment is the scope document, "000" the OSNMA specification, "A<n>" an entry of the adopted readings.
-//! One module a topic, each rule in one place:
+//! "01" in a comment is the scope document, "000" the OSNMA specification, "A<n>" an entry of the
+//! adopted readings. One module a topic, each rule in one place:
 //!
 //! - `numbers`: the numbers that calls return;
 //! - `bits`: bit strings read from and written to bytes;

@@ -101,8 +101,8 @@ pub fn applicable(chain: Option<&mut Chain>, header: u8, time: Gst) -> Result<&m
         .ok_or(NO_CHAIN)
 }
 
-/// Checks the keys of a section block by block, each for 13 then 12 (A55), and holds the highest proved key.
-/// The first failing block refuses the whole section.
+/// Checks the keys of a section block by block, each for 13 then 12 (A55), and holds the highest
+/// proved key. The first failing block refuses the whole section.
 pub fn prove_keys(chain: &mut Chain, section: &Section, prn: u8, time: Gst) -> Result<(), Number> {
     let (mut highest, mut highest_slot) = (chain.held, chain.held_slot);
     for (block, &(key, spare_is_zero)) in (1u8..).zip(&section.keys) {
@@ -110,7 +110,8 @@ pub fn prove_keys(chain: &mut Chain, section: &Section, prn: u8, time: Gst) -> R
         if slot > chain.held_slot + MAX_GAP {
             return Err(TOO_FAR);
         }
-        // A key above the highest proved one must hash down to it, a key at or below must equal it hashed down.
+        // A key above the highest proved one must hash down to it, a key at or below must equal it
+        // hashed down.
         let proved = if slot > highest_slot {
             chain.hash_down(&key, slot, highest_slot) == highest
         } else {

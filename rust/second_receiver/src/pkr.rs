@@ -1,4 +1,5 @@
-//! DSM-PKR: its fields, the tree check, and the checks of a complete one (000, 3.4, 5.2, 5.3; 01, HKROOT).
+//! DSM-PKR: its fields, the tree check, and the checks of a complete one (000, 3.4, 5.2, 5.3; 01,
+//! HKROOT).
 
 use crate::gather::{least_count, BLOCK_LEN};
 use crate::keys::{key_len, PublicKey};
@@ -21,8 +22,8 @@ pub enum Proved {
     Emergency,
 }
 
-/// The root that a leaf and its four nodes give: the bits of the message ID, lowest first, say on which side a
-/// node is joined; a 1 puts the node left (000, 5.3).
+/// The root that a leaf and its four nodes give: the bits of the message ID, lowest first, say on
+/// which side a node is joined; a 1 puts the node left (000, 5.3).
 pub fn tree_root<'a>(
     message_id: u8,
     leaf: &[u8],

@@ -53,7 +53,8 @@ pub struct WaitingAnswer {
     pub key_type: u8,
 }
 
-/// A receiver. Before an accepted start, words, sub-frames and verdicts are 11 and reads find nothing.
+/// A receiver. Before an accepted start, words, sub-frames and verdicts are 11 and reads find
+/// nothing.
 #[derive(Clone, Debug, Default, PartialEq, Eq)]
 pub struct Receiver {
     setup: Option<Setup>,
@@ -105,8 +106,9 @@ impl Receiver {
         Receiver::default()
     }
 
-    /// Begins a new list that holds only what is given here. `key` is lent in 67 bytes; what follows a short key is
-    /// not read. A refused start leaves all as before (A7); a stopped receiver can be started (A8).
+    /// Begins a new list that holds only what is given here. `key` is lent in 67 bytes; what
+    /// follows a short key is not read. A refused start leaves all as before (A7); a stopped
+    /// receiver can be started (A8).
     #[allow(clippy::too_many_arguments)]
     pub fn start(
         &mut self,
@@ -174,8 +176,9 @@ impl Receiver {
         Ok(())
     }
 
-    /// The 75 bytes of authentication fields of a sub-frame. Tag records are written to `records`, 3,240 bytes of
-    /// which those past the records stay. Checks 1, 2, 4, 3, 5, then the HKROOT half, then the MACK half.
+    /// The 75 bytes of authentication fields of a sub-frame. Tag records are written to `records`,
+    /// 3,240 bytes of which those past the records stay. Checks 1, 2, 4, 3, 5, then the HKROOT
+    /// half, then the MACK half.
     pub fn subframe(
         &mut self,
         prn: u8,
@@ -295,8 +298,8 @@ impl Receiver {
         ))
     }
 
-    /// The signature chip's verdict, 1 good or 0 bad (A38), on a message of 45 bytes and a signature of 132, short
-    /// ones followed by zeros. Checks 1, 2, 4, 14, 15, 11, 9.
+    /// The signature chip's verdict, 1 good or 0 bad (A38), on a message of 45 bytes and a
+    /// signature of 132, short ones followed by zeros. Checks 1, 2, 4, 14, 15, 11, 9.
     pub fn verdict(&mut self, verdict: u8, key_id: u8, message: &[u8], signature: &[u8]) -> Number {
         number(self.checked_verdict(verdict, key_id, message, signature))
     }
@@ -348,8 +351,8 @@ impl Receiver {
         }
     }
 
-    /// Reads what waits for a verdict into 45, 132 and 67 lent bytes, short ones followed by zeros (A9).
-    /// Checks 1, 14.
+    /// Reads what waits for a verdict into 45, 132 and 67 lent bytes, short ones followed by zeros
+    /// (A9). Checks 1, 14.
     pub fn read_waiting(
         &self,
         message: &mut [u8],

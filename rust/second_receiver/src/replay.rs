@@ -62,8 +62,8 @@ fn answer(receiver: &mut Receiver, record: &[u8; INPUT_LEN], area: &mut [u8]) ->
     }
 }
 
-/// Replays `input` and writes a line a record, then a line for each of its tag records. Gives the receiver as the
-/// last record left it.
+/// Replays `input` and writes a line a record, then a line for each of its tag records. Gives the
+/// receiver as the last record left it.
 pub fn replay(mut input: impl Read, mut output: impl Write) -> io::Result<Receiver> {
     let mut receiver = Receiver::new();
     let mut record = [0; INPUT_LEN];

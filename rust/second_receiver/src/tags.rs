@@ -1,4 +1,5 @@
-//! MACSEQ, the outcomes of tags, waiting tags, authentic sets and tag records (000, 5.5 and 5.6; 01, MACK).
+//! MACSEQ, the outcomes of tags, waiting tags, authentic sets and tag records (000, 5.5 and 5.6;
+//! 01, MACK).
 
 use crate::bits::{take, BitString};
 use crate::chain::Chain;
@@ -46,7 +47,7 @@ impl Marks {
 
     /// The list for a section.
     fn at(&self, time: Gst) -> &[u8; MARKS] {
-        if time.second_of_week() % 60 == 0 {
+        if time.second_of_week().is_multiple_of(60) {
             &self.second_0
         } else {
             &self.second_30
@@ -92,7 +93,7 @@ impl Tag {
     }
 
     /// The slot of this tag's key: the lowest of its block, in the sub-frame of its key (A59).
-    fn key_slot(&self, slots: &Slots) -> u64 {
+    pub fn key_slot(&self, slots: &Slots) -> u64 {
         slots.of_tags(self.key_seconds(), self.block)
     }
 
@@ -111,7 +112,7 @@ impl Tag {
     }
 
     /// Whether the tag is the first MS bits of the MAC.
-    fn matches(&self, set: &NavSet, key: &HmacKey, tag_bits: usize) -> bool {
+    pub fn matches(&self, set: &NavSet, key: &HmacKey, tag_bits: usize) -> bool {
         self.bits == take(&key.mac(&self.message(set)), 0, tag_bits)
     }
 
@@ -229,9 +230,9 @@ impl ProvedSection<'_> {
         tag
     }
 
-    /// MACSEQ is the first 12 bits of the MAC of sender, GST_SF and the MAC-Info of all flexible fields (000, 5.6),
-    /// those of outcome 4 too (A62), under the key of block 1's tags.
-    fn macseq_holds(&self, marks: &[u8; MARKS], key: &HmacKey) -> bool {
+    /// The message of MACSEQ: sender, GST_SF and the MAC-Info of all flexible fields (000, 5.6),
+    /// those of outcome 4 too (A62).
+    pub fn macseq_message(&self, marks: &[u8; MARKS]) -> Vec<u8> {
         let mut message = vec![self.sender];
         message.extend_from_slice(&self.time.0.to_be_bytes());
         for (field, mark) in self.section.fields.iter().zip(marks) {
@@ -239,11 +240,17 @@ impl ProvedSection<'_> {
                 message.extend_from_slice(&field.info.to_be_bytes());
             }
         }
-        let macseq = u64::from(self.section.fields[0].info >> 4);
-        macseq == take(&key.mac(&message), 0, MACSEQ_BITS)
+        message
     }
 
-    /// Judges the waiting tags that are due, in the order in which they came, then the section's own in theirs.
+    /// MACSEQ is the first 12 bits of its message's MAC under the key of block 1's tags.
+    fn macseq_holds(&self, marks: &[u8; MARKS], key: &HmacKey) -> bool {
+        let macseq = u64::from(self.section.fields[0].info >> 4);
+        macseq == take(&key.mac(&self.macseq_message(marks)), 0, MACSEQ_BITS)
+    }
+
+    /// Judges the waiting tags that are due, in the order in which they came, then the section's
+    /// own in theirs.
     pub fn judge(
         &self,
         chain: &Chain,
@@ -252,24 +259,14 @@ impl ProvedSection<'_> {
         waiting: &mut Vec<WaitingTag>,
         authentic: &mut AuthenticSets,
     ) -> Vec<Record> {
-        let (due, later) = std::mem::take(waiting)
+        let (due, later): (Vec<_>, Vec<_>) = std::mem::take(waiting)
             .into_iter()
             .partition(|tag| tag.is_due(chain));
         *waiting = later;
-        let due: Vec<WaitingTag> = due;
-        let own: Vec<Tag> = self
-            .section
-            .fields
-            .iter()
-            .map(|field| self.tag(field))
-            .collect();
 
         let now = self.time.seconds();
-        let block_slots = self
-            .section
-            .fields
-            .iter()
-            .map(|f| chain.slots.of_tags(now, f.block));
+        let fields = &self.section.fields;
+        let block_slots = fields.iter().map(|f| chain.slots.of_tags(now, f.block));
         let due_slots = due.iter().map(|waiting| waiting.tag.key_slot(&chain.slots));
         let keys = tag_keys(chain, block_slots.chain(due_slots).collect());
         let key_of = |tag: &Tag| &keys[&tag.key_slot(&chain.slots)];
@@ -284,11 +281,11 @@ impl ProvedSection<'_> {
         }
         let marks = marks.at(self.time);
         let macseq_holds = self.macseq_holds(marks, &keys[&chain.slots.of_tags(now, 1)]);
-        for (tag, mark) in own.into_iter().zip(marks) {
-            let usable = || words.of(tag.prn).usable(self.time);
+        for (field, mark) in fields.iter().zip(marks) {
+            let tag = self.tag(field);
             let (outcome, set) = match early_outcome(&tag, *mark, macseq_holds) {
                 Some(outcome) => (outcome, None),
-                None => match usable() {
+                None => match words.of(tag.prn).usable(self.time) {
                     None => (Outcome::NoUsableSet, None),
                     Some(set) if delay(tag.adkd) == Some(0) => {
                         (tag.judge(&set, key_of(&tag), self.tag_bits), Some(set))
@@ -312,11 +309,12 @@ impl ProvedSection<'_> {
     }
 }
 
-/// Outcomes 4 and 6, which need no set: ADKD not 0, 11, 12, or not the fixed one, or PRN not 1 to 36; then flexible
-/// and MACSEQ fails.
-fn early_outcome(tag: &Tag, mark: u8, macseq_holds: bool) -> Option<Outcome> {
+/// Outcomes 4 and 6, which need no set: ADKD not 0, 11, 12, or not the fixed one, or PRN not 1 to
+/// 36; then flexible and MACSEQ fails.
+pub fn early_outcome(tag: &Tag, mark: u8, macseq_holds: bool) -> Option<Outcome> {
     let flexible = mark == FLEXIBLE;
-    if delay(tag.adkd).is_none() || !flexible && tag.adkd != mark || !is_prn(tag.prn) {
+    let not_the_fixed_one = !flexible && tag.adkd != mark;
+    if delay(tag.adkd).is_none() || not_the_fixed_one || !is_prn(tag.prn) {
         Some(Outcome::NotTaken)
     } else if flexible && !macseq_holds {
         Some(Outcome::MacseqFails)

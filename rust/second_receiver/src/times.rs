@@ -31,7 +31,7 @@ impl Gst {
 
     /// A multiple of 30 up to 604770, in any week (A2, A3).
     pub fn is_valid(self) -> bool {
-        self.second_of_week() <= LAST_SECOND && self.second_of_week() % 30 == 0
+        self.second_of_week() <= LAST_SECOND && self.second_of_week().is_multiple_of(30)
     }
 
     /// Seconds since week 0; weeks do not roll over.
@@ -76,7 +76,8 @@ impl Slots {
         u64::from(self.ns) * u64::from(self.nmack)
     }
 
-    /// The lowest slot of block `block` (from 1) of the sub-frame at `seconds`: the key of that block's tags.
+    /// The lowest slot of block `block` (from 1) of the sub-frame at `seconds`: the key of that
+    /// block's tags.
     pub fn of_tags(&self, seconds: u64, block: u8) -> u64 {
         let subframe = (seconds - self.start) / SUBFRAME_SECONDS;
         subframe * self.a_subframe() + u64::from(block - 1) * u64::from(self.ns) + 1

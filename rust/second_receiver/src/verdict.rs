@@ -28,7 +28,8 @@ pub fn filled<const N: usize>(short: &[u8]) -> [u8; N] {
 }
 
 impl WaitingMessage {
-    /// Whether a verdict's key ID, message and signature, short ones followed by zeros, are all of this (A39).
+    /// Whether a verdict's key ID, message and signature, short ones followed by zeros, are all of
+    /// this (A39).
     pub fn is(&self, key_id: u8, message: &[u8], signature: &[u8]) -> bool {
         key_id == self.key_id
             && message == filled::<MESSAGE_LEN>(&self.message)
@@ -60,7 +61,8 @@ impl Vouched {
             3 => self.revoke(header_cid(header))?,
             _ => return Err(NO_CHAIN),
         }
-        // Status 1 or 2 drops keys of lower ID, also with contents equal to those in force; status 3 none (A45, A47).
+        // Status 1 or 2 drops keys of lower ID, also with contents equal to those in force; status
+        // 3 none (A45, A47).
         if nma_status(header) != 3 {
             keys.drop_below(waiting.key_id);
         }
@@ -93,7 +95,8 @@ impl Vouched {
                 return Ok(());
             }
         }
-        // What is no repeat must be later than the last root, whether its chain is in force or was dropped.
+        // What is no repeat must be later than the last root, whether its chain is in force or was
+        // dropped.
         if self.last_root.is_some_and(|last| fields.time <= last) {
             return Err(NOT_NEWER);
         }

@@ -80,7 +80,8 @@ impl SatelliteWords {
         }
     }
 
-    /// The set usable for a section at `section`: whole, of one IODnav, all words of earlier sub-frames (A19).
+    /// The set usable for a section at `section`: whole, of one IODnav, all words of earlier
+    /// sub-frames (A19).
     pub fn usable(&self, section: Gst) -> Option<NavSet> {
         let mut words = [[0; WORD_LEN]; 5];
         for (bytes, word) in words.iter_mut().zip(&self.words) {

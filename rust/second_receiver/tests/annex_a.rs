@@ -1,5 +1,5 @@
-//! The test vectors of 000, Annex A. Where our copy prints a value wrongly, the test shows that the printed one does
-//! not fit and that the repaired one does.
+//! The test vectors of 000, Annex A. Where our copy prints a value wrongly, the test shows that the
+//! printed one does not fit and that the repaired one does.
 
 mod common;
 
@@ -9,8 +9,9 @@ use second_receiver::chain::{Chain, TeslaKey};
 use second_receiver::gather::header_cid;
 use second_receiver::keys::PublicKey;
 use second_receiver::kroot::RootFields;
+use second_receiver::mack::{Field, Section};
 use second_receiver::pkr::{self, tree_root, Proved};
-use second_receiver::tags::Tag;
+use second_receiver::tags::{ProvedSection, Tag};
 use second_receiver::times::{Gst, RootTime};
 use second_receiver::words::NavSet;
 
@@ -364,7 +365,8 @@ const PAGE_REPAIRS: [(usize, Repair); 5] = [
     (29, repair(3, "5555", "")),
 ];
 
-/// The CRC of an I/NAV page (OS SIS ICD, CRC-24Q) over even part, bits 0 to 113, and odd part, bits 0 to 81.
+/// The CRC of an I/NAV page (OS SIS ICD, CRC-24Q) over even part, bits 0 to 113, and odd part, bits
+/// 0 to 81.
 fn crc_holds(even: &str, odd: &str) -> bool {
     if (even.len(), odd.len()) != (30, 30) {
         return false;
@@ -457,9 +459,31 @@ fn a_1_5_mac0_and_macseq() {
     let mac = "E5819AB582F2269E68FCB6AB5B368041E4E87F25320905E08EB48113ADEE997A";
     assert_eq!(upper(&hmac_sha256(&key, &hex(&message))), mac);
     assert_ne!(upper(&hmac_sha256(&key, &hex(MAC0_MESSAGE))), mac);
+    let section = Section {
+        fields: [0xC240, 0xFF40, 0x12B0, 0]
+            .into_iter()
+            .zip(1..)
+            .map(|(info, position)| Field {
+                block: 1,
+                position,
+                tag: 0,
+                info,
+            })
+            .collect(),
+        keys: Vec::new(),
+    };
+    let proved = ProvedSection {
+        sender: 18,
+        time: tag.time,
+        status: 2,
+        section: &section,
+        tag_bits: 12,
+    };
+    let marks: [u8; 14] = annex_start().marks_30.try_into().unwrap();
+    assert_eq!(upper(&proved.macseq_message(&marks)), "123B36979EFF4012B0");
     let macseq = "C24C7E4C55A29896758A48657E858425C396C648B3AAC2B199E594F88F40E4B3";
     assert_eq!(
-        upper(&hmac_sha256(&key, &hex("123B36979EFF4012B0"))),
+        upper(&hmac_sha256(&key, &proved.macseq_message(&marks))),
         macseq
     );
     // With word 2 as printed the tag does not match.
@@ -475,7 +499,8 @@ fn a_1_5_mac0_and_macseq() {
     assert_ne!(hmac_sha256(&key, &printed_message)[..2], hex(mac)[..2]);
 }
 
-/// NS 36, MACLT 11 with the four fields a block that the annex's chain has: 00S,FLX,FLX,00E then 00S,00E,00E,00E.
+/// NS 36, MACLT 11 with the four fields a block that the annex's chain has: 00S,FLX,FLX,00E then
+/// 00S,00E,00E,00E.
 fn annex_start() -> Start {
     let mut marks = vec![0; 14];
     (marks[1], marks[2]) = (255, 255);
@@ -492,6 +517,9 @@ fn annex_start() -> Start {
 // A.1.5 through the receiver: E18's section at 947/432030, keys of slots 90 and 126, tag key 73.
 #[test]
 fn a_1_5_through_the_receiver() {
+    let chain = chain();
+    let key_126 = chain.hash_down(&TeslaKey::new(&hex(SEED)), 414_721, 126);
+    let key_90 = chain.hash_down(&key_126, 126, 90);
     let run = |change: fn(&mut String)| {
         let mut bench = Bench::started(&annex_start());
         assert_eq!(
@@ -501,8 +529,6 @@ fn a_1_5_through_the_receiver() {
         let waiting = bench.receiver.waiting_message().unwrap().clone();
         assert_eq!(bench.good(0, &waiting.message, &waiting.signature), 0);
         bench.words(18, gst(947, 432_000), &words_of_e18());
-        let chain = chain();
-        let seed = TeslaKey::new(&hex(SEED));
         let mut bits = "111001011000110000100100".to_string() + "0000";
         bits += "000000000000"; // The second tag's bits are not given.
         bits += "1111111101000000";
@@ -510,9 +536,9 @@ fn a_1_5_through_the_receiver() {
         bits += "0001001010110000";
         bits += &"0".repeat(28);
         change(&mut bits);
-        bits += &binary(chain.hash_down(&seed, 414_721, 90).as_slice());
+        bits += &binary(key_90.as_slice());
         bits += &"0".repeat(112);
-        bits += &binary(chain.hash_down(&seed, 414_721, 126).as_slice());
+        bits += &binary(key_126.as_slice());
         let (number, records) = bench.section(18, gst(947, 432_030), HEADER_A, &packed(&bits));
         assert_eq!(number, 0);
         (bench, records)
@@ -573,7 +599,8 @@ fn levels(leaves: &[Vec<u8>]) -> Vec<Vec<[u8; 32]>> {
     levels
 }
 
-// Tables 28 and 29: all 31 nodes follow from the 16 leaves after the repairs; each value printed wrongly does not.
+// Tables 28 and 29: all 31 nodes follow from the 16 leaves after the repairs; each value printed
+// wrongly does not.
 #[test]
 fn tables_28_and_29_tree() {
     let levels = levels(&leaves());
@@ -634,14 +661,15 @@ fn a_1_7_dsm_pkr() {
         bytes: key,
     });
     assert_eq!(pkr::judge(&dsm, &root), Ok(proved));
-    // The digit could be lost nowhere else: a node that is not the repaired one does not give the root.
+    // The digit could be lost nowhere else: a node that is not the repaired one does not give the
+    // root.
     let mut other = dsm.clone();
     other[97] ^= 1;
     assert_eq!(pkr::judge(&other, &root), Err(10));
 }
 
-// Every leaf of table 29 through the receiver. Leaf 15 is an emergency message with ID 15 and 33 bytes of key: as a
-// DSM-PKR it is 6 (01, row 6), as a bare leaf it gives the root.
+// Every leaf of table 29 through the receiver. Leaf 15 is an emergency message with ID 15 and 33
+// bytes of key: as a DSM-PKR it is 6 (01, row 6), as a bare leaf it gives the root.
 #[test]
 fn a_1_7_every_leaf_through_the_receiver() {
     let leaves = leaves();

@@ -1,5 +1,5 @@
-//! Each condition of 01's table of numbers: a call whose answer is that number, and one next to it whose answer
-//! isn't. Then pairs of conditions, so that the order of checks shows.
+//! Each condition of 01's table of numbers: a call whose answer is that number, and one next to it
+//! whose answer isn't. Then pairs of conditions, so that the order of checks shows.
 
 mod common;
 
@@ -507,7 +507,8 @@ fn number_6_nb_and_block_ids() {
         block_0[0] = nb << 4;
         let number = bench.block(1, T, HEADER, (2, 0), &block_0);
         assert_eq!(number, if reserved { 6 } else { 0 }, "NB {nb}");
-        // The last block completes a DSM under key ID 0, which is not held; then there is no block 0.
+        // The last block completes a DSM under key ID 0, which is not held; then there is no block
+        // 0.
         for id in 1..16 {
             let complete = !reserved && id == nb + 5;
             let number = bench.block(1 + id, T, HEADER, (2, id), &[id; 13]);
@@ -968,7 +969,8 @@ fn number_12_keys_at_and_below_the_held() {
     }
 }
 
-/// A chain of which one key is known at slots `keys`, with NS and NMACK 1: slot s + 1 is that of sub-frame s.
+/// A chain of which one key is known at slots `keys`, with NS and NMACK 1: slot s + 1 is that of
+/// sub-frame s.
 fn far_chain(top: usize) -> TestChain {
     TestChain {
         hour: 0,
@@ -1012,32 +1014,30 @@ fn number_13_gap() {
         chain.keys[1_000_001]
     );
     assert_eq!(far(&near, 1_000_001).0, 13, "slot 1,000,002 from slot 1");
-    // A slot past 32 bits is far, too.
+    // A slot past 32 bits is far, too, where its low 32 bits are near.
+    let chain = TestChain {
+        week: 1,
+        hour: 1,
+        ..TestChain::with(36, 3, (0, 96), (0, 10))
+    }
+    .keyed(1);
     let mut bench = Bench::in_force(
         &Start {
             ns: 36,
             ..Start::default()
         },
-        &TestChain {
-            week: 1,
-            hour: 1,
-            ..TestChain::with(36, 3, (0, 96), (0, 10))
-        }
-        .keyed(1),
+        &chain,
     );
-    for week in 1990..1996 {
-        assert_eq!(
-            bench.section(1, gst(week, 0), HEADER, &[0; 60]).0,
-            13,
-            "week {week}"
-        );
-    }
+    let subframe = 39_768_216;
+    assert_eq!((subframe * 108 + 1) as u32, 33);
+    assert_eq!(bench.section(1, chain.at(subframe), HEADER, &[0; 60]).0, 13);
 }
 
 // Per block first 13, then 12; the gap is counted from the key held when the section came.
 #[test]
 fn order_of_section_checks() {
-    // 36 keys a block and two blocks: block 1 of sub-frame 13888 is slot 999,937 for PRN 1, block 2 slot 999,973.
+    // 36 keys a block and two blocks: block 1 of sub-frame 13888 is slot 999,937 for PRN 1, block 2
+    // slot 999,973.
     let start = Start {
         ns: 36,
         ..Start::default()

@@ -156,7 +156,7 @@ struct Slow<'a>(&'a [u8], u8);
 impl Read for Slow<'_> {
     fn read(&mut self, buffer: &mut [u8]) -> std::io::Result<usize> {
         self.1 = self.1.wrapping_add(1);
-        if self.1 % 7 == 0 {
+        if self.1.is_multiple_of(7) {
             return Err(std::io::ErrorKind::Interrupted.into());
         }
         let n = buffer.len().min(self.0.len()).min(1);
@@ -221,7 +221,8 @@ fn random_bytes() {
     assert!(last.starts_with("100000 "), "{last}");
 }
 
-// The recorded cases with bytes changed and records dropped, doubled and swapped: no panic, and the reads hold.
+// The recorded cases with bytes changed and records dropped, doubled and swapped: no panic, and the
+// reads hold.
 #[test]
 fn damaged_cases() {
     let directory = Path::new(env!("CARGO_MANIFEST_DIR")).join("tests/cases");

@@ -204,11 +204,16 @@ fn outcome_3() {
         bench.receiver.word(2, chain.at(4), &two[missing]);
         assert_eq!(outcome(&bench), 3, "word {} again", missing + 1);
     }
+    // Each bit of the IODnav of each of words 1 to 4.
     for other in 0..4 {
-        let mut bench = bench.clone();
-        bench.words(2, chain.at(2), &two);
-        bench.receiver.word(2, chain.at(3), &words(2, 10, 0)[other]);
-        assert_eq!(outcome(&bench), 3, "another IODnav in word {}", other + 1);
+        for bit in 0..10 {
+            let mut bench = bench.clone();
+            bench.words(2, chain.at(2), &two);
+            bench
+                .receiver
+                .word(2, chain.at(3), &words(2, 9 ^ 1 << bit, 0)[other]);
+            assert_eq!(outcome(&bench), 3, "IODnav bit {bit} in word {}", other + 1);
+        }
     }
     // Word 5 is not tied to an issue; words of years ago are usable.
     let mut bench = bench;
@@ -289,7 +294,8 @@ fn outcome_6() {
     for bit in 12..24 {
         assert_eq!(run(&all, &[1, 3, 6], Some(bit)), failed, "MACSEQ bit {bit}");
     }
-    // The IOD of the first field does not enter MACSEQ; that of a flexible field does, of a fixed one not.
+    // The IOD of the first field does not enter MACSEQ; that of a flexible field does, of a fixed
+    // one not.
     assert_eq!(run(&all, &[1, 3, 6], Some(27)), [1; 8]);
     assert_eq!(run(&all, &[1, 3, 6], Some(28 + 27)), failed);
     assert_eq!(run(&all, &[1, 3, 6], Some(56 + 27)), [1; 8]);
@@ -389,7 +395,8 @@ fn header_of(status: u8) -> u8 {
     status << 6 | HEADER & 0x3F
 }
 
-// A slow tag is due when the held slot reaches its key's, not before: the lowest slot of its own block.
+// A slow tag is due when the held slot reaches its key's, not before: the lowest slot of its own
+// block.
 #[test]
 fn slow_tags_fall_due() {
     for (adkd, delay) in [(11, 1), (12, 10)] {
@@ -460,7 +467,8 @@ fn a_data_change_while_a_slow_tag_waits() {
     assert_eq!(bench.read(2), Err(16));
 }
 
-// An old slow tag does not replace a newer authentic set; of equal times the one judged last stands.
+// An old slow tag does not replace a newer authentic set; of equal times the one judged last
+// stands.
 #[test]
 fn a_newer_authentic_set_stays() {
     let (old, new) = (words(2, 9, 0), words(2, 44, 1));
@@ -482,7 +490,8 @@ fn a_newer_authentic_set_stays() {
         Ok((set(&new), 44, chain.at(6))),
         "the newer set stays"
     );
-    // The same GST_SF: PRN 3's section comes with the old words, then words of an earlier sub-frame, then PRN 2's.
+    // The same GST_SF: PRN 3's section comes with the old words, then words of an earlier
+    // sub-frame, then PRN 2's.
     let (mut bench, chain) = flexible_bench();
     lend(&mut bench, &chain, sent(3, 5), &slow);
     bench.words(2, chain.at(4), &new);
@@ -603,7 +612,8 @@ fn order_of_records() {
     assert_eq!(left, [11, 15]);
 }
 
-// 256 places over all satellites; due tags free theirs before the section's own are placed; 270 records.
+// 256 places over all satellites; due tags free theirs before the section's own are placed; 270
+// records.
 #[test]
 fn places() {
     let chain = TestChain::with(36, 1, (0, 96), (0, 10)).keyed(36 * 40);
@@ -777,7 +787,8 @@ fn over_a_change_of_week() {
     assert_eq!(bench.receiver.waiting_tags().len(), 1);
 }
 
-// 256 tags that fall due at slots of their own after a gap of nearly 1,000,000 cost two walks, not 256.
+// 256 tags that fall due at slots of their own after a gap of nearly 1,000,000 cost two walks, not
+// 256.
 #[test]
 fn many_due_tags_after_a_far_gap() {
     let chain = TestChain {

@@ -4,7 +4,8 @@ mod common;
 
 use common::*;
 
-/// Lends a DSM-KROOT of `chain` under `header` and key `key_id` at `first`, and a good verdict on it.
+/// Lends a DSM-KROOT of `chain` under `header` and key `key_id` at `first`, and a good verdict on
+/// it.
 fn vouch(bench: &mut Bench, chain: &TestChain, header: u8, key_id: u8, first: u32) -> u8 {
     let signature = [first as u8; 64];
     assert_eq!(

@@ -1,5 +1,6 @@
-//! What the tests share: a small chain of their own, sections built from it, and a receiver with its lent area.
-//! Slots, times, messages and bit layouts are worked out here anew, without the receiver's code.
+//! What the tests share: a small chain of their own, sections built from it, and a receiver with
+//! its lent area. Slots, times, messages and bit layouts are worked out here anew, without the
+//! receiver's code.
 
 #![allow(dead_code)]
 
@@ -8,7 +9,7 @@ use second_receiver::receiver::RECORDS_LEN;
 use second_receiver::Receiver;
 
 pub fn hex(text: &str) -> Vec<u8> {
-    assert!(text.len() % 2 == 0, "{} digits", text.len());
+    assert!(text.len().is_multiple_of(2), "{} digits", text.len());
     let digit = |at| u8::from_str_radix(&text[at..at + 2], 16).unwrap();
     (0..text.len()).step_by(2).map(digit).collect()
 }
@@ -105,7 +106,8 @@ pub struct TestChain {
 }
 
 impl TestChain {
-    /// NS 4, NMACK 2, KS 128, MS 12, CID 1, MACLT 7, root at 1000/hour 10, keys of forty sub-frames.
+    /// NS 4, NMACK 2, KS 128, MS 12, CID 1, MACLT 7, root at 1000/hour 10, keys of forty
+    /// sub-frames.
     pub fn usual() -> TestChain {
         TestChain::with(4, 2, (4, 128), (1, 12)).keyed(320)
     }
@@ -143,7 +145,8 @@ impl TestChain {
         self
     }
 
-    /// A later root of the same chain, moved on by whole hours; its keys are those that this chain has left.
+    /// A later root of the same chain, moved on by whole hours; its keys are those that this chain
+    /// has left.
     pub fn floated(&self, hours: u32) -> TestChain {
         let slots = hours as usize * 120 * usize::from(self.ns) * usize::from(self.nmack);
         TestChain {
@@ -199,8 +202,9 @@ impl TestChain {
         (480 / usize::from(self.nmack) - self.key_bits) / (self.tag_bits + 16)
     }
 
-    /// A section of `prn`, sub-frames counted from the root. The fields of all blocks in order; `specs` may be
-    /// short, the rest are tags 0 of PRN 0. `flexible` are the places that MACSEQ covers.
+    /// A section of `prn`, sub-frames counted from the root. The fields of all blocks in order;
+    /// `specs` may be short, the rest are tags 0 of PRN 0. `flexible` are the places that MACSEQ
+    /// covers.
     pub fn section(&self, sent: Sent, specs: &[Spec], flexible: &[usize]) -> Vec<u8> {
         let block_bits = 480 / usize::from(self.nmack);
         let n = self.block_fields();
@@ -313,7 +317,8 @@ pub struct Start {
 }
 
 impl Default for Start {
-    /// NS 4, key 3 of type 1, MACLT 7; every field of second 0 is fixed to ADKD 0, those of second 30 are flexible.
+    /// NS 4, key 3 of type 1, MACLT 7; every field of second 0 is fixed to ADKD 0, those of second
+    /// 30 are flexible.
     fn default() -> Start {
         let mut marks_30 = vec![255; 14];
         marks_30[0] = 0;
@@ -346,7 +351,7 @@ impl Start {
 }
 
 /// Operational, CID 1, CPKS nominal: the header of most sub-frames here.
-pub const HEADER: u8 = 0b10_01_001_0;
+pub const HEADER: u8 = 0b1001_0010;
 
 /// A receiver with its lent record area.
 #[derive(Clone)]
@@ -368,7 +373,8 @@ impl Bench {
         }
     }
 
-    /// Started, with `chain` in force under key 3 of type 1 by blocks of PRN 36 that end just before sub-frame 0.
+    /// Started, with `chain` in force under key 3 of type 1 by blocks of PRN 36 that end just
+    /// before sub-frame 0.
     pub fn in_force(start: &Start, chain: &TestChain) -> Bench {
         let mut bench = Bench::started(start);
         let dsm = chain.dsm(3, &[9; 64]);
@@ -384,7 +390,8 @@ impl Bench {
         (Bench::in_force(&Start::default(), &chain), chain)
     }
 
-    /// Lends a sub-frame; its numbers and its tag records. Checks that the bytes past the records stay.
+    /// Lends a sub-frame; its numbers and its tag records. Checks that the bytes past the records
+    /// stay.
     pub fn subframe(
         &mut self,
         prn: u8,
@@ -409,7 +416,8 @@ impl Bench {
              .0
     }
 
-    /// Lends the blocks of a DSM from one satellite in a row; the last HKROOT number, those before being 0.
+    /// Lends the blocks of a DSM from one satellite in a row; the last HKROOT number, those before
+    /// being 0.
     pub fn dsm(&mut self, prn: u8, first: u32, header: u8, dsm_id: u8, dsm: &[u8]) -> u8 {
         let mut last = 0;
         for (i, block) in dsm.chunks(13).enumerate() {
@@ -444,7 +452,7 @@ impl Bench {
         let time = chain.at(subframe as i64);
         // The usual marks: all flexible at second 30, none at second 0.
         let count = chain.block_fields() * usize::from(chain.nmack);
-        let flexible: Vec<usize> = if time % 60 == 0 {
+        let flexible: Vec<usize> = if (time & 0xF_FFFF).is_multiple_of(60) {
             vec![]
         } else {
             (1..count).collect()
