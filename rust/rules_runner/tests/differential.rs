@@ -9,10 +9,12 @@ use rules_runner::rules::Rules;
 use second_receiver::replay as second;
 use signal::replay::Run;
 use signal::scenario;
+use std::collections::HashSet;
 
-/// Named runs that take seconds to minutes here: by their length, or by long ways down the key chain.
-const LONG: [&str; 9] = [
+/// Named runs that take long here: by their length, or by long ways down the key chain.
+const LONG: [&str; 12] = [
     "every_ns",
+    "field_bits",
     "fitter",
     "full_sky",
     "gap_full",
@@ -20,11 +22,18 @@ const LONG: [&str; 9] = [
     "message_bits",
     "outcomes",
     "sections",
+    "sizes_1",
+    "sizes_2",
     "word_bits",
 ];
 
-/// Seeds of the random mixes.
-const SEEDS: std::ops::Range<u64> = 0..200;
+/// Random mixes that are run.
+const MIXES: u64 = 100;
+
+/// Seeds that lie far apart.
+fn seed(at: u64) -> u64 {
+    at * 1_000_003 + 17
+}
 
 /// Where the two part on a run.
 fn difference(rules: &Rules, run: &Run) -> Option<String> {
@@ -68,7 +77,11 @@ fn long_named_runs() {
     check(named(true));
 }
 
+// Each seed gives a run of its own.
 #[test]
 fn random_mixes() {
-    check(SEEDS.map(scenario::random));
+    let runs: Vec<Run> = (0..MIXES).map(|at| scenario::random(seed(at))).collect();
+    let inputs: HashSet<&[u8]> = runs.iter().map(|run| &run.bytes[..]).collect();
+    assert_eq!(inputs.len(), runs.len(), "different runs");
+    check(runs.into_iter());
 }

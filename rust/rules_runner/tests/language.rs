@@ -78,7 +78,7 @@ fn operators() {
     assert_eq!(term("c", "ℕ", "100 / 7 % 5 * 2"), "8");
     assert_eq!(term("d", "ℕ", "3 - 5 + 1"), "1");
     assert_eq!(
-        term("e", "List ℕ", "1 + 1 ∷ 2 * 3 ∷ [] ++ (0x1f ∷ [])"),
+        term("e", "List ℕ", "(1 + 1) ∷ 2 * 3 ∷ [] ++ (0x1f ∷ [])"),
         "2 6 31"
     );
     assert_eq!(term("f", "Bool", "true || false && false"), "true");
