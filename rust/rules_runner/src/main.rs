@@ -1,0 +1,62 @@
+//! The replay program over the definitions: records on standard input, lines on standard output.
+//! With `--reads FILE` it also writes to FILE what every read gives after the last record; `--crates DIR` names the
+//! folder of crates whose definitions are run.
+
+#![forbid(unsafe_code)]
+
+use rules_runner::machine::with_large_stack;
+use rules_runner::program::Hashes;
+use rules_runner::replay::replay;
+use rules_runner::rules::Rules;
+use std::error::Error;
+use std::fs;
+use std::io::{self, Read, Write};
+use std::path::PathBuf;
+use std::process::ExitCode;
+
+struct Options {
+    crates: PathBuf,
+    reads: Option<PathBuf>,
+}
+
+fn options() -> Option<Options> {
+    let mut options = Options {
+        crates: concat!(env!("CARGO_MANIFEST_DIR"), "/../../crates").into(),
+        reads: None,
+    };
+    let mut arguments = std::env::args().skip(1);
+    while let Some(argument) = arguments.next() {
+        match argument.as_str() {
+            "--crates" => options.crates = arguments.next()?.into(),
+            "--reads" => options.reads = Some(arguments.next()?.into()),
+            _ => return None,
+        }
+    }
+    Some(options)
+}
+
+fn run(options: &Options) -> Result<(), Box<dyn Error + Send + Sync>> {
+    let rules = Rules::load(&options.crates, Hashes::Portable)?;
+    let mut input = Vec::new();
+    io::stdin().lock().read_to_end(&mut input)?;
+    let (lines, reads) = replay(&rules, &input);
+    io::stdout().lock().write_all(lines.as_bytes())?;
+    if let Some(path) = &options.reads {
+        fs::write(path, reads)?;
+    }
+    Ok(())
+}
+
+fn main() -> ExitCode {
+    let Some(options) = options() else {
+        eprintln!("usage: rules_runner [--crates DIR] [--reads FILE] < INPUT");
+        return ExitCode::from(2);
+    };
+    match with_large_stack(|| run(&options)) {
+        Ok(()) => ExitCode::SUCCESS,
+        Err(error) => {
+            eprintln!("rules_runner: {error}");
+            ExitCode::FAILURE
+        }
+    }
+}

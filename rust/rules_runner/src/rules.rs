@@ -1,0 +1,281 @@
+//! The calls of 01 as the definitions state them (crates/rules/specs/Calls.antt), on a state that is a value.
+
+use crate::machine::Machine;
+use crate::program::{Hashes, Program};
+use crate::syntax::Result;
+use crate::value::{List, Record, Value};
+use std::path::Path;
+use std::rc::Rc;
+
+/// Bytes lent for tag records, and of one of them.
+pub const AREA_LEN: usize = 3240;
+pub const RECORD_LEN: usize = 12;
+
+pub struct Rules {
+    program: Program,
+}
+
+/// What a sub-frame answers; its tag records stand in the lent area.
+pub struct SubframeAnswer {
+    pub hkroot: u64,
+    pub mack: u64,
+    pub records: usize,
+}
+
+pub struct SetAnswer {
+    pub number: u64,
+    pub set: Vec<u8>,
+    pub iodnav: u64,
+    pub time: u64,
+}
+
+pub struct OfferAnswer {
+    pub number: u64,
+    pub message: Vec<u8>,
+    pub signature: Vec<u8>,
+    pub key: Vec<u8>,
+    pub id: u64,
+    pub key_type: u64,
+}
+
+/// A run of the definitions: the state that the last call left.
+pub struct Run<'r> {
+    rules: &'r Rules,
+    state: Value,
+    area: Value,
+}
+
+fn list(bytes: &[u8]) -> Value {
+    let numbers = bytes.iter().map(|&byte| byte.into()).collect();
+    Value::List(List::of_numbers(numbers))
+}
+
+fn zeros(len: usize) -> Value {
+    Value::List(List::of_numbers(vec![0; len]))
+}
+
+fn number(value: u8) -> Value {
+    Value::Number(value.into())
+}
+
+fn bytes(value: &Value) -> Vec<u8> {
+    let Value::List(list) = value else {
+        panic!("{value:?} is no list");
+    };
+    let numbers = list.numbers().expect("a list of numbers");
+    let byte = |&number| u8::try_from(number).expect("a byte");
+    numbers.iter().map(byte).collect()
+}
+
+impl Rules {
+    /// Reads the definitions under the folder of crates.
+    pub fn load(crates: &Path, hashes: Hashes) -> Result<Rules> {
+        let program = Program::load(crates, "rules", "Calls", hashes)?;
+        Ok(Rules { program })
+    }
+
+    pub fn program(&self) -> &Program {
+        &self.program
+    }
+
+    fn call(&self, name: &str, arguments: Vec<Value>) -> Value {
+        let mut machine = Machine::new(&self.program);
+        let value = machine.call(self.program.function(name), arguments);
+        machine.whole(value)
+    }
+
+    fn record(&self, fields: Vec<(&str, Value)>) -> Value {
+        let labels = fields
+            .iter()
+            .map(|(name, _)| self.program.label(name))
+            .collect();
+        let fields = fields.into_iter().map(|(_, value)| value).collect();
+        Value::Record(Rc::new(Record { labels, fields }))
+    }
+
+    fn field(&self, value: &Value, name: &str) -> Value {
+        let Value::Record(record) = value else {
+            panic!("{value:?} is no record");
+        };
+        let field = record.field(self.program.label(name));
+        field.unwrap_or_else(|| panic!("no field '{name}'")).clone()
+    }
+
+    fn number(&self, value: &Value, name: &str) -> u64 {
+        match self.field(value, name) {
+            Value::Number(number) => number,
+            value => panic!("{value:?} is no number"),
+        }
+    }
+
+    fn bytes(&self, value: &Value, name: &str) -> Vec<u8> {
+        bytes(&self.field(value, name))
+    }
+
+    /// Regions of the right lengths, before any start.
+    fn unstarted(&self) -> Value {
+        let state = self.record(vec![
+            ("config", zeros(63)),
+            ("clocks", zeros(73)),
+            (
+                "nav",
+                self.record(vec![("words", zeros(2880)), ("times", zeros(180))]),
+            ),
+            (
+                "store",
+                self.record(vec![
+                    ("blocks", zeros(3328)),
+                    ("headers", zeros(16)),
+                    ("marks", zeros(16)),
+                    ("times", zeros(16)),
+                ]),
+            ),
+            ("keys", zeros(1088)),
+            ("offer", zeros(179)),
+            ("chain", zeros(45)),
+            (
+                "tesla",
+                self.record(vec![
+                    ("numbers", zeros(2)),
+                    ("key", zeros(32)),
+                    ("waiting", zeros(21504)),
+                ]),
+            ),
+            (
+                "auth",
+                self.record(vec![("sets", zeros(2484)), ("times", zeros(36))]),
+            ),
+        ]);
+        let shaped = self.call("rules.State.shaped", vec![state.clone()]);
+        assert!(matches!(shaped, Value::Bool(true)), "a region's length");
+        state
+    }
+
+    /// The bytes of a public key of a type (01, "a key of 29, 33, 49 or 67 bytes").
+    pub fn key_len(&self, key_type: u64) -> usize {
+        match self.call("rules.Keys.keyLength", vec![Value::Number(key_type)]) {
+            Value::Number(len) => len as usize,
+            value => panic!("{value:?} is no number"),
+        }
+    }
+
+    /// SHA-256 and HMAC-SHA-256 as they are defined.
+    pub fn sha256(&self, message: &[u8]) -> Vec<u8> {
+        bytes(&self.call("sha256.Sha256.sha256", vec![list(message)]))
+    }
+
+    pub fn hmac(&self, key: &[u8], message: &[u8]) -> Vec<u8> {
+        bytes(&self.call("hmac.Hmac.hmac", vec![list(key), list(message)]))
+    }
+
+    pub fn run(&self) -> Run<'_> {
+        Run {
+            rules: self,
+            state: self.unstarted(),
+            area: zeros(AREA_LEN),
+        }
+    }
+}
+
+impl Run<'_> {
+    fn told(&mut self, call: &str, input: Vec<(&str, Value)>) -> u64 {
+        let input = self.rules.record(input);
+        let told = self.rules.call(call, vec![self.state.clone(), input]);
+        self.state = self.rules.field(&told, "state");
+        self.rules.number(&told, "code")
+    }
+
+    #[allow(clippy::too_many_arguments)]
+    pub fn start(
+        &mut self,
+        ns: u8,
+        id: u8,
+        key_type: u8,
+        maclt: u8,
+        marks: &[u8],
+        root: &[u8],
+        key: &[u8],
+    ) -> u64 {
+        self.told(
+            "rules.Calls.startCall",
+            vec![
+                ("ns", number(ns)),
+                ("id", number(id)),
+                ("type", number(key_type)),
+                ("maclt", number(maclt)),
+                ("marks", list(marks)),
+                ("root", list(root)),
+                ("key", list(key)),
+            ],
+        )
+    }
+
+    pub fn word(&mut self, prn: u8, time: u32, word: &[u8]) -> u64 {
+        self.told(
+            "rules.Calls.wordCall",
+            vec![
+                ("prn", number(prn)),
+                ("time", Value::Number(time.into())),
+                ("bytes", list(word)),
+            ],
+        )
+    }
+
+    pub fn verdict(&mut self, good: u8, id: u8, message: &[u8], signature: &[u8]) -> u64 {
+        self.told(
+            "rules.Calls.verdictCall",
+            vec![
+                ("good", number(good)),
+                ("id", number(id)),
+                ("message", list(message)),
+                ("signature", list(signature)),
+            ],
+        )
+    }
+
+    pub fn subframe(&mut self, prn: u8, time: u32, fields: &[u8]) -> SubframeAnswer {
+        let input = self.rules.record(vec![
+            ("prn", number(prn)),
+            ("time", Value::Number(time.into())),
+            ("bytes", list(fields)),
+        ]);
+        let arguments = vec![self.state.clone(), self.area.clone(), input];
+        let told = self.rules.call("rules.Calls.subframeCall", arguments);
+        self.state = self.rules.field(&told, "state");
+        self.area = self.rules.field(&told, "area");
+        SubframeAnswer {
+            hkroot: self.rules.number(&told, "hkroot"),
+            mack: self.rules.number(&told, "mack"),
+            records: self.rules.number(&told, "count") as usize,
+        }
+    }
+
+    /// The lent area of tag records as the last sub-frame left it.
+    pub fn area(&self) -> Vec<u8> {
+        bytes(&self.area)
+    }
+
+    pub fn read_set(&self, prn: u8) -> SetAnswer {
+        let arguments = vec![self.state.clone(), number(prn), zeros(69)];
+        let read = self.rules.call("rules.Calls.setRead", arguments);
+        SetAnswer {
+            number: self.rules.number(&read, "code"),
+            set: self.rules.bytes(&read, "out"),
+            iodnav: self.rules.number(&read, "issue"),
+            time: self.rules.number(&read, "time"),
+        }
+    }
+
+    pub fn read_offer(&self) -> OfferAnswer {
+        let arguments = vec![self.state.clone(), zeros(45), zeros(132), zeros(67)];
+        let read = self.rules.call("rules.Calls.offerRead", arguments);
+        OfferAnswer {
+            number: self.rules.number(&read, "code"),
+            message: self.rules.bytes(&read, "message"),
+            signature: self.rules.bytes(&read, "signature"),
+            key: self.rules.bytes(&read, "key"),
+            id: self.rules.number(&read, "id"),
+            key_type: self.rules.number(&read, "type"),
+        }
+    }
+}

@@ -1,0 +1,32 @@
+//! What the tests share: the definitions of this repository, and where two outputs part.
+
+use rules_runner::machine::with_large_stack;
+use rules_runner::program::Hashes;
+use rules_runner::rules::Rules;
+use std::path::{Path, PathBuf};
+
+pub fn crates() -> PathBuf {
+    Path::new(env!("CARGO_MANIFEST_DIR")).join("../../crates")
+}
+
+/// Gives `work` the definitions, on a large stack.
+pub fn with_rules<T: Send>(hashes: Hashes, work: impl FnOnce(&Rules) -> T + Send) -> T {
+    with_large_stack(|| match Rules::load(&crates(), hashes) {
+        Ok(rules) => work(&rules),
+        Err(error) => panic!("{error}"),
+    })
+}
+
+/// The first line in which two outputs differ.
+#[allow(dead_code)]
+pub fn first_difference(got: &str, want: &str) -> Option<String> {
+    let (mut got, mut want) = (got.split('\n'), want.split('\n'));
+    for line in 1.. {
+        match (got.next(), want.next()) {
+            (None, None) => break,
+            (g, w) if g == w => {}
+            (g, w) => return Some(format!("line {line}: got {g:?}, want {w:?}")),
+        }
+    }
+    None
+}
