@@ -1,7 +1,7 @@
 // The published examples of SHA-256 (FIPS 180-4's example values and NIST's additional ones) and of HMAC (RFC 4231).
 // Each line names the example and gives the code; the expected output is the documents'.
 use libc::STDOUT_FILENO;
-ghost use Prim.Native.Nat.{_<_, _^_};
+ghost use Prim.Native.Nat.{_<_, _≤_, _^_};
 ghost use lib.ListN.{length};
 
 fn main() {
@@ -12,10 +12,12 @@ fn main() {
     hmac_long_keys();
 }
 
-// The bytes of d in hexadecimal, and an end of line.
-fn print(d: &[u8]) {
+// The first n bytes of d in hexadecimal, and an end of line.
+fn print(d: &[u8], n: usize)
+    requires { ⌜ n ≤ length (now d) ⌝ }
+{
     let mut i: usize = 0;
-    while i < d.len() {
+    while i < n {
         io::print_hex(STDOUT_FILENO, wide(d[i]), 2);
         i += 1;
     }
@@ -31,7 +33,7 @@ fn sha(label: &[u8], m: &[u8])
 {
     io::write_all(STDOUT_FILENO, label);
     let d = sha256::sha256(m);
-    print(&d);
+    print(&d, 32);
 }
 
 fn sha_messages() {
@@ -78,7 +80,7 @@ fn million(label: &[u8], x: u8) {
         n += 1;
     }
     let d = sha256::finish(h, 15625, b"", b"");
-    print(&d);
+    print(&d, 32);
 }
 
 fn sha_of_two(label: &[u8], a: &[u8], b: &[u8])
@@ -86,7 +88,7 @@ fn sha_of_two(label: &[u8], a: &[u8], b: &[u8])
 {
     io::write_all(STDOUT_FILENO, label);
     let d = sha256::sha256_of_two(a, b);
-    print(&d);
+    print(&d, 32);
 }
 
 fn sha_in_parts() {
@@ -96,8 +98,9 @@ fn sha_in_parts() {
         b"abcdefghbcdefghicdefghijdefghijkefghijklfghijklmghijklmnhijklmnoijklmno",
         b"pjklmnopqklmnopqrlmnopqrsmnopqrstnopqrstu",
     );
-    let zeros = [0u8; 1000];
-    sha_of_two(b"1000 zeros in two ", &zeros[..3], &zeros[3..]);
+    let three = [0u8; 3];
+    let others = [0u8; 997];
+    sha_of_two(b"1000 zeros in two ", &three, &others);
 }
 
 // The code of m under k, with the key new, and with the key kept: the first n bytes of each.
@@ -106,10 +109,10 @@ fn mac(label: &[u8], k: &[u8], m: &[u8], n: usize)
 {
     io::write_all(STDOUT_FILENO, label);
     let d = hmac::hmac(k, m);
-    print(&d[..n]);
+    print(&d, n);
     io::write_all(STDOUT_FILENO, label);
     let e = hmac::hmac_with(hmac::hmac_key(k), m);
-    print(&e[..n]);
+    print(&e, n);
 }
 
 fn hmac_short_keys() {
