@@ -1,7 +1,7 @@
 -- `navdata::set_issue` meets its contract: ten bits fit.
 -- Assumes nothing.
+use Prim.Native.Nat.{_<_, _^_}
 use native.Mathlib.Omega.{arith}
-use denote.Ref.{now}
 use Rattle.rules.specs.Words.{setIssue}
 use Rattle.bitfields.proofs.Fields.{bits-lt}
 use borrow.Author.Needs.{needs}
@@ -9,7 +9,9 @@ use Rattle.navdata.proofs.set_issue.Statement.{statement}
 use Rattle.navdata.proofs.set_issue.Tie as tie
 
 cast-result : tie.Need-cast-result
-cast-result c = omega (arith, c .bits-at .ensures, bits-lt (now (c .before .before .args .set)) 0 10)
+cast-result c =
+    let h : c .bits-at .result < 2 ^ 10 = rw (c .bits-at .ensures) (bits-lt _ _ _) in
+    omega arith
 
 returns : tie.Need-returns
 unfolding setIssue
