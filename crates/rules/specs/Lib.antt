@@ -13,3 +13,5 @@ pub mod Tags
 pub mod Verdict
 pub mod Calls
 pub mod Answers
+pub mod Log
+pub mod Claim

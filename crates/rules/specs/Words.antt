@@ -53,27 +53,33 @@ setOf words prn = setBytes (wordAt words prn 1) (wordAt words prn 2) (wordAt wor
 unfoldable pub setIssue : List ℕ → ℕ
 setIssue s = bits s 0 10
 
--- a word is held, and "came in earlier sub-frames" than t (A19)
-unfoldable pub cameBefore : List ℕ → ℕ → ℕ → ℕ → Bool
-cameBefore times prn t kind = within 1 t (getD times (wordPlace prn kind) 0)
+-- a word of a type that was answered 0, and the stamp of its sub-frame: 0 where none came
+pub record Came : Type 0 where
+  pub bytes : List ℕ
+  pub stamp : ℕ
+
+unfoldable pub wordCame : Nav → ℕ → ℕ → Came
+wordCame n prn kind = record { bytes = wordAt (n .words) prn kind; stamp = getD (n .times) (wordPlace prn kind) 0 }
+
+-- a word is there, and "came in earlier sub-frames" than t (A19)
+unfoldable pub cameBefore : ℕ → Came → Bool
+cameBefore t w = within 1 t (w .stamp)
 
 -- words 1 to 4 have "one IODnav"
-unfoldable pub oneIssue : List ℕ → ℕ → Bool
-oneIssue words prn =
+unfoldable pub oneIssue : Came → Came → Came → Came → Bool
+oneIssue w1 w2 w3 w4 =
     allOf
-    (eqb (wordIssue (wordAt words prn 2)) (wordIssue (wordAt words prn 1))
-    ∷ eqb (wordIssue (wordAt words prn 3)) (wordIssue (wordAt words prn 1))
-    ∷ eqb (wordIssue (wordAt words prn 4)) (wordIssue (wordAt words prn 1))
+    (eqb (wordIssue (w2 .bytes)) (wordIssue (w1 .bytes))
+    ∷ eqb (wordIssue (w3 .bytes)) (wordIssue (w1 .bytes))
+    ∷ eqb (wordIssue (w4 .bytes)) (wordIssue (w1 .bytes))
     ∷ [])
 
 -- "A set is usable for a section if it is whole, has one IODnav, and all five words came in earlier sub-frames"
-unfoldable pub usable : Nav → ℕ → ℕ → Bool
-usable n prn t =
+unfoldable pub setUsable : ℕ → Came → Came → Came → Came → Came → Bool
+setUsable t w1 w2 w3 w4 w5 =
     allOf
-    (cameBefore (n .times) prn t 1
-    ∷ cameBefore (n .times) prn t 2
-    ∷ cameBefore (n .times) prn t 3
-    ∷ cameBefore (n .times) prn t 4
-    ∷ cameBefore (n .times) prn t 5
-    ∷ oneIssue (n .words) prn
-    ∷ [])
+    (cameBefore t w1 ∷ cameBefore t w2 ∷ cameBefore t w3 ∷ cameBefore t w4 ∷ cameBefore t w5 ∷ oneIssue w1 w2 w3 w4 ∷ [])
+
+-- the satellite's held words, for a section at t
+unfoldable pub usable : Nav → ℕ → ℕ → Bool
+usable n prn t = setUsable t (wordCame n prn 1) (wordCame n prn 2) (wordCame n prn 3) (wordCame n prn 4) (wordCame n prn 5)
