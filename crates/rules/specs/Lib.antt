@@ -15,3 +15,5 @@ pub mod Calls
 pub mod Answers
 pub mod Log
 pub mod Claim
+pub mod Points
+pub mod Orders

@@ -1,0 +1,83 @@
+-- The points that 01 marks P ("Known points"): what the rules give, and what 01 says. One table; proofs/Points.antt shows that it is right.
+use Prim.Native.Nat.{ℕ, zero, suc, _+_, _*_}
+use mathlib.Core.Path.{_≡_}
+use mathlib.Core.Bool.{Bool, cond}
+use mathlib.Core.List.{List, [], _∷_}
+use lib.ListN.{length, replicate}
+use Rattle.laws.specs.Refusal.{Check, refuse, firstOf}
+use Rattle.rules.specs.Calls.{Start, Subframe, fresh, subframeChecks}
+use Rattle.rules.specs.Gather.{blocksFor, gathered}
+use Rattle.rules.specs.Kroot.{fieldsFor, krootChecks}
+use Rattle.rules.specs.Mack.{tooFar}
+use Rattle.rules.specs.State.{Store}
+use Rattle.rules.specs.Times.{gst, slotOf, hourSeconds, tagSlot}
+
+-- a point: what a rule gives at some arguments, and what 01 says that it is
+pub record Point : Type 0 where
+  pub rule : ℕ
+  pub says : ℕ
+
+abbrev pub point : ℕ → ℕ → Point
+point rule says = record { rule = rule; says = says }
+
+-- the slot of the key that E`prn` sends, with NS 36 and NMACK 2
+abbrev pub slot36 : ℕ → ℕ → ℕ → ℕ
+slot36 s b prn = slotOf 36 2 s b prn
+
+-- the number for a sub-frame at this second of week 947, to a core that has just started
+abbrev pub blankStart : Start
+blankStart = record { ns = 36; id = 0; type = 0; maclt = 0; marks = replicate 28 0; root = replicate 32 0; key = replicate 67 0 }
+
+abbrev pub numberAtSecond : ℕ → ℕ
+numberAtSecond second =
+    firstOf (subframeChecks (fresh blankStart) (replicate 3240 0) (record { prn = 18; time = gst 947 second; bytes = replicate 75 1 }))
+
+-- the number for a first block 0 with this NB
+abbrev pub numberForBlocks : ℕ → ℕ
+numberForBlocks nb =
+    (gathered (record { blocks = replicate 3328 0; headers = replicate 16 0; marks = replicate 16 0; times = replicate 16 0 }) (gst 947 432000) (0x52 ∷ 0 ∷ nb * 16 ∷ replicate 12 0)) .code
+
+-- the number for a DSM-KROOT of KS 128, NMACK 3 and this MS code, under a held key of type 0: 7 blocks, the rest zeros
+abbrev pub numberForTagSize : ℕ → ℕ
+numberForTagSize ms =
+    firstOf (krootChecks (1 ∷ []) 0 (0x10 ∷ 0x30 ∷ (4 * 16 + ms) ∷ 0 ∷ 0x03 ∷ 0xB3 ∷ 0x78 ∷ replicate 84 0))
+
+-- the number for a key this far past the held one: the first entry of a block's checks
+abbrev pub numberForGap : ℕ → ℕ
+numberForGap gap = firstOf (refuse (tooFar 5 (5 + gap)) 13 ∷ [])
+
+abbrev pub points : List Point
+points =
+    -- "NS 36, NMACK 2: P E02 in sub-frame 0, block 1 is slot 2; P E36 block 2, 72; P E18 in sub-frame 1, 90, its tag key 73."
+    point (slot36 0 1 2) 2
+    ∷ point (slot36 0 2 36) 72
+    ∷ point (slot36 1 1 18) 90
+    ∷ point (tagSlot 36 2 (hourSeconds 947 120) (gst 947 432030) 1 0) 73
+    -- "P KS 128, MS 12, NMACK 2: 4 fields."
+    ∷ point (fieldsFor 2 128 12) 4
+    -- "P KS 128, NMACK 3: MS 16 gives 1 field, P MS 18 is 8."
+    ∷ point (fieldsFor 3 128 16) 1
+    ∷ point (numberForTagSize 3) 0
+    ∷ point (numberForTagSize 4) 8
+    -- "P KS 96, MS 10, NMACK 1: 14."
+    ∷ point (fieldsFor 1 96 10) 14
+    -- "P second 604770 taken, P 604800 is 2."
+    ∷ point (numberAtSecond 604770) 0
+    ∷ point (numberAtSecond 604800) 2
+    -- "P NB 10 is 16 blocks, P NB 11 is 6."
+    ∷ point (blocksFor 10) 16
+    ∷ point (numberForBlocks 10) 0
+    ∷ point (numberForBlocks 11) 6
+    -- "P gap 1,000,000 taken, P 1,000,001 is 13."
+    ∷ point (numberForGap 1000000) 0
+    ∷ point (numberForGap 1000001) 13
+    -- "P 947/431970 is 3B369762 hexadecimal."
+    ∷ point (gst 947 431970) 0x3B36_9762
+    ∷ []
+
+abbrev pub Right : Point → Type 0
+Right p = p .rule ≡ p .says
+
+abbrev pub All : (Point → Type 0) → List Point → Type 0
+All P [] = Unit {0}
+All P (x ∷ xs) = P x × All P xs
