@@ -1,19 +1,17 @@
 -- Counts of blocks, marks and ages.
 -- Assumes nothing.
 use mathlib.Core.Path.{_≡_, refl, sym, ap, _∙_}
-use mathlib.Core.Bool.{Bool, true, false, cond, not, _&&_, _||_}
-use mathlib.Core.List.{List, [], _∷_}
+use mathlib.Core.Bool.{Bool, true, false, cond, _&&_}
+use mathlib.Core.List.{List}
 use mathlib.Core.Logic.{_⊎_, inl, inr, ⊎-elim}
-use Prim.Native.Nat.{ℕ, zero, suc, _+_, _-_, _*_, _/_, _%_, _^_, _≤_, _<_}
+use Prim.Native.Nat.{ℕ, _+_, _-_, _*_, _/_, _%_, _^_, _≤_, _<_}
 use native.Mathlib.Nat.{mul-le-mul-right, mod-lt, add-mul}
 use native.Mathlib.Omega.{arith}
 use lib.Count.{ones, ones-step}
 use lib.Dec.{leb, ltb, eqb}
 use lib.Pow.{pow-add, pow-pos, shr-lt, split}
-use borrow.Author.Tests.{ltb-true, ltb-false, leb-true, eqb-true, eqb-false, lt-ltb, le-ltb, ne-eqb}
-use Rattle.laws.specs.Lists.{same}
-use Rattle.laws.proofs.Splice.{either, below?}
-use Rattle.rules.specs.Bits as Bits
+use borrow.Author.Tests.{leb-true, eqb-true, eqb-false, lt-ltb, le-ltb}
+use Rattle.laws.proofs.Splice.{below?}
 use Rattle.rules.specs.Gather as Rule
 
 -- an NB names 7 to 16 blocks, or none
@@ -70,11 +68,3 @@ age a b =
     (λ h. lt-ltb (b + 3600) a h ∙ sym (lt-ltb 3600 (a - b) (omega arith)))
     (λ h. le-ltb (b + 3600) a h ∙ sym (le-ltb 3600 (a - b) (omega arith)))
     (below? (b + 3600) a)
-
--- the rules' comparison is that of the laws
-pub same-is : (xs ys : List ℕ) → same xs ys ≡ Bits.same xs ys
-unfolding same Bits.same
-same-is [] [] = refl
-same-is [] (y ∷ ys) = refl
-same-is (x ∷ xs) [] = refl
-same-is (x ∷ xs) (y ∷ ys) = rw (same-is xs ys)

@@ -1,13 +1,13 @@
 -- What a coming block does to the store, case by case.
 -- Assumes nothing.
-use mathlib.Core.Path.{_≡_, refl, sym, ap, _∙_}
-use mathlib.Core.Bool.{Bool, true, false, cond, not, _&&_, _||_}
-use mathlib.Core.List.{List, []}
-use Prim.Native.Nat.{ℕ, _+_, _*_, _≤_, _<_}
+use mathlib.Core.Path.{_≡_, refl}
+use mathlib.Core.Bool.{Bool, true, false, _&&_, _||_}
+use mathlib.Core.List.{List}
+use Prim.Native.Nat.{ℕ, _*_}
 use native.Mathlib.Nat.{add-zero}
 use lib.Count.{ones}
-use lib.Dec.{leb, eqb}
-use lib.ListN.{getD, set}
+use lib.Dec.{leb}
+use lib.ListN.{getD}
 use borrow.Author.Tests.{eq-eqb, ne-eqb}
 use Rattle.laws.specs.Lists.{part}
 use Rattle.rules.specs.State.{Store}
@@ -53,17 +53,13 @@ module _ (s : Store) (t : ℕ) (hk : List ℕ) where
   unfolding Rule.gathered
   refused-high e h = rw (e, h)
 
-  pub taken : Rule.reservedCount hk ≡ false → Rule.tooHigh s t (Rule.dsmIdOf hk) hk ≡ false
-      → Rule.stored (Rule.withBlock s t (Rule.dsmIdOf hk) hk) (Rule.dsmIdOf hk) ≡ Rule.gathered s t hk
+  pub stored-is : (id : ℕ) (x : Rule.Gathered) → id ≡ Rule.dsmIdOf hk → Rule.reservedCount hk ≡ false → Rule.tooHigh s t (Rule.dsmIdOf hk) hk ≡ false
+      → x ≡ Rule.stored (Rule.withBlock s t id hk) id → x ≡ Rule.gathered s t hk
   unfolding Rule.gathered
-  taken e h = rw (e, h)
+  stored-is id x p e h q = rw (e, h, ← p) q
 
   -- the code's test, in the numbers that it has read
   pub high-is : (id k kept : ℕ) (r : Bool) → id ≡ Rule.dsmIdOf hk → k ≡ Rule.blockIdOf hk → kept ≡ Rule.keptMarks s t id hk
       → r ≡ (Rule.marked kept 0 && leb (Rule.totalOf (Rule.storedBlock (s .blocks) id 0)) k) → r ≡ Rule.tooHigh s t (Rule.dsmIdOf hk) hk
   unfolding Rule.tooHigh
   high-is id k kept r p q w e = rw (← p, ← q, ← w) e
-
-  pub stored-is : (id : ℕ) (left : Store) (x : Rule.Gathered) → id ≡ Rule.dsmIdOf hk → Rule.reservedCount hk ≡ false → Rule.tooHigh s t (Rule.dsmIdOf hk) hk ≡ false
-      → left ≡ Rule.withBlock s t id hk → x ≡ Rule.stored left id → x ≡ Rule.gathered s t hk
-  stored-is id left x p e h w q = q ∙ rw (w, p) (taken e h)

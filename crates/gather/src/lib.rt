@@ -7,9 +7,8 @@ ghost use mathlib.Core.List.{List};
 ghost use Prim.Native.Nat.{ℕ, _+_, _-_, _*_, _/_, _^_, _≤_, _<_};
 ghost use lib.Dec.{leb, ltb, eqb};
 ghost use lib.ListN.{length, getD};
-ghost use Rattle.laws.specs.Lists.{part};
+ghost use Rattle.laws.specs.Lists.{part, same};
 ghost use Rattle.laws.specs.Refusal.{neb};
-ghost use Rattle.rules.specs.Bits.{same};
 ghost use Rattle.rules.specs.Times.{secondsOf};
 ghost use Rattle.rules.specs.Gather as Rule;
 ghost use Rattle.gather.specs.Store.{Lent, store, told, Sized};
@@ -204,7 +203,9 @@ fn drops_blocks(
     if too_old(times[id], t) {
         return true;
     }
-    if headers[id] != header_of(hk) {
+    let held = headers[id];
+    let header = header_of(hk);
+    if held != header {
         return true;
     }
     if other_bytes(blocks, m, id, k, hk) {
@@ -295,6 +296,24 @@ fn take_out(blocks: &[u8], marks: &mut [u16], id: usize) -> Gathered
     Gathered::Complete(13 * total)
 }
 
+// A block that is not refused: in its place, and its DSM taken out if that makes it complete.
+fn store_block(
+    blocks: &mut [u8],
+    headers: &mut [u8],
+    marks: &mut [u16],
+    times: &mut [u32],
+    t: u32,
+    id: usize,
+    kept: u16,
+    hk: &[u8; 15],
+) -> Gathered
+    requires { ⌜ (Lent (now blocks) (now headers) (now marks) (now times) × (id < 16)) × (kept ≡ Rule.keptMarks (store (now blocks) (now headers) (now marks) (now times)) t id (now hk)) ⌝ }
+    ensures { λ r. ⌜ (told r (store (now (blocks .exit)) (now (headers .exit)) (now (marks .exit)) (now (times .exit))) id ≡ Rule.stored (Rule.withBlock (store (now (blocks .entry)) (now (headers .entry)) (now (marks .entry)) (now (times .entry))) t id (now (hk .entry))) id) × Sized r ⌝ }
+{
+    put_block(blocks, headers, marks, times, t, id, kept, hk);
+    take_out(blocks, marks, id)
+}
+
 // A block comes at time t.
 pub fn gather(
     blocks: &mut [u8],
@@ -315,6 +334,5 @@ pub fn gather(
     if too_high(blocks, kept, id, block_id_of(hk)) {
         return Gathered::Refused;
     }
-    put_block(blocks, headers, marks, times, t, id, kept, hk);
-    take_out(blocks, marks, id)
+    store_block(blocks, headers, marks, times, t, id, kept, hk)
 }
