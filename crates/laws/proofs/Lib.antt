@@ -2,4 +2,5 @@
 pub mod Splice
 pub mod Numbers
 pub mod Fill
+pub mod Same
 pub mod Refusal
