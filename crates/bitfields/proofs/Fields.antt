@@ -1,0 +1,151 @@
+-- Laws of `bit`, `bits` and `bytesAt`: bounds, a field split in two, a field inside one byte, whole bytes, a field cut out of a wider one,
+-- and a field of a part of a string.
+-- Assumes nothing.
+use mathlib.Core.Path.{_≡_, refl, sym, ap, _∙_}
+use mathlib.Core.List.{List, [], _∷_, _++_, append-assoc}
+use Prim.Native.Nat.{ℕ, zero, suc, _+_, _-_, _*_, _/_, _%_, _^_, _≤_, _<_}
+use native.Mathlib.Omega.{arith}
+use native.Mathlib.Numerals.{add-one}
+use native.Mathlib.Nat.{add-zero, add-suc, add-assoc, pow-suc, mod-one, mod-lt, lt-of-lt-of-le}
+use lib.ListN.{length, getD, take, drop, set, length-append, length-drop, List·getD-append}
+use lib.Seq.{getD-at, set-at, drop-cons, ext-getD, length-take-le}
+use mathlib.Core.Logic.{⊎-elim}
+use lib.Pow.{pow-pos, pow-mono, high, low, shr-shr, mod-pow-add}
+use Rattle.laws.specs.Lists.{part, splice}
+use Rattle.laws.proofs.Splice.{getD-part, length-part, below?}
+use Rattle.rules.specs.Bits.{bit, bits, bytesAt}
+
+-- a bit is 0 or 1
+pub bit-lt : (s : List ℕ) (i : ℕ) → bit s i < 2
+unfolding bit
+bit-lt s i = mod-lt _ (omega arith)
+
+-- a field of n bits is below 2 ^ n
+pub bits-lt : (s : List ℕ) (at n : ℕ) → bits s at n < 2 ^ n
+unfolding bits
+bits-lt s at zero = omega arith
+bits-lt s at (suc n) = omega (arith, bits-lt s at n, bit-lt s (at + n), pow-suc 2 n)
+
+-- a field split in two
+pub bits-split : (s : List ℕ) (at n m : ℕ) → bits s at (n + m) ≡ bits s at n * 2 ^ m + bits s (at + n) m
+unfolding bits
+bits-split s at n zero = rw (add-zero n) (omega arith)
+bits-split s at n (suc m) =
+    rw (add-suc n m, bits-split s at n m, pow-suc 2 m, add-assoc at n m) (omega arith)
+
+halves : (y n : ℕ) → y / 2 ^ 1 % 2 ^ n * 2 + y % 2 ≡ y % 2 ^ suc n
+halves y n = sym (rw add-one at (mod-pow-add y n 1))
+
+-- a field inside one byte
+pub bits-in-byte : (s : List ℕ) (k r n : ℕ) → r + n ≤ 8 → bits s (8 * k + r) n ≡ getD s k 0 / 2 ^ (8 - (r + n)) % 2 ^ n
+unfolding bits bit
+bits-in-byte s k r zero h = sym (mod-one _)
+bits-in-byte s k r (suc n) h =
+    let t : ℕ = 8 - (r + suc n) in
+    let e1 : 8 - (r + n) ≡ t + 1 = omega arith in
+    let e2 : (8 * k + r + n) / 8 ≡ k = omega arith in
+    let e3 : 7 - (8 * k + r + n) % 8 ≡ t = omega arith in
+    rw (bits-in-byte s k r n (omega arith), e1, e2, e3, ← shr-shr (getD s k 0) t 1) (halves (getD s k 0 / 2 ^ t) n)
+
+-- a whole byte
+pub bits-byte : (s : List ℕ) (k : ℕ) → getD s k 0 < 256 → bits s (8 * k) 8 ≡ getD s k 0
+bits-byte s k h =
+    let e : bits s (8 * k + 0) 8 ≡ getD s k 0 / 2 ^ 0 % 2 ^ 8 = bits-in-byte s k 0 8 (omega arith) in
+    rw (← add-zero (8 * k)) (e ∙ omega arith)
+
+-- one byte more
+pub bits-byte-more : (s : List ℕ) (k m : ℕ) → getD s (k + m) 0 < 256 → bits s (8 * k) (8 * (m + 1)) ≡ bits s (8 * k) (8 * m) * 256 + getD s (k + m) 0
+bits-byte-more s k m h =
+    let e : 8 * (m + 1) ≡ 8 * m + 8 = omega arith in
+    let f : 8 * k + 8 * m ≡ 8 * (k + m) = omega arith in
+    rw (e, bits-split s (8 * k) (8 * m) 8, f, bits-byte s (k + m) h)
+
+-- a field cut out of a wider one, r bits before it and t after it
+pub bits-cut : (s : List ℕ) (at r n t : ℕ) → bits s at (r + n + t) / 2 ^ t % 2 ^ n ≡ bits s (at + r) n
+bits-cut s at r n t =
+    rw (bits-split s at (r + n) t, high (bits s at (r + n)) t (bits-lt s (at + (r + n)) t), bits-split s at r n)
+    (low (bits s at r) n (bits-lt s (at + r) n))
+
+-- a narrow field is small
+pub bits-small : (s : List ℕ) (at n k : ℕ) → n ≤ k → bits s at n < 2 ^ k
+bits-small s at n k h = lt-of-lt-of-le (bits-lt s at n) (pow-mono h)
+
+-- the byte from bit r of byte k on: byte k itself, or the middle of two bytes
+pub byte-whole : (s : List ℕ) (k r : ℕ) → r ≡ 0 → getD s k 0 < 256 → getD s k 0 ≡ bits s (8 * k + r) 8
+byte-whole s k r e h = rw (e, add-zero (8 * k)) (sym (bits-byte s k h))
+
+pub byte-pair : (s : List ℕ) (k r : ℕ) → r < 8 → getD s k 0 < 256 → getD s (k + 1) 0 < 256
+    → (getD s k 0 * 256 + getD s (k + 1) 0) / 2 ^ (8 - r) % 256 ≡ bits s (8 * k + r) 8
+byte-pair s k r h a b =
+    let e : r + 8 + (8 - r) ≡ 8 * (1 + 1) = omega arith in
+    let f : bits s (8 * k) (8 * 1) ≡ getD s k 0 = bits-byte s k a in
+    rw (← f, ← bits-byte-more s k 1 b, ← e) (bits-cut s (8 * k) r 8 (8 - r))
+
+-- a field depends on the bits in it alone
+pub bits-same : (s u : List ℕ) (a b n : ℕ) → ((i : ℕ) → i < n → bit s (a + i) ≡ bit u (b + i)) → bits s a n ≡ bits u b n
+unfolding bits
+bits-same s u a b zero f = refl
+bits-same s u a b (suc n) f = rw (bits-same s u a b n (λ i h. f i (omega arith)), f n (omega arith))
+
+-- a bit of a part of a string
+pub bit-part : (s : List ℕ) (a n i : ℕ) → i < 8 * n → bit (part s a n) i ≡ bit s (8 * a + i)
+unfolding bit
+bit-part s a n i h =
+    let e1 : (8 * a + i) / 8 ≡ a + i / 8 = omega arith in
+    let e2 : (8 * a + i) % 8 ≡ i % 8 = omega arith in
+    rw (e1, e2, getD-part s a n (i / 8) (omega arith))
+
+-- a field of a part of a string
+pub bits-part : (s : List ℕ) (a n at m : ℕ) → at + m ≤ 8 * n → bits (part s a n) at m ≡ bits s (8 * a + at) m
+bits-part s a n at m h = bits-same (part s a n) s at (8 * a + at) m (λ i k. bit-part s a n (at + i) (omega arith) ∙ rw add-assoc)
+
+-- ---- bytes at any bit
+
+pub length-bytesAt : (s : List ℕ) (at n : ℕ) → length (bytesAt s at n) ≡ n
+unfolding bytesAt
+length-bytesAt s at zero = refl
+length-bytesAt s at (suc n) = rw (length-append, length-bytesAt s at n) (omega arith)
+
+pub getD-bytesAt : (s : List ℕ) (at n i : ℕ) → i < n → getD (bytesAt s at n) i 0 ≡ bits s (at + 8 * i) 8
+unfolding bytesAt
+getD-bytesAt s at zero i h = absurd (omega arith)
+getD-bytesAt s at (suc n) i h =
+    ⊎-elim
+    (λ p. List·getD-append (bytesAt s at n) (bits s (at + 8 * n) 8 ∷ []) 0 i (omega (arith, length-bytesAt s at n)) ∙ getD-bytesAt s at n i p)
+    (λ p.
+    let e : i ≡ n = omega arith in
+    rw e (getD-at (bytesAt s at n) (bits s (at + 8 * n) 8) [] 0 n (length-bytesAt s at n)))
+    (below? i n)
+
+-- one byte more, with the code's n + 1
+pub bytesAt-more : (s : List ℕ) (at n : ℕ) → bytesAt s at (n + 1) ≡ bytesAt s at n ++ (bits s (at + 8 * n) 8 ∷ [])
+unfolding bytesAt
+bytesAt-more s at n = rw add-one
+
+pub bytesAt-part : (s : List ℕ) (a n at m : ℕ) → at + 8 * m ≤ 8 * n → bytesAt (part s a n) at m ≡ bytesAt s (8 * a + at) m
+unfolding bytesAt
+bytesAt-part s a n at zero h = refl
+bytesAt-part s a n at (suc m) h =
+    rw (bytesAt-part s a n at m (omega arith), bits-part s a n (at + 8 * m) 8 (omega arith), add-assoc)
+
+-- whole bytes are a part of the string
+pub bytesAt-whole : (s : List ℕ) (k n : ℕ) → k + n ≤ length s → ((i : ℕ) → getD s i 0 < 256) → bytesAt s (8 * k) n ≡ part s k n
+bytesAt-whole s k n h b =
+    ext-getD 0 _ _ (length-bytesAt s (8 * k) n ∙ sym (length-part s k n h))
+    (λ i p.
+    let q : i < n = omega (arith, length-bytesAt s (8 * k) n) in
+    let e : 8 * k + 8 * i ≡ 8 * (k + i) = omega arith in
+    getD-bytesAt s (8 * k) n i q ∙ rw e (bits-byte s (k + i) (b (k + i)) ∙ sym (getD-part s k n i q)))
+
+-- ---- what a loop stores
+
+-- one element more after what was spliced in
+pub splice-push : (d : List ℕ) (a : ℕ) (l : List ℕ) (v : ℕ) → a + length l < length d → set (splice d a l) (a + length l) v ≡ splice d a (l ++ (v ∷ []))
+unfolding splice
+splice-push d a l v h =
+    let e : length (take a d) ≡ a = length-take-le a d (omega arith) in
+    let n : length (take a d ++ l) ≡ a + length l = simp (length-append, e) in
+    let c : drop (length l) (drop a d) ≡ getD (drop a d) (length l) 0 ∷ drop (suc (length l)) (drop a d) = drop-cons (drop a d) (length l) 0 (simp length-drop (omega arith)) in
+    rw (c, ← append-assoc (take a d) l (getD (drop a d) (length l) 0 ∷ drop (suc (length l)) (drop a d)))
+    (set-at (take a d ++ l) (getD (drop a d) (length l) 0) (drop (suc (length l)) (drop a d)) v (a + length l) n
+    ∙ simp (append-assoc, length-append, add-one))

@@ -1,0 +1,3 @@
+-- Laws of bit fields that other crates cite.
+pub mod Fields
+pub mod Packing

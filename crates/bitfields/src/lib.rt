@@ -1,0 +1,73 @@
+// Bit fields of byte strings (01: "high byte first; bit 0 is the most significant").
+// A field is read by whole bytes and then shifted and masked.
+ghost use mathlib.Core.Path.{_≡_};
+ghost use Prim.Native.Nat.{_+_, _*_, _≤_, _<_};
+ghost use lib.ListN.{length, getD};
+ghost use Rattle.laws.specs.Lists.{splice};
+ghost use Rattle.rules.specs.Bits.{bits, bytesAt};
+
+// The number in the n bits from bit `at` on, at most 56.
+pub fn bits_at(s: &[u8], at: usize, n: usize) -> u64
+    requires { ⌜ (at + n ≤ 8 * length (now s)) × (n ≤ 56) ⌝ }
+    ensures { λ r. ⌜ r ≡ bits (now (s .entry)) at n ⌝ }
+{
+    let first = at / 8;
+    let before = at % 8;
+    let count = (before + n + 7) / 8;
+    let after = 8 * count - (before + n);
+    (number(s, first, count) >> after) & ((1u64 << n) - 1)
+}
+
+// The number in the n bytes from place `first` on, at most 8.
+pub fn number(s: &[u8], first: usize, n: usize) -> u64
+    requires { ⌜ (first + n ≤ length (now s)) × (n ≤ 8) ⌝ }
+    ensures { λ r. ⌜ r ≡ bits (now (s .entry)) (8 * first) (8 * n) ⌝ }
+{
+    let mut v: u64 = 0;
+    let mut j: usize = 0;
+    while j < n {
+        v = v * 256 + wide(s[first + j]);
+        j += 1;
+    }
+    v
+}
+
+fn wide(x: u8) -> u64
+    ensures { λ r. ⌜ (r ≡ x) × (r < 256) ⌝ }
+{
+    x as u64
+}
+
+// The byte from bit r of place k on.
+pub fn byte_at(s: &[u8], k: usize, r: usize) -> u8
+    requires { ⌜ (8 * k + r + 8 ≤ 8 * length (now s)) × (r < 8) ⌝ }
+    ensures { λ b. ⌜ b ≡ bits (now (s .entry)) (8 * k + r) 8 ⌝ }
+{
+    if r == 0 {
+        return s[k];
+    }
+    let pair = wide(s[k]) * 256 + wide(s[k + 1]);
+    ((pair >> (8 - r)) % 256) as u8
+}
+
+// The n bytes from bit `at` on into `out` from place `to`.
+pub fn bytes_to(s: &[u8], at: usize, n: usize, out: &mut [u8], to: usize)
+    requires { ⌜ (at + 8 * n ≤ 8 * length (now s)) × (to + n ≤ length (now out)) ⌝ }
+    ensures { λ _. ⌜ now (out .exit) ≡ splice (now (out .entry)) to (bytesAt (now (s .entry)) at n) ⌝ }
+{
+    let first = at / 8;
+    let r = at % 8;
+    let mut i: usize = 0;
+    while i < n {
+        out[to + i] = byte_at(s, first + i, r);
+        i += 1;
+    }
+}
+
+// The n bytes from bit `at` on into the first n bytes of `out`.
+pub fn bytes_at(s: &[u8], at: usize, n: usize, out: &mut [u8])
+    requires { ⌜ (at + 8 * n ≤ 8 * length (now s)) × (n ≤ length (now out)) ⌝ }
+    ensures { λ _. ⌜ now (out .exit) ≡ splice (now (out .entry)) 0 (bytesAt (now (s .entry)) at n) ⌝ }
+{
+    bytes_to(s, at, n, out, 0);
+}
