@@ -5,6 +5,7 @@ use mathlib.Core.Bool.{Bool, true, false, cond, _&&_, _||_}
 use mathlib.Core.List.{List, [], _∷_, _++_}
 use lib.Dec.{eqb}
 use lib.ListN.{length, getD, drop, replicate}
+unfoldable pub use Rattle.laws.specs.Lists.{same}
 
 -- bit i of a byte string
 unfoldable pub bit : List ℕ → ℕ → ℕ
@@ -38,13 +39,6 @@ packed l (suc n) = packed l n ++ (octet (drop (8 * n) l) ∷ [])
 -- "short ones followed by zeros": n bytes
 unfoldable pub filled : ℕ → List ℕ → List ℕ
 filled n l = l ++ replicate (n - length l) 0
-
--- two byte strings are equal
-unfoldable pub same : List ℕ → List ℕ → Bool
-same [] [] = true
-same [] (y ∷ ys) = false
-same (x ∷ xs) [] = false
-same (x ∷ xs) (y ∷ ys) = eqb x y && same xs ys
 
 -- one of the conditions holds
 abbrev pub anyOf : List Bool → Bool
