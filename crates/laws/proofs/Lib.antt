@@ -3,4 +3,5 @@ pub mod Splice
 pub mod Numbers
 pub mod Fill
 pub mod Same
+pub mod Elements
 pub mod Refusal
