@@ -1,6 +1,7 @@
--- Laws of SHA-256's definitions.
+-- Laws of SHA-256's definitions; those of `Continued` are for callers.
 mod Rounds
 mod Turns
 mod Written
 mod Padding
 mod Message
+pub mod Continued
