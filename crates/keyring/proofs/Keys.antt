@@ -1,0 +1,107 @@
+-- Laws of the public keys: tables by key type, keys held among the higher ones, a key's place written in two steps.
+-- Assumes nothing.
+use mathlib.Core.Path.{_≡_, refl, sym, ap, _∙_}
+use mathlib.Core.Bool.{Bool, true, false, _&&_, _||_}
+use mathlib.Core.List.{List, [], _∷_, _++_}
+use mathlib.Core.Logic.{⊎-elim}
+use Prim.Native.Nat.{ℕ, zero, suc, _+_, _-_, _*_, _≤_, _<_}
+use native.Mathlib.Omega.{arith}
+use native.Mathlib.Numerals.{add-one}
+use lib.ListN.{length, getD, set, replicate, length-append, length-replicate}
+use lib.Seq.{set-split, drop-drop}
+use lib.Dec.{T, leb}
+use borrow.Author.Tests.{leb-true, eq-eqb, ne-eqb}
+use Rattle.laws.specs.Lists.{part, splice, same}
+use Rattle.laws.proofs.Splice.{below?, splice-append}
+use Rattle.rules.specs.Bits.{filled}
+use Rattle.rules.specs.Keys as S
+
+-- ---- tables
+
+-- the last entry stands for every number from its place on
+pub table-last : (l : List ℕ) (d k : ℕ) → length l ≤ k → getD (l ++ (d ∷ [])) k d ≡ d
+table-last [] d zero h = refl
+table-last [] d (suc k) h = refl
+table-last (x ∷ xs) d zero h = absurd (omega arith)
+table-last (x ∷ xs) d (suc k) h = table-last xs d k (omega arith)
+
+-- a number that is at least n and not n
+pub past : (n k : ℕ) → n ≤ k → (k ≡ n → ⊥) → suc n ≤ k
+past n k h e = omega arith
+
+-- no entry is above m: one test for the table
+abbrev pub below : List ℕ → ℕ → Bool
+below [] m = true
+below (x ∷ xs) m = leb x m && below xs m
+
+both : (a b : Bool) → T (a && b) → (T a) × (T b)
+both true b t = (tt, t)
+both false b t = absurd t
+
+is-true : (a : Bool) → T a → a ≡ true
+is-true true t = refl
+is-true false t = absurd t
+
+pub table-bound : (l : List ℕ) (m d : ℕ) → T (below l m) → d ≤ m → (k : ℕ) → getD l k d ≤ m
+table-bound [] m d t h k = h
+table-bound (x ∷ xs) m d t h zero = leb-true x m (is-true (leb x m) (both (leb x m) (below xs m) t .0))
+table-bound (x ∷ xs) m d t h (suc k) = table-bound xs m d (both (leb x m) (below xs m) t .1) h k
+
+pub key-bound : (type : ℕ) → S.keyLength type ≤ 67
+unfolding S.keyLength
+key-bound type = table-bound (29 ∷ 33 ∷ 49 ∷ 67 ∷ []) 67 67 tt (omega arith) type
+
+pub signature-bound : (type : ℕ) → S.signatureLength type ≤ 132
+unfolding S.signatureLength
+signature-bound type = table-bound (56 ∷ 64 ∷ 96 ∷ 132 ∷ []) 132 132 tt (omega arith) type
+
+-- ---- keys
+
+-- zeros to n bytes make n bytes
+pub length-filled : (n : ℕ) (l : List ℕ) → length l ≤ n → length (filled n l) ≡ n
+unfolding filled
+length-filled n l h = simp (length-append, length-replicate) (omega arith)
+
+or-true : (b : Bool) → b || true ≡ true
+or-true true = refl
+or-true false = refl
+
+-- a key that is held is among those held
+pub held-among : (keys : List ℕ) (id n m : ℕ) → n < m → S.keyHeld keys (id + n) ≡ true → S.heldAmong keys id m ≡ true
+unfolding S.heldAmong
+held-among keys id n zero h e = absurd (omega arith)
+held-among keys id n (suc m) h e =
+    ⊎-elim
+    (λ p. rw (held-among keys id n m p e))
+    (λ p.
+    let q : n ≡ m = omega arith in
+    rw (← q, e) (or-true (S.heldAmong keys id n)))
+    (below? n m)
+
+-- one ID more that is not held
+pub held-more : (keys : List ℕ) (id n : ℕ) → S.heldAmong keys id n ≡ false → S.keyHeld keys (id + n) ≡ false → S.heldAmong keys id (n + 1) ≡ false
+unfolding S.heldAmong
+held-more keys id n h e = rw (add-one, h, e)
+
+-- one element stored is a splice
+pub splice-one : (d : List ℕ) (a x : ℕ) → a < length d → set d a x ≡ splice d a (x ∷ [])
+unfolding splice
+splice-one d a x h = set-split d a x h ∙ rw (drop-drop 1 a d, add-one a)
+
+-- a place written in two steps: its first byte, and then the others
+pub splice-cons : (d : List ℕ) (a x : ℕ) (s : List ℕ) → a + 1 + length s ≤ length d → splice (set d a x) (a + 1) s ≡ splice d a (x ∷ s)
+splice-cons d a x s h = rw (splice-one d a x (omega arith)) (splice-append d a (x ∷ []) s (omega arith))
+
+-- a key's bytes compared in whole
+pub same-key-not : (keys : List ℕ) (id type : ℕ) (key : List ℕ) → S.keyHeld keys id ≡ false → S.sameKey keys id type key ≡ false
+unfolding S.sameKey
+same-key-not keys id type key h = rw h
+
+pub same-key-other : (keys : List ℕ) (id type : ℕ) (key : List ℕ) → S.keyHeld keys id ≡ true → (S.keyType keys id ≡ type → ⊥) → S.sameKey keys id type key ≡ false
+unfolding S.sameKey
+same-key-other keys id type key h k = rw (h, ne-eqb (S.keyType keys id) type k)
+
+pub same-key-bytes : (keys : List ℕ) (id type : ℕ) (key : List ℕ) → S.keyHeld keys id ≡ true → S.keyType keys id ≡ type
+    → same (S.keyBytes keys id) (filled 67 key) ≡ S.sameKey keys id type key
+unfolding S.sameKey
+same-key-bytes keys id type key h k = rw (h, eq-eqb (S.keyType keys id) type k)
