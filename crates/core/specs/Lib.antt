@@ -1,0 +1,2 @@
+-- Short forms that the contracts of the calls use.
+pub mod Forms
