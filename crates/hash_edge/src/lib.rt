@@ -7,7 +7,9 @@
 //   osnma_hmac_with       the code of m under a kept key, into 32 bytes
 //   osnma_compress        one block; no length can be wrong, and there is no answer
 ghost use mathlib.Core.Path.{_≡_};
+ghost use Prim.Native.Nat.{_+_, _≤_};
 ghost use lib.ListN.{length};
+ghost use Rattle.laws.specs.Lists.{splice};
 ghost use Rattle.sha256.specs.Sha256.{compress};
 ghost use Rattle.hash_edge.specs.Edge.{
   answer,
@@ -124,10 +126,18 @@ fn put_key(state: &mut [u32], k: hmac::HmacKey)
 {
     let inner = k.inner;
     let outer = k.outer;
+    put_words(state, 0, inner);
+    put_words(state, 8, outer);
+}
+
+// The words w into `dst` from place `at`.
+fn put_words(dst: &mut [u32], at: usize, w: [u32; 8])
+    requires { ⌜ at + 8 ≤ length (now dst) ⌝ }
+    ensures { λ _. ⌜ now (dst .exit) ≡ splice (now (dst .entry)) at w ⌝ }
+{
     let mut i: usize = 0;
     while i < 8 {
-        state[i] = inner[i];
-        state[8 + i] = outer[i];
+        dst[at + i] = w[i];
         i += 1;
     }
 }

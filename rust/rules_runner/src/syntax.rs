@@ -564,8 +564,7 @@ fn applied(head: Term, arguments: Vec<Term>) -> Term {
     Term { line, kind }
 }
 
-/// The items of a file. `runs` says of a name whether its clauses are to be read: those of a function that gives a
-/// type are passed over.
+/// The items of a file. The clauses of a function that gives a type are passed over.
 pub fn items(file: &str, text: &str) -> Result<Vec<Item>> {
     let all = tokens(file, text)?;
     let mut begins: Vec<usize> = (0..all.len()).filter(|&at| all[at].first).collect();

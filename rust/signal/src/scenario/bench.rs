@@ -64,7 +64,11 @@ pub struct Bench {
 impl Bench {
     /// A run at 947/431970, half a minute before the hour at which the chains begin.
     pub fn new(name: &str, about: &str, seed: u64) -> Self {
-        let mut rng = Rng::new(seed ^ name.bytes().fold(0, |n, b| n << 5 ^ n >> 59 ^ u64::from(b)));
+        // Each scenario draws numbers of its own from a seed.
+        let of_name = name
+            .bytes()
+            .fold(0, |n: u64, b| n.rotate_left(5) ^ u64::from(b));
+        let mut rng = Rng::new(Rng::new(seed).number() ^ of_name);
         let leaves = (0..16).map(|i| public_key(&mut rng, i)).collect();
         let tree = Tree::new(leaves);
         let start = Start {

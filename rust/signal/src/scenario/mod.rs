@@ -344,6 +344,7 @@ mod tests {
 
     #[test]
     fn random_runs() {
+        let mut seen = Vec::new();
         for seed in 0..8 {
             let run = random(seed);
             assert_eq!(run.bytes, random(seed).bytes, "seed {seed}");
@@ -352,7 +353,8 @@ mod tests {
                 "seed {seed}"
             );
             assert!(run.places() > 10, "seed {seed}");
+            assert!(!seen.contains(&run.bytes), "seed {seed} repeats another");
+            seen.push(run.bytes);
         }
-        assert_ne!(random(1).bytes, random(2).bytes);
     }
 }

@@ -19,7 +19,7 @@ const BEGINNINGS: [(u32, u32); 6] = [
     (947, 167),
     (0, 1),
     (1, 0),
-    (4095, 166),
+    (4095, 165),
 ];
 
 /// Sub-frames for which a chain has keys.
@@ -240,12 +240,9 @@ impl Mix {
 
     /// All blocks of a message from the satellites seen, from any block on.
     fn deliver(&mut self, header: u8, message: &[u8]) {
-        let kind = if dsm::blocks(message) > 14 {
-            12
-        } else {
-            self.b.rng.below(12) as u8
-        };
-        self.deliver_as(header, kind, message);
+        // ID 11 carries the idle block.
+        let id = self.b.rng.below(11) as u8;
+        self.deliver_as(header, id, message);
     }
 
     fn deliver_as(&mut self, header: u8, id: u8, message: &[u8]) {

@@ -330,9 +330,13 @@ pub fn newer_set_stays(name: &str, about: &str, seed: u64) -> Run {
     b.step();
     b.send_fields(1, &slow_fields(1, 2), &[1, 1, 5, 1, 5, 1, 1, 1]);
     let newest = b.now;
+    // Only satellite 1 is authenticated from here on. The second section's ADKD 11 tag is due before the first one's
+    // ADKD 12 tag, so that the old set's tag is the last to be judged.
+    let quiet = [Info::new(1, 0, 0); 7];
+    b.step();
+    b.send_fields(1, &quiet, &[1, 1, 4, 1, 4, 1, 1, 1]);
     b.now = newest.plus(9);
-    // Only satellite 1 is authenticated from here on.
-    b.send_fields(1, &[Info::new(1, 0, 0); 7], &[1, 1, 1, 4, 1, 4, 1, 1, 1]);
+    b.send_fields(1, &quiet, &[1, 1, 4, 1, 4, 1, 1, 1]);
     let read = b.set_read(2, newest);
     b.reads(2, read);
     b.run
