@@ -1,0 +1,4 @@
+-- Laws of sections, of block counts and marks, and of the store.
+mod Sections
+pub mod Counts
+mod Stores
