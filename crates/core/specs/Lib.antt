@@ -1,2 +1,0 @@
--- Short forms that the contracts of the calls use.
-pub mod Forms
