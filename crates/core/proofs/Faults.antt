@@ -1,0 +1,71 @@
+-- Laws that the checks of the calls share: ranges as tests, and joined tests. Assumes nothing.
+use mathlib.Core.Path.{_≡_, refl, ap, sym, subst, _∙_}
+use mathlib.Core.Bool.{Bool, true, false, not, _&&_, _||_}
+use mathlib.Core.List.{List, [], _∷_}
+use Prim.Native.Nat.{ℕ, _+_, _-_, _%_, _^_, _≤_, _<_}
+use lib.Dec.{T, leb, ltb, eqb}
+use borrow.Author.Tests.{lt-ltb, le-ltb, le-leb, lt-leb, leb-true, ltb-true, ltb-false}
+use native.Mathlib.Omega.{arith}
+use Rattle.rules.specs.Bits.{allOf}
+use Rattle.rules.specs.State.{prnValid}
+use Rattle.rules.specs.Times.{timeValid, secondOf, stampOf}
+
+-- a test cannot be both
+pub true-false : {A : Type 0} → true ≡ false → A
+true-false e = absurd (subst (λ (b : Bool). T b) e tt)
+
+pub and-left : (a b : Bool) → (a && b) ≡ true → a ≡ true
+and-left true b e = refl
+and-left false b e = e
+
+pub or-false : (a : Bool) → (a || false) ≡ a
+or-false true = refl
+or-false false = refl
+
+and-true : (a : Bool) → (a && true) ≡ a
+and-true true = refl
+and-true false = refl
+
+-- ---- ranges
+
+pub prn-low : (p : ℕ) → p < 1 → prnValid p ≡ false
+unfolding prnValid
+prn-low p h = rw (lt-leb 1 p h)
+
+pub prn-high : (p : ℕ) → 36 < p → prnValid p ≡ false
+unfolding prnValid
+prn-high p h = rw (le-leb 1 p (omega arith), lt-leb p 36 h)
+
+pub prn-in : (p : ℕ) → 1 ≤ p → p ≤ 36 → prnValid p ≡ true
+unfolding prnValid
+prn-in p h k = rw (le-leb 1 p h, le-leb p 36 k)
+
+-- a time has room for its stamp
+pub time-small : (t : ℕ) → t < 4294967296 → timeValid t ≡ true → t < 4294967295
+unfolding timeValid secondOf
+time-small t h e =
+    let k : t % 2 ^ 20 ≤ 604770 = leb-true (t % 2 ^ 20) 604770 (and-left (leb (t % 2 ^ 20) 604770) (eqb (t % 2 ^ 20 % 30) 0) e) in
+    omega (arith, k)
+
+-- a stamp of a later time
+by-order : (a b m n : ℕ) → (a < b → m < n) → (b ≤ a → n ≤ m) → (t : Bool) → ltb a b ≡ t → ltb a b ≡ ltb m n
+by-order a b m n f g true e = e ∙ sym (lt-ltb m n (f (ltb-true a b e)))
+by-order a b m n f g false e = e ∙ sym (le-ltb m n (g (ltb-false a b e)))
+
+pub later-stamp : (t n : ℕ) → 1 ≤ n → ltb t (n - 1) ≡ ltb (stampOf t) n
+unfolding stampOf
+later-stamp t n h = by-order t (n - 1) (t + 1) n (λ k. omega (arith, k)) (λ k. omega (arith, k)) _ refl
+
+-- ---- sixteen tests in groups of four
+
+four-and : (a b c d r : Bool) → ((a && (b && (c && d))) && r) ≡ (a && (b && (c && (d && r))))
+four-and true true true d r = refl
+four-and true true false d r = refl
+four-and true false c d r = refl
+four-and false b c d r = refl
+
+pub joined : (a b c d e f g h i j k l m n o p : Bool) → ((a && (b && (c && d))) && ((e && (f && (g && h))) && ((i && (j && (k && l))) && (m && (n && (o && p)))))) ≡ allOf (a ∷ b ∷ c ∷ d ∷ e ∷ f ∷ g ∷ h ∷ i ∷ j ∷ k ∷ l ∷ m ∷ n ∷ o ∷ p ∷ [])
+joined a b c d e f g h i j k l m n o p =
+    four-and a b c d _
+    ∙ ap (λ (x : Bool). a && (b && (c && (d && x))))
+    (four-and e f g h _ ∙ ap (λ (x : Bool). e && (f && (g && (h && x)))) (four-and i j k l _ ∙ ap (λ (x : Bool). i && (j && (k && (l && (m && (n && (o && x))))))) (sym (and-true p))))
