@@ -19,5 +19,4 @@ fn main() {
         println!("cargo:rustc-link-search=native={}", folder.display());
     }
     println!("cargo:rustc-link-lib=static=hash_edge");
-    println!("cargo:archive={}", archive.display());
 }
