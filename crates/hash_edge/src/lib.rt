@@ -22,6 +22,7 @@ ghost use Rattle.hash_edge.specs.Edge.{
   keyIn,
 };
 
+// 2 ^ 61 bytes: SHA-256 takes messages of fewer.
 const LIMIT: usize = 2305843009213693952;
 
 #[no_mangle]
