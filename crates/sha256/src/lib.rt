@@ -100,6 +100,8 @@ pub fn bytes(h: [u32; 8]) -> [u8; 32]
 }
 
 // ---- 3.2, 4.1.2: words
+// Ch and Maj are written with fewer operations than the standard's forms, and the sums of rotations with one rotation inside
+// another, which takes fewer instructions where a rotation overwrites its operand. Of Maj, x ^ y is y ^ z of the next round.
 
 fn add(x: u32, y: u32) -> u32
     ensures { λ r. ⌜ r ≡ S.add x y ⌝ }
@@ -117,37 +119,37 @@ fn rotr(x: u32, n: u32) -> u32
 fn ch(x: u32, y: u32, z: u32) -> u32
     ensures { λ r. ⌜ r ≡ S.ch x y z ⌝ }
 {
-    (x & y) ^ (!x & z)
+    z ^ (x & (y ^ z))
 }
 
 fn maj(x: u32, y: u32, z: u32) -> u32
     ensures { λ r. ⌜ r ≡ S.maj x y z ⌝ }
 {
-    (x & y) ^ (x & z) ^ (y & z)
+    y ^ ((x ^ y) & (y ^ z))
 }
 
 fn big_sigma0(x: u32) -> u32
     ensures { λ r. ⌜ r ≡ S.Σ0 x ⌝ }
 {
-    rotr(x, 2) ^ rotr(x, 13) ^ rotr(x, 22)
+    rotr(x ^ rotr(x ^ rotr(x, 9), 11), 2)
 }
 
 fn big_sigma1(x: u32) -> u32
     ensures { λ r. ⌜ r ≡ S.Σ1 x ⌝ }
 {
-    rotr(x, 6) ^ rotr(x, 11) ^ rotr(x, 25)
+    rotr(x ^ rotr(x ^ rotr(x, 14), 5), 6)
 }
 
 fn small_sigma0(x: u32) -> u32
     ensures { λ r. ⌜ r ≡ S.σ0 x ⌝ }
 {
-    rotr(x, 7) ^ rotr(x, 18) ^ (x >> 3)
+    rotr(x ^ rotr(x, 11), 7) ^ (x >> 3)
 }
 
 fn small_sigma1(x: u32) -> u32
     ensures { λ r. ⌜ r ≡ S.σ1 x ⌝ }
 {
-    rotr(x, 17) ^ rotr(x, 19) ^ (x >> 10)
+    rotr(x ^ rotr(x, 2), 17) ^ (x >> 10)
 }
 
 // ---- 6.2.2: one block
