@@ -5,9 +5,9 @@ use mathlib.Core.Bool.{Bool, true, false, _||_}
 use mathlib.Core.Logic.{⊎-elim}
 use Prim.Native.Nat.{ℕ, zero, suc, _+_, _-_, _*_, _/_, _%_, _≤_, _<_}
 use native.Mathlib.Omega.{arith}
-use native.Mathlib.Nat.{mul-le-mul-right, div-mul-le-self, div-le-self, mod-le, mod-lt, add-mul, le-trans}
+use native.Mathlib.Nat.{mul-le-mul-left, mul-le-mul-right, div-mul-le-self, div-le-self, div-add-mod, mod-le, mod-lt, add-mul, le-trans}
 use Rattle.laws.proofs.Splice.{below?}
-use Rattle.rules.specs.Kroot.{blockBits}
+use Rattle.rules.specs.Kroot.{blockBits, fieldsFor}
 use Rattle.rules.specs.Mack.{blockAt, fieldAt}
 use Rattle.rules.specs.declared.Chain.{Chain}
 use Rattle.tags.specs.Layout.{Laid}
@@ -58,3 +58,45 @@ module _ (c : Chain) (l : Laid c) (j : ℕ) (h : j < c .nmack * c .fields) where
 pub or-false : (b : Bool) → (b || false) ≡ b
 or-false true = refl
 or-false false = refl
+
+-- ---- a chain of accepted parameters is laid out so
+
+fields-few : (n f : ℕ) → 1 ≤ n → n ≤ 3 → f * 26 + 96 ≤ blockBits n → n * f ≤ 14
+unfolding blockBits
+fields-few zero f p q h = absurd (omega arith)
+fields-few (suc zero) f p q h = omega arith
+fields-few (suc (suc zero)) f p q h = omega arith
+fields-few (suc (suc (suc zero))) f p q h = omega arith
+fields-few (suc (suc (suc (suc n)))) f p q h = absurd (omega arith)
+
+-- a quotient of a number that is not below the divisor is not 0
+at-least-one : (x d : ℕ) → 1 ≤ d → d ≤ x → 1 ≤ x / d
+at-least-one x d p h =
+    ⊎-elim
+    (λ (z : x / d < 1).
+    let e : x / d ≡ 0 = omega arith in
+    let m = mod-lt x p in
+    let s = div-add-mod x d in
+    let t : d * (x / d) ≡ 0 = rw e (omega arith) in
+    absurd (omega arith))
+    (λ z. z)
+    (below? (x / d) 1)
+
+pub laid : (c : Chain) → 1 ≤ c .nmack → c .nmack ≤ 3 → 10 ≤ c .ms → c .ms ≤ 40 → 12 ≤ c .width
+    → c .fields ≡ fieldsFor (c .nmack) (8 * c .width) (c .ms)
+    → 8 * c .width + c .ms + 16 ≤ blockBits (c .nmack)
+    → Laid c
+unfolding fieldsFor
+laid c n1 n3 m1 m2 w e h =
+    let room : ℕ = blockBits (c .nmack) - 8 * c .width in
+    let low : 1 ≤ c .fields = rw e (at-least-one room (c .ms + 16) (omega arith) (omega arith)) in
+    let fit : c .fields * (c .ms + 16) ≤ room = rw e (div-mul-le-self room (c .ms + 16)) in
+    let wide : c .fields * 26 ≤ c .fields * (c .ms + 16) = mul-le-mul-left (c .fields) (omega arith) in
+    record {
+      nmack-low = n1;
+      nmack-high = n3;
+      ms-high = m2;
+      fields-low = low;
+      fields-fit = omega arith;
+      few = fields-few (c .nmack) (c .fields) n1 n3 (omega arith);
+    }

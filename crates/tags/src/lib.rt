@@ -4,14 +4,19 @@
 //   field_tag, field_info, macseq_of   the parts of a field
 //   own_tag                            a field as a tag
 //   flexible, not_allowed              what a field's mark says
+//   own_outcome, judged                what becomes of a tag
 //   record_issue, put_record           the record of a tag
 use rules::Chain;
+use rules::Outcome;
 use rules::Tag;
 ghost use mathlib.Core.Path.{_≡_};
-ghost use mathlib.Core.Bool.{cond, _&&_, _||_};
+ghost use mathlib.Core.Bool.{true, cond, _&&_, _||_};
+ghost use mathlib.Core.List.{[], _∷_};
 ghost use Prim.Native.Nat.{_+_, _*_, _≤_, _<_};
 ghost use lib.ListN.{length};
 ghost use Rattle.laws.specs.Lists.{splice};
+ghost use Rattle.laws.specs.Refusal.{refuse, firstOf};
+ghost use Rattle.rules.specs.Answers.{outcomeNumber};
 ghost use Rattle.rules.specs.Kroot.{blockBits};
 ghost use Rattle.rules.specs.Mack.{fieldAt, fieldTag, fieldInfo, macseqOf};
 ghost use Rattle.rules.specs.State.{markOf};
@@ -155,6 +160,63 @@ pub fn not_allowed(config: &[u8], j: usize, t: Tag) -> bool
     let other = both(!(mark == 255), !(adkd == mark));
     let heard = both(1 <= prn, prn <= 36);
     either(!known, either(other, !heard))
+}
+
+// ---- outcomes
+
+// What becomes of a tag whose key is known.
+pub fn judged(matches: bool) -> Outcome
+    ensures { λ r. ⌜ outcomeNumber r ≡ cond matches 1 2 ⌝ }
+{
+    if matches {
+        return Outcome::Authentic;
+    }
+    Outcome::Wrong
+}
+
+// What becomes of a field's tag, by the first test that holds: it is not allowed, it is flexible and MACSEQ fails, there is no usable
+// set, its key is known (and it matches or not), a place is free.
+pub fn own_outcome(
+    refused: bool,
+    unfit: bool,
+    unusable: bool,
+    prompt: bool,
+    matches: bool,
+    free: bool,
+) -> Outcome
+    ensures { λ r. ⌜ outcomeNumber r ≡ firstOf (refuse refused 4 ∷ refuse unfit 6 ∷ refuse unusable 3 ∷ refuse (prompt && matches) 1 ∷ refuse prompt 2 ∷ refuse free 5 ∷ refuse true 7 ∷ []) ⌝ }
+{
+    if refused {
+        return Outcome::NotAllowed;
+    }
+    if unfit {
+        return Outcome::SequenceUnfit;
+    }
+    if unusable {
+        return Outcome::NoUsableSet;
+    }
+    if prompt {
+        return judged(matches);
+    }
+    if free {
+        return Outcome::Waits;
+    }
+    Outcome::NoPlace
+}
+
+// The outcome's number in a record.
+pub fn outcome_number(o: Outcome) -> u8
+    ensures { λ r. ⌜ r ≡ outcomeNumber o ⌝ }
+{
+    match o {
+        Outcome::Authentic => 1,
+        Outcome::Wrong => 2,
+        Outcome::NoUsableSet => 3,
+        Outcome::NotAllowed => 4,
+        Outcome::Waits => 5,
+        Outcome::SequenceUnfit => 6,
+        Outcome::NoPlace => 7,
+    }
 }
 
 // ---- records
