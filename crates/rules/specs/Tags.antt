@@ -12,7 +12,7 @@ use Rattle.rules.specs.Bits.{bits, bitList, packed, anyOf, within}
 use Rattle.rules.specs.Chain.{Held, keyOfSlot, keySlot}
 use Rattle.rules.specs.Mack.{fieldTag, fieldInfo, macseqOf}
 use Rattle.rules.specs.State.{Nav, markOf, prnValid}
-use Rattle.rules.specs.Times.{delayOf, stampOf, secondOf}
+use Rattle.rules.specs.Times.{delayOf, stampOf, secondOf, timeValid}
 use Rattle.rules.specs.Words.{usable, setOf, setIssue}
 use Rattle.rules.specs.declared.Chain.{Chain}
 use Rattle.rules.specs.declared.Tag.{Tag}
@@ -104,10 +104,10 @@ setsEntered sets times t navdata = cond (ltb (stampOf (t .time)) (getD times (t 
 unfoldable pub timesEntered : List ℕ → Tag → List ℕ
 timesEntered times t = cond (ltb (stampOf (t .time)) (getD times (t .prn - 1) 0)) times (set times (t .prn - 1) (stampOf (t .time)))
 
--- a tag that gets an outcome: its record, and for outcome 1 its set; entries that no start leaves may name no satellite
+-- a tag that gets an outcome: its record, and for outcome 1 its set; entries that no start leaves may name no satellite or no time
 unfoldable pub told : ℕ → Tag → List ℕ → Work → Work
 told outcome t navdata w =
-    let marks = eqb outcome 1 && prnValid (t .prn) in
+    let marks = eqb outcome 1 && (prnValid (t .prn) && timeValid (t .time)) in
     record {
       kept = w .kept;
       count = w .count;
