@@ -4,7 +4,7 @@
 use Prim.Native.Nat.{ℕ, _+_, _*_, _^_, _≤_, _<_}
 use mathlib.Core.Path.{_≡_}
 use mathlib.Core.List.{List, _++_}
-use lib.ListN.{length, drop}
+use lib.ListN.{drop}
 use Rattle.sha256.specs.Sha256.{tail}
 use Rattle.rules.specs.Kroot.{blockBits, fieldsFor}
 use Rattle.rules.specs.declared.Chain.{Chain}

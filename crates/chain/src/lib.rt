@@ -9,7 +9,6 @@
 // A step hashes one block, which stays filled from step to step: only the key and the time in it change.
 use rules::Chain;
 ghost use mathlib.Core.Path.{_≡_};
-ghost use mathlib.Core.List.{_++_};
 ghost use Prim.Native.Nat.{_+_, _%_, _^_, _≤_, _<_};
 ghost use lib.ListN.{length, take};
 ghost use Rattle.laws.specs.Lists.{splice, same};

@@ -1,17 +1,17 @@
 -- A block's check by its cases, and the blocks one after the other.
 -- Assumes nothing.
 use mathlib.Core.Path.{_≡_, refl, sym, ap, _∙_}
-use mathlib.Core.Bool.{Bool, true, false, cond, not, _||_}
-use mathlib.Core.List.{List, [], _∷_, _++_}
-use Prim.Native.Nat.{ℕ, zero, suc, _+_, _-_, _*_, _^_, _≤_, _<_}
+use mathlib.Core.Bool.{Bool, true, false, not, _||_}
+use mathlib.Core.List.{List, _++_}
+use Prim.Native.Nat.{ℕ, zero, suc, _+_, _-_, _≤_, _<_}
 use native.Mathlib.Omega.{arith}
 use native.Mathlib.Numerals.{add-one}
 use lib.Dec.{ltb, eqb}
 use lib.ListN.{length, take, drop, replicate}
-use lib.Seq.{drop-at, length-take-le}
-use borrow.Author.Tests.{lt-ltb, le-ltb, eq-eqb, ne-eqb}
+use lib.Seq.{drop-at}
+use borrow.Author.Tests.{lt-ltb, le-ltb, ne-eqb}
 use Rattle.laws.specs.Lists.{part, splice}
-use Rattle.laws.specs.Refusal.{Check, refuse, firstOf, unless, neb}
+use Rattle.laws.specs.Refusal.{firstOf, unless, neb}
 use Rattle.laws.proofs.Refusal.{by-test, unless-refused}
 use Rattle.bitfields.proofs.Fields.{length-bytesAt}
 use Rattle.rules.specs.Chain.{Held, held, keyFits, higher, sentSlot}

@@ -6,7 +6,6 @@ use borrow.Author.Needs.{needs}
 use borrow.Author.Tests.{not-true, not-false, le-leb, leb-true}
 use denote.Ref.{now}
 use lib.Dec.{leb}
-use native.Mathlib.Omega.{arith}
 use Prim.Native.Nat.{_+_, _^_}
 use Rattle.rules.specs.Bits.{within}
 use Rattle.chain_edge.specs.Walk.{chainFrom}

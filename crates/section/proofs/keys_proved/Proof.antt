@@ -1,11 +1,10 @@
 -- `section::keys_proved` meets its contract: after b turns it has what the first b blocks give.
 -- Assumes nothing.
-use mathlib.Core.Path.{_≡_}
 use Prim.Native.Nat.{_-_, _≤_, _<_, _^_}
 use native.Mathlib.Omega.{arith}
 use borrow.Author.Needs.{needs}
 use denote.Ref.{now}
-use lib.ListN.{length, take}
+use lib.ListN.{take}
 use lib.Seq.{length-take-le}
 use Rattle.rules.specs.Chain.{held}
 use Rattle.rules.specs.Mack as S
