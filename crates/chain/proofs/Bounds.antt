@@ -1,0 +1,122 @@
+-- The slots of keys and tags are below 2 ^ 34, and the chain of accepted parameters is sound.
+-- Assumes nothing.
+use mathlib.Core.Path.{_≡_, refl, sym, ap, _∙_}
+use mathlib.Core.Bool.{Bool, true, false, not, _&&_, _||_}
+use mathlib.Core.List.{List, [], _∷_, _++_}
+use Prim.Native.Nat.{ℕ, zero, suc, _+_, _-_, _*_, _/_, _%_, _^_, _≤_, _<_}
+use native.Mathlib.Omega.{arith}
+use native.Mathlib.Nat.{mul-le-mul, mod-lt}
+use lib.Dec.{T, leb, ltb, eqb}
+use lib.ListN.{getD}
+use borrow.Author.Tests.{leb-true, ltb-false, eqb-false}
+use Rattle.laws.specs.Refusal.{neb}
+use Rattle.bitfields.proofs.Fields.{bits-lt}
+use Rattle.gst.proofs.Times.{seconds-bound, delay-bound, hour-bound}
+use Rattle.rules.specs.Bits.{bits}
+use Rattle.rules.specs.Times as T
+use Rattle.rules.specs.Chain as S
+use Rattle.rules.specs.Kroot as K
+use Rattle.rules.specs.declared.Chain.{Chain}
+use Rattle.chain.specs.Sound.{Walks, Sound}
+
+-- ---- slots
+
+-- a slot of a sub-frame that starts before 2 ^ 32 + 300 seconds
+slot-below : (ns nmack s b p : ℕ) → 1 ≤ ns → ns ≤ 36 → nmack ≤ 3 → s ≤ 143165586 → b < 256 → T.slotOf ns nmack s b p < 2 ^ 34
+unfolding T.slotOf
+slot-below ns nmack s b p g h k l m =
+    let x : s * ns ≤ 143165586 * 36 = mul-le-mul {n₂ = 143165586} {m₂ = 36} l h in
+    let y : s * ns * nmack ≤ 143165586 * 36 * 3 = mul-le-mul {n₂ = 143165586 * 36} {m₂ = 3} x k in
+    let z : (b - 1) * ns ≤ 255 * 36 = mul-le-mul {n₂ = 255} {m₂ = 36} (omega arith) h in
+    let r : (p - 1) % ns < ns = mod-lt (p - 1) g in
+    omega arith
+
+pub sent-bound : (c : Chain) (g b p : ℕ) → Walks c → g < 2 ^ 32 → b < 256 → S.sentSlot c g b p < 2 ^ 34
+unfolding S.sentSlot T.subframeAt
+sent-bound c g b p w h k =
+    let s : (T.secondsOf g - c .root) / 30 ≤ 143165586 = omega (arith, seconds-bound g h) in
+    slot-below (c .ns) (c .nmack) _ b p (w .ns-low) (w .ns-high) (w .nmack-high) s k
+
+pub tag-bound : (c : Chain) (g b adkd : ℕ) → Walks c → g < 2 ^ 32 → b < 256 → S.keySlot c g b adkd < 2 ^ 34
+unfolding S.keySlot T.tagSlot T.lowestSlot T.subframeAt T.keySeconds
+tag-bound c g b adkd w h k =
+    let s : (T.secondsOf g + 30 * T.delayOf adkd - c .root) / 30 ≤ 143165586 = omega (arith, seconds-bound g h, delay-bound adkd) in
+    slot-below (c .ns) (c .nmack) _ b 1 (w .ns-low) (w .ns-high) (w .nmack-high) s k
+
+-- ---- a chain in force
+
+either-false : (a b : Bool) → a || b ≡ false → (a ≡ false) × (b ≡ false)
+either-false true b e = let z : _≡_ {A = ℕ} 0 1 = cc in absurd (omega arith)
+either-false false b e = (refl, e)
+
+-- every entry of a table lies in a range
+abbrev inRange : ℕ → ℕ → List ℕ → Bool
+inRange low high [] = true
+inRange low high (x ∷ xs) = (leb low x && leb x high) && inRange low high xs
+
+both-true : (a b : Bool) → T (a && b) → T a × T b
+both-true true b t = (tt, t)
+both-true false b t = absurd t
+
+holds : (a : Bool) → T a → a ≡ true
+holds true t = refl
+holds false t = absurd t
+
+entry : (low high d : ℕ) (l : List ℕ) (i : ℕ) → low ≤ d → d ≤ high → T (inRange low high l) → (low ≤ getD l i d) × (getD l i d ≤ high)
+entry low high d [] i g h t = (g, h)
+entry low high d (x ∷ xs) zero g h t =
+    let e = both-true (leb low x) (leb x high) ((both-true (leb low x && leb x high) (inRange low high xs) t) .0) in
+    (leb-true low x (holds (leb low x) (e .0)), leb-true x high (holds (leb x high) (e .1)))
+entry low high d (x ∷ xs) (suc i) g h t = entry low high d xs i g h ((both-true (leb low x && leb x high) (inRange low high xs) t) .1)
+
+key-widths : (code : ℕ) → (12 ≤ K.keyWidth code) × (K.keyWidth code ≤ 32)
+unfolding K.keyWidth
+key-widths code = entry 12 32 32 (12 ∷ 13 ∷ 14 ∷ 15 ∷ 16 ∷ 20 ∷ 24 ∷ 28 ∷ 32 ∷ []) code (omega arith) (omega arith) tt
+
+tag-widths : (code : ℕ) → K.tagWidth code ≤ 40
+unfolding K.tagWidth
+tag-widths code = (entry 10 40 40 (10 ∷ 12 ∷ 14 ∷ 16 ∷ 18 ∷ 20 ∷ 24 ∷ 28 ∷ 32 ∷ 40 ∷ []) code (omega arith) (omega arith) tt) .1
+
+-- parameters that are not bad: NMACK is not 0, and a block holds a field and the key
+params-good : (maclt : ℕ) (d : List ℕ) → K.parametersBad maclt d ≡ false
+    → (K.nmackOf d ≡ 0 → ⊥) × (8 * K.keyWidth (K.ksOf d) + K.tagWidth (K.msOf d) + 16 ≤ K.blockBits (K.nmackOf d))
+unfolding K.parametersBad
+params-good maclt d e =
+    let e1 = either-false (neb (K.hfOf d) 0) _ e in
+    let e2 = either-false (neb (K.mfOf d) 0) _ (e1 .1) in
+    let e3 = either-false (neb (K.moOf d) 0) _ (e2 .1) in
+    let e4 = either-false (eqb (K.nmackOf d) 0) _ (e3 .1) in
+    let e5 = either-false (ltb 8 (K.ksOf d)) _ (e4 .1) in
+    let e6 = either-false (ltb 9 (K.msOf d)) _ (e5 .1) in
+    let e7 = either-false (neb (K.macltFieldOf d) maclt) _ (e6 .1) in
+    let e8 = either-false (ltb (K.blockBits (K.nmackOf d)) (8 * K.keyWidth (K.ksOf d) + K.tagWidth (K.msOf d) + 16)) _ (e7 .1) in
+    (eqb-false _ _ (e4 .0), ltb-false _ _ (e8 .0))
+
+nmack-below : (d : List ℕ) → K.nmackOf d < 4
+unfolding K.nmackOf
+nmack-below d = bits-lt d 2 2
+
+positive : (n : ℕ) → (n ≡ 0 → ⊥) → 1 ≤ n
+positive zero f = absurd (f refl)
+positive (suc n) f = omega arith
+
+pub chain-sound : (ns maclt : ℕ) (d : List ℕ) → 1 ≤ ns → ns ≤ 36 → K.parametersBad maclt d ≡ false → Sound (K.chainWith ns d)
+unfolding K.chainWith K.rootSecondsOf K.rootWeekOf K.rootHourOf
+chain-sound ns maclt d h k e =
+    let g = params-good maclt d e in
+    let w = key-widths (K.ksOf d) in
+    let n : K.nmackOf d < 4 = nmack-below d in
+    record {
+      walks = record {
+        ns-low = h;
+        ns-high = k;
+        nmack-low = positive (K.nmackOf d) (g .0);
+        nmack-high = omega arith;
+        root-high = omega (arith, hour-bound (bits d 28 12) (bits d 40 8) (bits-lt d 28 12) (bits-lt d 40 8));
+        width-low = w .0;
+        width-high = w .1;
+      };
+      ms-high = tag-widths (K.msOf d);
+      fields-are = refl;
+      block-fits = g .1;
+    }

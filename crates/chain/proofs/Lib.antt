@@ -1,0 +1,3 @@
+-- Laws of the key chain, for this crate's proofs and its callers'.
+pub mod Steps
+pub mod Bounds

@@ -1,0 +1,215 @@
+-- A step in a framed block is a step of the chain, a block is framed by its writes, and steps one after the other are a walk.
+-- Assumes nothing.
+use mathlib.Core.Path.{_≡_, refl, sym, ap, _∙_}
+use mathlib.Core.Bool.{Bool}
+use mathlib.Core.Logic.{⊎-elim}
+use mathlib.Core.List.{List, [], _∷_, _++_, append-assoc, append-nil}
+use Prim.Native.Nat.{ℕ, zero, suc, _+_, _-_, _*_, _/_, _%_, _^_, _≤_, _<_}
+use native.Mathlib.Omega.{arith}
+use native.Mathlib.Nat.{add-zero, add-suc, add-assoc, zero-add}
+use lib.ListN.{length, take, drop, set, replicate, length-append, length-replicate, length-drop, replicate-append-replicate, take-append-drop, drop-of-length-le}
+use lib.Seq.{take-at, drop-at, drop-drop, drop-append-add, set-at, length-take-le, take-all}
+use borrow.Author.Tests.{lt-ltb, le-ltb}
+use Rattle.laws.specs.Lists.{part, splice, same}
+use Rattle.laws.specs.Bytes.{be4, be8}
+use Rattle.laws.proofs.Numbers.{length-be4}
+use Rattle.laws.proofs.Splice.{splice-start, splice-end, length-splice, below?}
+use Rattle.gst.proofs.Times.{be4-low}
+use Rattle.sha256.specs.Sha256 as H
+use Rattle.sha256.proofs.Continued.{one-block, length-sha256}
+use Rattle.rules.specs.Chain as S
+use Rattle.rules.specs.declared.Chain.{Chain}
+use Rattle.chain.specs.Sound.{Framed}
+
+-- ---- lengths
+
+pub length-step : (c : Chain) (m : ℕ) (k : List ℕ) → c .width ≤ 32 → length (S.keyStep c m k) ≡ c .width
+unfolding S.keyStep
+length-step c m k h =
+    let d = H.sha256 (k ++ (be4 (S.slotTime c m) ++ c .alpha)) in
+    length-take-le (c .width) d (omega (arith, length-sha256 (k ++ (be4 (S.slotTime c m) ++ c .alpha))))
+
+pub length-walk : (c : Chain) (n m : ℕ) (k : List ℕ) → c .width ≤ 32 → length k ≡ c .width → length (S.walk c n m k) ≡ c .width
+unfolding S.walk
+length-walk c zero m k h e = e
+length-walk c (suc n) m k h e = length-walk c n m (S.keyStep c (m + n) k) h (length-step c (m + n) k h)
+
+-- ---- walks
+
+-- no step
+pub walk-none : (c : Chain) (n m : ℕ) (k : List ℕ) → n ≡ 0 → S.walk c n m k ≡ k
+unfolding S.walk
+walk-none c n m k e = rw e
+
+-- the first step of those that are left
+pub walk-one : (c : Chain) (i m : ℕ) (k l : List ℕ) → 0 < i → l ≡ S.keyStep c (m + (i - 1)) k → S.walk c (i - 1) m l ≡ S.walk c i m k
+unfolding S.walk
+walk-one c zero m k l h e = absurd (omega arith)
+walk-one c (suc j) m k l h e =
+    let f : suc j - 1 ≡ j = omega arith in
+    rw f (ap (S.walk c j m) (e ∙ rw f))
+
+-- no step is left, and the key is copied out of the block
+pub walked : (c : Chain) (n m i : ℕ) (b key out : List ℕ) → i ≤ 0 → S.walk c i m (take (c .width) b) ≡ S.walk c n m (take (c .width) key)
+    → out ≡ splice key 0 (part b 0 (c .width)) → out ≡ splice key 0 (S.walk c n m (take (c .width) key))
+unfolding part
+walked c n m i b key out h e p = p ∙ ap (splice key 0) (sym (walk-none c i m (take (c .width) b) (omega arith)) ∙ e)
+
+-- a walk in two parts: first b steps, then a
+pub walk-add : (c : Chain) (a b m : ℕ) (k : List ℕ) → S.walk c (a + b) m k ≡ S.walk c a m (S.walk c b (m + a) k)
+unfolding S.walk
+walk-add c a zero m k = rw (add-zero a)
+walk-add c a (suc b) m k =
+    rw (add-suc a b, add-assoc m a b) (walk-add c a b m (S.keyStep c (m + (a + b)) k))
+
+-- ---- a step in a framed block: the time, then the hash value's first bytes
+module _ (c : Chain) (w : c .width ≤ 32) (a : length (c .alpha) ≡ 6) where
+  -- what is hashed for a key and a time
+  abbrev message : List ℕ → ℕ → List ℕ
+  message k t = k ++ (be4 t ++ c .alpha)
+
+  length-message : (k : List ℕ) (t : ℕ) → length k ≡ c .width → length (message k t) ≡ c .width + 10
+  length-message k t e = simp (length-append, length-be4) (omega arith)
+
+  -- with the time set it is the padded message
+  timed : (b : List ℕ) (t : ℕ) → length b ≡ 64 → Framed c b → splice b (c .width) (be4 t) ≡ H.pad (message (take (c .width) b) t)
+  unfolding splice H.pad
+  timed b t e f =
+      let n : length (take (c .width) b) ≡ c .width = length-take-le (c .width) b (omega arith) in
+      rw (length-be4 t, drop-drop 4 (c .width) b, f, length-message (take (c .width) b) t n) (simp append-assoc)
+
+  pub step-is : (m t : ℕ) (b b1 g h d b2 : List ℕ) → length b ≡ 64 → Framed c b → t ≡ S.slotTime c m % 2 ^ 32 → b1 ≡ splice b (c .width) (be4 t)
+      → g ≡ H.H0 → h ≡ H.compress g b1 → d ≡ H.bytes h → b2 ≡ splice b1 0 (part d 0 (c .width))
+      → (take (c .width) b2 ≡ S.keyStep c m (take (c .width) b)) × Framed c b2
+  unfolding S.keyStep splice part
+  step-is m t b b1 g h d b2 e f p q r s u v =
+      let k = take (c .width) b in
+      let n : length k ≡ c .width = length-take-le (c .width) b (omega arith) in
+      let x = S.slotTime c m in
+      let t4 : be4 t ≡ be4 x = ap be4 p ∙ be4-low x in
+      let q2 : b1 ≡ H.pad (message k x) = q ∙ ap (splice b (c .width)) t4 ∙ timed b x e f in
+      let o : length (message k x) ≡ c .width + 10 = length-message k x n in
+      let hash : H.sha256 (message k x) ≡ d = one-block (message k x) (omega arith) ∙ rw (u, s, r, q2) in
+      let l : length (take (c .width) d) ≡ c .width = length-take-le (c .width) d (omega (arith, length-sha256 (message k x), ap length hash)) in
+      let rest : drop (c .width) b1 ≡ be4 t ++ drop 4 (drop (c .width) b) =
+      rw (q, length-be4 t) (drop-at k (be4 t ++ drop 4 (drop (c .width) b)) (c .width) n) in
+      let v2 : b2 ≡ take (c .width) d ++ drop (c .width) b1 = v ∙ ap (λ (j : ℕ). take (c .width) d ++ drop j b1) l in (
+        rw (v2, hash) (take-at (take (c .width) d) (drop (c .width) b1) (c .width) l),
+        sym (drop-drop 4 (c .width) b2)
+            ∙ ap (drop 4) (ap (drop (c .width)) v2 ∙ drop-at (take (c .width) d) (drop (c .width) b1) (c .width) l ∙ rest)
+            ∙ drop-at (be4 t) (drop 4 (drop (c .width) b)) 4 (length-be4 t)
+            ∙ drop-drop 4 (c .width) b
+            ∙ f,
+      )
+
+-- ---- the writes of a framed block
+abbrev zs : ℕ → List ℕ
+zs n = replicate n 0
+
+-- a part in the middle replaced
+pub splice-middle : (x y z : List ℕ) (a : ℕ) (s : List ℕ) → length x ≡ a → length y ≡ length s → splice (x ++ (y ++ z)) a s ≡ x ++ (s ++ z)
+unfolding splice
+splice-middle x y z a s e f =
+    rw (take-at x (y ++ z) a e, drop-at x (y ++ z) a e, drop-at y z (length s) f)
+
+zeros-split : (n a b : ℕ) → n ≡ a + b → zs n ≡ zs a ++ zs b
+zeros-split n a b e = rw e (sym (replicate-append-replicate a b 0))
+
+zero-bytes : be4 0 ≡ zs 4
+unfolding be4
+zero-bytes = refl
+
+-- the padding of a step's message
+tail-is : (w : ℕ) → w ≤ 32 → H.tail (w + 10) ≡ 0x80 ∷ (zs (49 - w) ++ be4 (8 * (w + 10)))
+unfolding H.tail be8
+tail-is w h =
+    let z : H.zeros (w + 10) ≡ 45 - w = omega arith in
+    let high : 8 * (w + 10) / 256 ^ 4 ≡ 0 = omega arith in
+    let low : 8 * (w + 10) % 256 ^ 4 ≡ 8 * (w + 10) = omega arith in
+    rw (z, high, low, zero-bytes, zeros-split (49 - w) (45 - w) 4 (omega arith)) (simp append-assoc)
+
+pub framed-is : (c : Chain) (key z b1 b2 b4 : List ℕ) → c .width ≤ 32 → length (c .alpha) ≡ 6 → length key ≡ 32 → z ≡ zs 64
+    → b1 ≡ splice z 0 (part key 0 (c .width))
+    → b2 ≡ splice b1 (c .width + 4) (c .alpha)
+    → b4 ≡ splice (set b2 (c .width + 10) 0x80) 60 (be4 (8 * (c .width + 10)))
+    → (take (c .width) b4 ≡ take (c .width) key) × Framed c b4
+unfolding part
+framed-is c key z b1 b2 b4 h a e p q r s =
+    let w = c .width in
+    let k = take w key in
+    let x = be4 (8 * (w + 10)) in
+    let n : length k ≡ w = length-take-le w key (omega arith) in
+    let n4 : length (k ++ zs 4) ≡ w + 4 = simp (length-append, length-replicate) (omega arith) in
+    let n10 : length (k ++ zs 4 ++ c .alpha) ≡ w + 10 = simp (length-append, length-replicate) (omega arith) in
+    let q2 : b1 ≡ k ++ zs 4 ++ (zs 6 ++ zs (54 - w)) =
+    q ∙ ap (λ (l : List ℕ). splice l 0 k) p
+    ∙ splice-start 64 0 k
+    ∙ ap (λ (j : ℕ). k ++ zs (64 - j)) n
+    ∙ rw (zeros-split (64 - w) 4 (60 - w) (omega arith), zeros-split (60 - w) 6 (54 - w) (omega arith)) (sym (append-assoc k (zs 4) (zs 6 ++ zs (54 - w)))) in
+    let r2 : b2 ≡ k ++ zs 4 ++ (c .alpha ++ zs (54 - w)) =
+    r ∙ ap (λ (l : List ℕ). splice l (w + 4) (c .alpha)) q2 ∙ splice-middle (k ++ zs 4) (zs 6) (zs (54 - w)) (w + 4) (c .alpha) n4 (sym a) in
+    let one : 54 - w ≡ suc (53 - w) = omega arith in
+    let r3 : set b2 (w + 10) 0x80 ≡ k ++ zs 4 ++ c .alpha ++ (0x80 ∷ zs (53 - w)) =
+    ap (λ (l : List ℕ). set l (w + 10) 0x80) (r2 ∙ ap (λ (j : ℕ). k ++ zs 4 ++ (c .alpha ++ zs j)) one ∙ sym (append-assoc (k ++ zs 4) (c .alpha) (0 ∷ zs (53 - w))))
+    ∙ set-at (k ++ zs 4 ++ c .alpha) 0 (zs (53 - w)) 0x80 (w + 10) n10 in
+    let r4 : set b2 (w + 10) 0x80 ≡ k ++ zs 4 ++ c .alpha ++ (0x80 ∷ zs (49 - w)) ++ zs 4 =
+    r3 ∙ rw (zeros-split (53 - w) (49 - w) 4 (omega arith)) (sym (append-assoc (k ++ zs 4 ++ c .alpha) (0x80 ∷ zs (49 - w)) (zs 4))) in
+    let n60 : length (k ++ zs 4 ++ c .alpha ++ (0x80 ∷ zs (49 - w))) ≡ 60 = simp (length-append, length-replicate) (omega arith) in
+    let s2 : b4 ≡ k ++ (zs 4 ++ (c .alpha ++ H.tail (w + 10))) =
+    s ∙ ap (λ (l : List ℕ). splice l 60 x) r4
+    ∙ splice-end (k ++ zs 4 ++ c .alpha ++ (0x80 ∷ zs (49 - w))) (zs 4) 60 x n60 (sym (length-be4 (8 * (w + 10))))
+    ∙ rw (tail-is w h) (simp append-assoc) in (
+      ap (take w) s2 ∙ take-at k (zs 4 ++ (c .alpha ++ H.tail (w + 10))) w n,
+      ap (drop (w + 4)) (s2 ∙ sym (append-assoc k (zs 4) (c .alpha ++ H.tail (w + 10))))
+          ∙ drop-at (k ++ zs 4) (c .alpha ++ H.tail (w + 10)) (w + 4) n4,
+    )
+
+-- a framed block has 64 bytes
+pub framed-length : (c : Chain) (b : List ℕ) → c .width ≤ 32 → length (c .alpha) ≡ 6 → Framed c b → length b ≡ 64
+framed-length c b h a f =
+    let n : length (c .alpha ++ H.tail (c .width + 10)) ≡ 60 - c .width =
+    rw (tail-is (c .width) h) (simp (length-append, length-replicate, length-be4) (omega arith)) in
+    let m : length b - (c .width + 4) ≡ 60 - c .width = sym (length-drop (c .width + 4) b) ∙ ap length f ∙ n in
+    omega arith
+
+-- ---- the key's bytes of 32
+
+front-splice : (d s : List ℕ) (w : ℕ) → length s ≡ w → take w (splice d 0 s) ≡ s
+unfolding splice
+front-splice d s w e = take-at s (drop (length s) d) w e
+
+splice-front : (d : List ℕ) (w : ℕ) → splice d 0 (take w d) ≡ d
+unfolding splice
+splice-front d w =
+    ⊎-elim
+    (λ h. rw (length-take-le w d (omega arith)) (take-append-drop w d))
+    (λ h. rw (take-all w d h, drop-of-length-le d {i = length d} (omega arith)) (append-nil d))
+    (below? w (length d))
+
+-- the 32 bytes of a key that was walked
+pub walked-length : (c : Chain) (n m : ℕ) (key out : List ℕ) → c .width ≤ 32 → length key ≡ 32 → out ≡ splice key 0 (S.walk c n m (take (c .width) key)) → length out ≡ 32
+walked-length c n m key out h e p =
+    let l = length-walk c n m (take (c .width) key) h (length-take-le (c .width) key (omega arith)) in
+    ap length p ∙ length-splice key 0 (S.walk c n m (take (c .width) key)) (omega arith) ∙ e
+
+-- at or above the held slot the held key stays
+pub key-kept : (c : Chain) (h m : ℕ) (key : List ℕ) → h ≤ m → key ≡ splice key 0 (S.keyOfSlot c (S.held h (take (c .width) key)) m)
+unfolding S.keyOfSlot
+key-kept c h m key l = sym (ap (splice key 0) (walk-none c (h - m) m (take (c .width) key) (omega arith)) ∙ splice-front key (c .width))
+
+module _ (c : Chain) (h slot : ℕ) (known key k : List ℕ) (r : Bool) (w : c .width ≤ 32) where
+  -- a key above the held slot is hashed down
+  pub fits-above : length key ≡ 32 → h < slot → k ≡ splice key 0 (S.walk c (slot - h) h (take (c .width) key)) → r ≡ same (take (c .width) k) (take (c .width) known)
+      → r ≡ S.keyFits c (S.held h (take (c .width) known)) slot (take (c .width) key)
+  unfolding S.keyFits
+  fits-above n l p q =
+      let e = length-walk c (slot - h) h (take (c .width) key) w (length-take-le (c .width) key (omega arith)) in
+      q ∙ rw (p, front-splice key (S.walk c (slot - h) h (take (c .width) key)) (c .width) e, lt-ltb h slot l)
+
+  -- at or below it, the held key
+  pub fits-below : length known ≡ 32 → slot ≤ h → k ≡ splice known 0 (S.keyOfSlot c (S.held h (take (c .width) known)) slot) → r ≡ same (take (c .width) key) (take (c .width) k)
+      → r ≡ S.keyFits c (S.held h (take (c .width) known)) slot (take (c .width) key)
+  unfolding S.keyFits S.keyOfSlot
+  fits-below n l p q =
+      let e = length-walk c (h - slot) slot (take (c .width) known) w (length-take-le (c .width) known (omega arith)) in
+      q ∙ rw (p, front-splice known (S.walk c (h - slot) slot (take (c .width) known)) (c .width) e, le-ltb h slot l)
