@@ -1,0 +1,2 @@
+-- Laws of the public keys that other crates cite.
+pub mod Keys
