@@ -174,11 +174,11 @@ framed-length c b h a f =
 
 -- ---- the key's bytes of 32
 
-front-splice : (d s : List ℕ) (w : ℕ) → length s ≡ w → take w (splice d 0 s) ≡ s
+pub front-splice : (d s : List ℕ) (w : ℕ) → length s ≡ w → take w (splice d 0 s) ≡ s
 unfolding splice
 front-splice d s w e = take-at s (drop (length s) d) w e
 
-splice-front : (d : List ℕ) (w : ℕ) → splice d 0 (take w d) ≡ d
+pub splice-front : (d : List ℕ) (w : ℕ) → splice d 0 (take w d) ≡ d
 unfolding splice
 splice-front d w =
     ⊎-elim

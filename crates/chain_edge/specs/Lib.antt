@@ -1,0 +1,2 @@
+-- What the contract of `chain_edge` cites.
+pub mod Walk

@@ -1,0 +1,2 @@
+-- What the contracts of `section` cite.
+pub mod Keys
