@@ -1,9 +1,11 @@
 -- `keyring::key_length` meets its contract: each return is an entry of the table.
 -- Assumes nothing.
 use mathlib.Core.Path.{sym}
+use mathlib.Core.List.{[], _∷_}
+use native.Mathlib.Omega.{arith}
 use borrow.Author.Needs.{needs}
 use Rattle.rules.specs.Keys as S
-use Rattle.keyring.proofs.Keys.{from-three}
+use Rattle.keyring.proofs.Keys.{table-last}
 use Rattle.keyring.proofs.key_length.Statement.{statement}
 use Rattle.keyring.proofs.key_length.Tie as tie
 
@@ -21,7 +23,7 @@ returns-3 c = search needs
 
 returns-4 : tie.Need-returns-4
 unfolding S.keyLength
-returns-4 c = sym (from-three 29 33 49 67 (c .before .args .kind) (search needs) (search needs) (search needs))
+returns-4 c = sym (table-last (29 ∷ 33 ∷ 49 ∷ []) 67 (c .before .args .kind) (omega arith))
 
 pub key-length-spec : {M : Type 1} → statement M
 key-length-spec = tie.close (tie.spec returns returns-2 returns-3 returns-4)
