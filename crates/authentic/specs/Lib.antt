@@ -1,0 +1,2 @@
+-- What the contracts of `authentic` cite.
+pub mod Regions
