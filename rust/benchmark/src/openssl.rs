@@ -1,0 +1,100 @@
+//! OpenSSL's SHA-256 and HMAC, by the calls that keep the least between messages.
+
+use crate::rows::{tags_kept, tags_new, words_to_bytes, Contender, Row, BLOCK, INITIAL, KEY};
+use std::ffi::{c_int, c_uint, c_void};
+use std::ptr::{null, null_mut};
+
+#[repr(C)]
+struct Context {
+    h: [u32; 8],
+    rest: [u32; 20],
+}
+
+extern "C" {
+    fn SHA256_Transform(context: *mut Context, block: *const u8);
+    fn EVP_sha256() -> *const c_void;
+    fn HMAC(
+        hash: *const c_void,
+        key: *const c_void,
+        key_len: c_int,
+        message: *const u8,
+        message_len: usize,
+        out: *mut u8,
+        out_len: *mut c_uint,
+    ) -> *mut u8;
+    fn HMAC_CTX_new() -> *mut c_void;
+    fn HMAC_CTX_free(context: *mut c_void);
+    fn HMAC_Init_ex(
+        context: *mut c_void,
+        key: *const c_void,
+        key_len: c_int,
+        hash: *const c_void,
+        engine: *mut c_void,
+    ) -> c_int;
+    fn HMAC_Update(context: *mut c_void, data: *const u8, len: usize) -> c_int;
+    fn HMAC_Final(context: *mut c_void, out: *mut u8, out_len: *mut c_uint) -> c_int;
+}
+
+fn block(n: u64) -> [u8; 32] {
+    let mut context = Context {
+        h: INITIAL,
+        rest: [0; 20],
+    };
+    for _ in 0..n {
+        // SAFETY: the context is OpenSSL's SHA256_CTX (112 bytes, checked by build.rs).
+        unsafe { SHA256_Transform(&mut context, BLOCK.as_ptr()) };
+    }
+    std::hint::black_box(context.rest);
+    words_to_bytes(&context.h)
+}
+
+fn tag_new(n: u64) -> [u8; 32] {
+    tags_new(n, |key, message| {
+        let mut out = [0; 32];
+        // SAFETY: key and message are lent with their lengths, `out` has 32 bytes.
+        unsafe {
+            HMAC(
+                EVP_sha256(),
+                key.as_ptr().cast(),
+                key.len() as c_int,
+                message.as_ptr(),
+                message.len(),
+                out.as_mut_ptr(),
+                null_mut(),
+            )
+        };
+        out
+    })
+}
+
+fn tag_kept(n: u64) -> [u8; 32] {
+    // SAFETY: a context is made, keyed once, used as OpenSSL's manual says, and freed.
+    unsafe {
+        let context = HMAC_CTX_new();
+        HMAC_Init_ex(
+            context,
+            KEY.as_ptr().cast(),
+            KEY.len() as c_int,
+            EVP_sha256(),
+            null_mut(),
+        );
+        let last = tags_kept(n, |message| {
+            let mut out = [0; 32];
+            HMAC_Init_ex(context, null(), 0, null(), null_mut());
+            HMAC_Update(context, message.as_ptr(), message.len());
+            HMAC_Final(context, out.as_mut_ptr(), null_mut());
+            out
+        });
+        HMAC_CTX_free(context);
+        last
+    }
+}
+
+pub const OPENSSL: Contender = Contender {
+    name: "openssl",
+    run: |row, n| match row {
+        Row::Block => block(n),
+        Row::TagNewKey => tag_new(n),
+        Row::TagKeptKey => tag_kept(n),
+    },
+};

@@ -1,0 +1,298 @@
+//! A recorded half hour: what was heard, what the tags said, and which set of each satellite was
+//! authentic before, while and after a repeater's older words came in.
+
+use second_receiver::numbers::ACCEPTED;
+use second_receiver::replay::{replay, write_reads};
+use second_receiver::times::Gst;
+use second_receiver::words::SET_LEN;
+use second_receiver::Receiver;
+use signal::replay::{Run, RECORD};
+use std::collections::{BTreeMap, BTreeSet};
+
+/// Kinds of record (01, The replay program).
+const WORD: u8 = 2;
+const SUBFRAME: u8 = 3;
+
+/// Outcomes of tags (01, MACK).
+const AUTHENTIC: u8 = 1;
+const WRONG: u8 = 2;
+const WAITS: u8 = 5;
+
+/// IODnav of a satellite's words, from this record on.
+#[derive(Clone, Copy, Debug, PartialEq, Eq)]
+struct Heard {
+    record: usize,
+    time: Gst,
+    iodnav: u16,
+}
+
+fn gst(bytes: &[u8]) -> Gst {
+    Gst(bytes.iter().fold(0, |n, &b| n << 8 | u32::from(b)))
+}
+
+/// For each satellite, the IODnav of its words of type 1 as they changed.
+fn heard(run: &Run) -> BTreeMap<u8, Vec<Heard>> {
+    let mut all: BTreeMap<u8, Vec<Heard>> = BTreeMap::new();
+    for (record, r) in run.bytes.chunks_exact(RECORD).enumerate() {
+        if r[0] == WORD && r[6] >> 2 == 1 {
+            let iodnav = u16::from(r[6] & 3) << 8 | u16::from(r[7]);
+            let of = all.entry(r[1]).or_default();
+            if of.last().is_none_or(|last| last.iodnav != iodnav) {
+                of.push(Heard {
+                    record,
+                    time: gst(&r[2..6]),
+                    iodnav,
+                });
+            }
+        }
+    }
+    all
+}
+
+/// A tag record (01, MACK).
+struct Tag {
+    outcome: u8,
+    prn: u8,
+    adkd: u8,
+    iodnav: u16,
+}
+
+/// The tag records in a replay's answers: the lines of 24 digits.
+fn tags(answers: &str) -> Vec<Tag> {
+    let byte = |line: &str, at: usize| {
+        let digits = line.get(2 * at..2 * at + 2)?;
+        u8::from_str_radix(digits, 16).ok()
+    };
+    answers
+        .lines()
+        .filter(|line| line.len() == 24 && !line.contains(' '))
+        .filter_map(|line| {
+            Some(Tag {
+                outcome: byte(line, 0)?,
+                prn: byte(line, 2)?,
+                adkd: byte(line, 3)?,
+                iodnav: u16::from_be_bytes([byte(line, 6)?, byte(line, 7)?]),
+            })
+        })
+        .collect()
+}
+
+/// An authentic set, as a read gives it.
+#[derive(Clone, Copy, Debug, PartialEq, Eq)]
+struct Set {
+    bits: [u8; SET_LEN],
+    iodnav: u16,
+    time: Gst,
+}
+
+fn read(receiver: &Receiver, prn: u8) -> Result<Set, String> {
+    let mut bits = [0; SET_LEN];
+    let answer = receiver.read_set(prn, &mut bits);
+    match answer.number {
+        ACCEPTED => Ok(Set {
+            bits,
+            iodnav: answer.iodnav,
+            time: Gst(answer.time),
+        }),
+        number => Err(format!("a read of E{prn:02} answers {number}")),
+    }
+}
+
+/// The receiver after the first records of a run, and its answers.
+fn after(run: &Run, records: usize) -> Result<(Receiver, String), String> {
+    let mut answers = Vec::new();
+    let input = &run.bytes[..records * RECORD];
+    let receiver = replay(input, &mut answers).map_err(|e| e.to_string())?;
+    Ok((receiver, String::from_utf8_lossy(&answers).into_owned()))
+}
+
+fn require(condition: bool, otherwise: impl FnOnce() -> String) -> Result<(), String> {
+    if condition {
+        Ok(())
+    } else {
+        Err(otherwise())
+    }
+}
+
+/// Replays the run and tells it, or says what is not as it must be.
+pub fn told(run: &Run) -> Result<Vec<String>, String> {
+    let (receiver, answers) = after(run, run.places())?;
+    let mut reads = Vec::new();
+    write_reads(&receiver, &mut reads).map_err(|e| e.to_string())?;
+    run.check(&answers, Some(&String::from_utf8_lossy(&reads)))?;
+
+    let heard = heard(run);
+    let records = || run.bytes.chunks_exact(RECORD);
+    let count = |kind| records().filter(|r| r[0] == kind).count();
+    let times = || {
+        records()
+            .filter(|r| r[0] == SUBFRAME)
+            .map(|r| gst(&r[2..6]))
+    };
+    let (Some(first), Some(last)) = (times().min(), times().max()) else {
+        return Err("no sub-frame".into());
+    };
+    // Minutes and seconds since the first sub-frame.
+    let clock = |time: Gst| {
+        let s = time.seconds().saturating_sub(first.seconds());
+        format!("{:02}:{:02}", s / 60, s % 60)
+    };
+
+    let tags = tags(&answers);
+    let outcomes = |outcome| tags.iter().filter(move |t| t.outcome == outcome);
+    let (authentic, wrong, waited) = (
+        outcomes(AUTHENTIC).count(),
+        outcomes(WRONG).count(),
+        outcomes(WAITS).count(),
+    );
+    let slow_judged = tags
+        .iter()
+        .filter(|t| t.adkd != 0 && [AUTHENTIC, WRONG].contains(&t.outcome))
+        .count();
+    let other = tags.len() - authentic - wrong - waited;
+
+    // A repeater: words that go back to an older set and return.
+    let away: Vec<(u8, [Heard; 3])> = heard
+        .iter()
+        .filter_map(|(&prn, of)| Some((prn, <[Heard; 3]>::try_from(&of[..]).ok()?)))
+        .filter(|(_, [own, other, own_again])| {
+            own.iodnav == own_again.iodnav && other.iodnav < own.iodnav
+        })
+        .collect();
+    let begin = away.iter().map(|(_, of)| of[1].record).min();
+    let end = away.iter().map(|(_, of)| of[2].record).min();
+    let (Some(begin), Some(end)) = (begin, end) else {
+        return Err("no repeater is heard".into());
+    };
+    let (before, _) = after(run, begin)?;
+    let (during, _) = after(run, end)?;
+    let (from, to) = (away[0].1[1].time, away[0].1[2].time);
+    let names = |prns: &mut dyn Iterator<Item = u8>| {
+        let names: Vec<String> = prns.map(|prn| format!("E{prn:02}")).collect();
+        names.join(", ")
+    };
+
+    let mut lines = vec![
+        format!(
+            "{} satellites, {} sub-frames and {} words; first sub-frame GST {}/{}, last {} after it (minutes:seconds)",
+            heard.len(),
+            count(SUBFRAME),
+            count(WORD),
+            first.week(),
+            first.second_of_week(),
+            clock(last)
+        ),
+        format!("tags judged: {authentic} authentic, {wrong} wrong, {other} not usable"),
+        format!(
+            "tags that had to wait for their key: {waited}, of which {} wait still",
+            waited - slow_judged
+        ),
+        String::new(),
+        format!(
+            "From {} to {} a repeater's older words came in for {}.",
+            clock(from),
+            clock(to),
+            names(&mut away.iter().map(|(prn, _)| *prn))
+        ),
+        "Their tags were wrong then; what was authentic stayed what it was:".into(),
+        String::new(),
+        "        IODnav heard     authentic set: IODnav (time of its tag)".into(),
+        "        own, repeater    before         meanwhile        at the end".into(),
+    ];
+    for (prn, [own, other, _]) in &away {
+        let (old, kept, now) = (
+            read(&before, *prn)?,
+            read(&during, *prn)?,
+            read(&receiver, *prn)?,
+        );
+        require(old.iodnav == own.iodnav, || {
+            format!("E{prn:02}: the set read before is not the one heard")
+        })?;
+        require(kept.bits == old.bits && kept.time <= from, || {
+            format!("E{prn:02}: the repeater's words changed the authentic set")
+        })?;
+        require(now.bits == old.bits && now.time > to, || {
+            format!("E{prn:02}: the satellite's own words are not authentic at the end")
+        })?;
+        let marked = outcomes(AUTHENTIC).any(|t| t.prn == *prn && t.iodnav == other.iodnav);
+        require(!marked, || {
+            format!("E{prn:02}: a tag marked the repeater's words")
+        })?;
+        lines.push(format!(
+            "   E{prn:02}  {:>3}, {:>3}         {:>3} ({})    {:>3} ({})      {:>3} ({})",
+            own.iodnav,
+            other.iodnav,
+            old.iodnav,
+            clock(old.time),
+            kept.iodnav,
+            clock(kept.time),
+            now.iodnav,
+            clock(now.time)
+        ));
+    }
+    let denied: BTreeSet<u8> = outcomes(WRONG).map(|t| t.prn).collect();
+    let repeated: BTreeSet<u8> = away.iter().map(|(prn, _)| *prn).collect();
+    require(denied == repeated, || {
+        format!(
+            "wrong tags for {}",
+            names(&mut denied.symmetric_difference(&repeated).copied())
+        )
+    })?;
+    lines.push(String::new());
+    lines.push(
+        "In all three columns the 549 bits are the same. No other satellite had a wrong tag."
+            .into(),
+    );
+
+    // New data of a satellite itself.
+    for (prn, of) in heard.iter().filter(|(prn, _)| !repeated.contains(prn)) {
+        let now = read(&receiver, *prn)?;
+        let newest = of[of.len() - 1];
+        require(now.iodnav == newest.iodnav, || {
+            format!("E{prn:02}: the newest words are not authentic at the end")
+        })?;
+        if of.len() > 1 {
+            lines.push(format!(
+                "E{prn:02} sent new data at {} (IODnav {}): authentic at the end, by a tag of {}.",
+                clock(newest.time),
+                newest.iodnav,
+                clock(now.time)
+            ));
+        }
+    }
+    Ok(lines)
+}
+
+#[cfg(test)]
+mod tests {
+    use super::*;
+    use signal::scenario::{find, SEED};
+
+    fn run(name: &str) -> Run {
+        find(name).unwrap().run(SEED)
+    }
+
+    #[test]
+    fn fitter() {
+        let lines = told(&run("fitter")).unwrap();
+        assert!(lines.iter().any(|line| line.contains("E04, E11, E19, E27")));
+    }
+
+    #[test]
+    fn no_repeater() {
+        assert_eq!(told(&run("nominal")), Err("no repeater is heard".into()));
+    }
+
+    // Words that change by one bit in the last half minutes.
+    #[test]
+    fn changed_words() {
+        let mut changed = run("fitter");
+        let half = changed.bytes.len() / RECORD / 2;
+        for r in changed.bytes.chunks_exact_mut(RECORD).skip(half) {
+            if r[0] == WORD && r[1] == 7 && r[6] >> 2 == 2 {
+                r[20] ^= 1;
+            }
+        }
+        assert!(told(&changed).is_err());
+    }
+}

@@ -1,0 +1,231 @@
+//! Published examples of SHA-256 and HMAC-SHA-256, as data.
+
+/// Bytes of a published message or key.
+#[derive(Clone, Copy, Debug)]
+pub enum Bytes {
+    /// These bytes.
+    Plain(&'static [u8]),
+    /// One byte, so many times.
+    Repeated(u8, usize),
+    /// Bytes from the first to the last, each one more.
+    Counting(u8, u8),
+}
+
+impl Bytes {
+    /// All the bytes.
+    pub fn bytes(&self) -> Vec<u8> {
+        match *self {
+            Bytes::Plain(bytes) => bytes.to_vec(),
+            Bytes::Repeated(byte, count) => vec![byte; count],
+            Bytes::Counting(first, last) => (first..=last).collect(),
+        }
+    }
+}
+
+/// A message and its digest.
+#[derive(Clone, Copy, Debug)]
+pub struct Hashed {
+    /// The message.
+    pub message: Bytes,
+    /// Its SHA-256, in hexadecimal.
+    pub digest: &'static str,
+}
+
+/// A key, a message and their code.
+#[derive(Clone, Copy, Debug)]
+pub struct Coded {
+    /// The key.
+    pub key: Bytes,
+    /// The message.
+    pub message: Bytes,
+    /// The first digits of the HMAC, in hexadecimal: as many as were published.
+    pub code: &'static str,
+}
+
+/// Lower-case hexadecimal, as the lists here have it.
+pub fn hex(bytes: &[u8]) -> String {
+    bytes.iter().map(|byte| format!("{byte:02x}")).collect()
+}
+
+const fn hashed(message: Bytes, digest: &'static str) -> Hashed {
+    Hashed { message, digest }
+}
+
+const fn coded(key: Bytes, message: &'static [u8], code: &'static str) -> Coded {
+    let message = Bytes::Plain(message);
+    Coded { key, message, code }
+}
+
+use Bytes::{Counting, Plain, Repeated};
+
+/// NIST's examples to FIPS 180-4: one block, two blocks, and the long ones of FIPS 180-2.
+pub const FIPS_180_4: &[Hashed] = &[
+    hashed(
+        Plain(b"abc"),
+        "ba7816bf8f01cfea414140de5dae2223b00361a396177a9cb410ff61f20015ad",
+    ),
+    hashed(
+        Plain(b"abcdbcdecdefdefgefghfghighijhijkijkljklmklmnlmnomnopnopq"),
+        "248d6a61d20638b8e5c026930c3e6039a33ce45964ff2167f6ecedd419db06c1",
+    ),
+    hashed(
+        Plain(
+            b"abcdefghbcdefghicdefghijdefghijkefghijklfghijklmghijklmn\
+              hijklmnoijklmnopjklmnopqklmnopqrlmnopqrsmnopqrstnopqrstu",
+        ),
+        "cf5b16a778af8380036ce59e7b0492370b249b11e8f07a51afac45037afee9d1",
+    ),
+    hashed(
+        Repeated(b'a', 1_000_000),
+        "cdc76e5c9914fb9281a1c7e284d73e67f1809a48a497200e046d39ccc7112cd0",
+    ),
+];
+
+/// NIST's additional examples of SHA-256.
+pub const NIST_ADDITIONAL: &[Hashed] = &[
+    hashed(
+        Plain(b"\xbd"),
+        "68325720aabd7c82f30f554b313d0570c95accbb7dc4b5aae11204c08ffe732b",
+    ),
+    hashed(
+        Plain(b"\xc9\x8c\x8e\x55"),
+        "7abc22c0ae5af26ce93dbb94433a0e0b2e119d014f8e7f65bd56c61ccccd9504",
+    ),
+    hashed(
+        Repeated(0, 55),
+        "02779466cdec163811d078815c633f21901413081449002f24aa3e80f0b88ef7",
+    ),
+    hashed(
+        Repeated(0, 56),
+        "d4817aa5497628e7c77e6b606107042bbba3130888c5f47a375e6179be789fbb",
+    ),
+    hashed(
+        Repeated(0, 57),
+        "65a16cb7861335d5ace3c60718b5052e44660726da4cd13bb745381b235a1785",
+    ),
+    hashed(
+        Repeated(0, 64),
+        "f5a5fd42d16a20302798ef6ed309979b43003d2320d9f0e8ea9831a92759fb4b",
+    ),
+    hashed(
+        Repeated(0, 1000),
+        "541b3e9daa09b20bf85fa273e5cbd3e80185aa4ec298e765db87742b70138a53",
+    ),
+    hashed(
+        Repeated(0x41, 1000),
+        "c2e686823489ced2017f6059b8b239318b6364f6dcd835d0a519105a1eadd6e4",
+    ),
+    hashed(
+        Repeated(0x55, 1005),
+        "f4d62ddec0f3dd90ea1380fa16a5ff8dc4c54b21740650f24afc4120903552b0",
+    ),
+    hashed(
+        Repeated(0, 1_000_000),
+        "d29751f2649b32ff572b5e0a9f541ea660a50f94ff0beedfb0b692b924cc8025",
+    ),
+];
+
+/// The first of NIST's validation system, SHA256ShortMsg: 0 to 8 bytes.
+pub const NIST_SHORT: &[Hashed] = &[
+    hashed(
+        Plain(b""),
+        "e3b0c44298fc1c149afbf4c8996fb92427ae41e4649b934ca495991b7852b855",
+    ),
+    hashed(
+        Plain(b"\xd3"),
+        "28969cdfa74a12c82f3bad960b0b000aca2ac329deea5c2328ebc6f2ba9802c1",
+    ),
+    hashed(
+        Plain(b"\x11\xaf"),
+        "5ca7133fa735326081558ac312c620eeca9970d1e70a4b95533d956f072d1f98",
+    ),
+    hashed(
+        Plain(b"\xb4\x19\x0e"),
+        "dff2e73091f6c05e528896c4c831b9448653dc2ff043528f6769437bc7b975c2",
+    ),
+    hashed(
+        Plain(b"\x74\xba\x25\x21"),
+        "b16aa56be3880d18cd41e68384cf1ec8c17680c45a02b1575dc1518923ae8b0e",
+    ),
+    hashed(
+        Plain(b"\xc2\x99\x20\x96\x82"),
+        "f0887fe961c9cd3beab957e8222494abb969b1ce4c6557976df8b0f6d20e9166",
+    ),
+    hashed(
+        Plain(b"\xe1\xdc\x72\x4d\x56\x21"),
+        "eca0a060b489636225b4fa64d267dabbe44273067ac679f20820bddc6b6a90ac",
+    ),
+    hashed(
+        Plain(b"\x06\xe0\x76\xf5\xa4\x42\xd5"),
+        "3fd877e27450e6bbd5d74bb82f9870c64c66e109418baa8e6bbcff355e287926",
+    ),
+    hashed(
+        Plain(b"\x57\x38\xc9\x29\xc4\xf4\xcc\xb6"),
+        "963bb88f27f512777aab6c8b1a02c70ec0ad651d428f870036e1917120fb48bf",
+    ),
+];
+
+/// RFC 4231, cases 1 to 7; case 5 gives 128 bits.
+pub const RFC_4231: &[Coded] = &[
+    coded(
+        Repeated(0x0b, 20),
+        b"Hi There",
+        "b0344c61d8db38535ca8afceaf0bf12b881dc200c9833da726e9376c2e32cff7",
+    ),
+    coded(
+        Plain(b"Jefe"),
+        b"what do ya want for nothing?",
+        "5bdcc146bf60754e6a042426089575c75a003f089d2739839dec58b964ec3843",
+    ),
+    coded(
+        Repeated(0xaa, 20),
+        &[0xdd; 50],
+        "773ea91e36800e46854db8ebd09181a72959098b3ef8c122d9635514ced565fe",
+    ),
+    coded(
+        Counting(1, 25),
+        &[0xcd; 50],
+        "82558a389a443c0ea4cc819899f2083a85f0faa3e578f8077a2e3ff46729665b",
+    ),
+    coded(
+        Repeated(0x0c, 20),
+        b"Test With Truncation",
+        "a3b6167473100ee06e0c796c2955552b",
+    ),
+    coded(
+        Repeated(0xaa, 131),
+        b"Test Using Larger Than Block-Size Key - Hash Key First",
+        "60e431591ee0b67f0d8a26aacbf5b77f8e0bc6213728c5140546040f0ee37f54",
+    ),
+    coded(
+        Repeated(0xaa, 131),
+        b"This is a test using a larger than block-size key and a larger than block-size data. \
+          The key needs to be hashed before being used by the HMAC algorithm.",
+        "9b09ffa71b942fcb27635fbcd5b0e944bfdc63644f0713938a7f51535c3a35e2",
+    ),
+];
+
+/// NIST's examples to FIPS 198-1: a key as long as a block, shorter, longer, and a code cut to 128
+/// bits.
+pub const FIPS_198_1: &[Coded] = &[
+    coded(
+        Counting(0, 63),
+        b"Sample message for keylen=blocklen",
+        "8bb9a1db9806f20df7f77b82138c7914d174d59e13dc4d0169c9057b133e1d62",
+    ),
+    coded(
+        Counting(0, 31),
+        b"Sample message for keylen<blocklen",
+        "a28cf43130ee696a98f14a37678b56bcfcbdd9e5cf69717fecf5480f0ebdf790",
+    ),
+    coded(
+        Counting(0, 99),
+        b"Sample message for keylen=blocklen",
+        "bdccb6c72ddeadb500ae768386cb38cc41c63dbb0878ddb9c7a38a431b78378d",
+    ),
+    coded(
+        Counting(0, 48),
+        b"Sample message for keylen<blocklen, with truncated tag",
+        "27a8b157839efeac98df070b331d5936",
+    ),
+];
