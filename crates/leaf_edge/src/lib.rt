@@ -1,18 +1,25 @@
 // The leaves as exported functions, so that tests in Rust can run each of them on vectors and beside the second receiver. It is no part of
 // the receiver's own boundary. Each function asks what its leaf asks, gives what its leaf gives, and calls it once; a result that is an
 // array goes into a lent one, and an enum's value becomes two numbers.
+use rules::Chain;
+use rules::Tag;
 ghost use mathlib.Core.Path.{_≡_};
 ghost use mathlib.Core.Bool.{cond};
-ghost use Prim.Native.Nat.{_+_, _^_, _≤_, _<_};
-ghost use lib.ListN.{length};
+ghost use Prim.Native.Nat.{_+_, _*_, _^_, _≤_, _<_};
+ghost use lib.ListN.{length, take};
 ghost use Rattle.laws.specs.Lists.{splice};
 ghost use Rattle.rules.specs.Times as Times;
 ghost use Rattle.rules.specs.Words as Words;
 ghost use Rattle.rules.specs.Tags as Tags;
 ghost use Rattle.rules.specs.Gather as Gather;
 ghost use Rattle.navdata.specs.Pieces.{nav};
+ghost use Rattle.rules.specs.Keys as Keys;
+ghost use Rattle.rules.specs.Kroot as Kroot;
+ghost use Rattle.rules.specs.Chain.{held, keyFits};
+ghost use Rattle.rules.specs.Verdict.{staying, chainUnchanged};
 ghost use Rattle.gather.specs.Store.{Lent, store};
-ghost use Rattle.leaf_edge.specs.Edge.{gatherTold, gatheredNumber};
+ghost use Rattle.chain.specs.Sound.{Walks};
+ghost use Rattle.leaf_edge.specs.Edge.{gatherTold, gatheredNumber, chainOf, tagOf};
 
 // A test as a number: 1 where it holds.
 fn number(b: bool) -> u32
@@ -168,4 +175,145 @@ pub extern "C" fn leaf_gather(
 {
     let answer = gather::gather(blocks, headers, marks, times, t, hk);
     gathered_number(answer)
+}
+
+// ---- public keys, and a DSM-KROOT
+
+#[no_mangle]
+pub extern "C" fn leaf_above_all(keys: &[u8], id: u8) -> u32
+    requires { ⌜ (length (now keys) ≡ 1088) × (id < 16) ⌝ }
+    ensures { λ r. ⌜ r ≡ cond (Keys.aboveAll (now (keys .entry)) id) 1 0 ⌝ }
+{
+    number(keyring::above_all(keys, id))
+}
+
+#[no_mangle]
+pub extern "C" fn leaf_same_key(keys: &[u8], id: u8, kind: u8, key: &[u8]) -> u32
+    requires { ⌜ (length (now keys) ≡ 1088) × ((id < 16) × (length (now key) ≤ 67)) ⌝ }
+    ensures { λ r. ⌜ r ≡ cond (Keys.sameKey (now (keys .entry)) id kind (now (key .entry))) 1 0 ⌝ }
+{
+    number(keyring::same_key(keys, id, kind, key))
+}
+
+#[no_mangle]
+pub extern "C" fn leaf_add_key(keys: &mut [u8], id: u8, kind: u8, key: &[u8])
+    requires { ⌜ ((length (now keys) ≡ 1088) × (id < 16)) × ((kind < 4) × (length (now key) ≤ 67)) ⌝ }
+    ensures { λ _. ⌜ now (keys .exit) ≡ Keys.withKey (now (keys .entry)) id kind (now (key .entry)) ⌝ }
+{
+    keyring::add_key(keys, id, kind, key);
+}
+
+#[no_mangle]
+pub extern "C" fn leaf_drop_lower(keys: &mut [u8], id: u8)
+    requires { ⌜ (length (now keys) ≡ 1088) × (id < 16) ⌝ }
+    ensures { λ _. ⌜ now (keys .exit) ≡ Keys.withoutLower (now (keys .entry)) id ⌝ }
+{
+    keyring::drop_lower(keys, id);
+}
+
+#[no_mangle]
+pub extern "C" fn leaf_kroot_judge(keys: &[u8], maclt: u8, offer: &mut [u8], header: u8, d: &[u8]) -> u32
+    requires { ⌜ (length (now keys) ≡ 1088) × ((length (now offer) ≡ 179) × (91 ≤ length (now d))) ⌝ }
+    ensures { λ r. ⌜ (r ≡ (Kroot.krootJudged (now (keys .entry)) maclt (now (offer .entry)) header (now (d .entry))) .code) × (now (offer .exit) ≡ (Kroot.krootJudged (now (keys .entry)) maclt (now (offer .entry)) header (now (d .entry))) .offer) ⌝ }
+{
+    messages::kroot_judge(keys, maclt, offer, header, d)
+}
+
+#[no_mangle]
+pub extern "C" fn leaf_chain_unchanged(a: &[u8], b: &[u8]) -> u32
+    requires { ⌜ (44 ≤ length (now a)) × (44 ≤ length (now b)) ⌝ }
+    ensures { λ r. ⌜ r ≡ cond (chainUnchanged (now (a .entry)) (now (b .entry))) 1 0 ⌝ }
+{
+    number(messages::chain_unchanged(a, b))
+}
+
+// ---- keys of a chain
+
+#[no_mangle]
+pub extern "C" fn leaf_key_fits(
+    ns: u64,
+    nmack: u64,
+    root: u64,
+    alpha: &[u8; 6],
+    width: usize,
+    slot: u64,
+    known: &[u8; 32],
+    sent: u64,
+    key: &[u8; 32],
+) -> u32
+    requires { ⌜ Walks (chainOf ns nmack root (now alpha) width 0 0) × ((slot ≤ 2 ^ 34) × (sent ≤ 2 ^ 34)) ⌝ }
+    ensures { λ r. ⌜ r ≡ cond (keyFits (chainOf ns nmack root (now (alpha .entry)) width 0 0) (held slot (take width (now (known .entry)))) sent (take width (now (key .entry)))) 1 0 ⌝ }
+{
+    let a = *alpha;
+    let c = Chain {
+        ns: ns,
+        nmack: nmack,
+        root: root,
+        alpha: a,
+        width: width,
+        ms: 0,
+        fields: 0,
+    };
+    let k = *known;
+    let s = *key;
+    number(chain::key_fits(c, slot, k, sent, s))
+}
+
+// ---- waiting tags and authentic sets
+
+#[no_mangle]
+pub extern "C" fn leaf_put_entry(
+    waiting: &mut [u8],
+    k: usize,
+    sender: u8,
+    prn: u8,
+    adkd: u8,
+    block: u8,
+    position: u8,
+    time: u32,
+    status: u8,
+    bits: u64,
+    set: &[u8],
+)
+    requires { ⌜ (k * 84 + 84 ≤ length (now waiting)) × (length (now set) ≡ 69) ⌝ }
+    ensures { λ _. ⌜ now (waiting .exit) ≡ splice (now (waiting .entry)) (k * 84) (Tags.tagEntry (tagOf sender prn adkd block position time status bits) (now (set .entry))) ⌝ }
+{
+    let t = Tag {
+        sender: sender,
+        prn: prn,
+        adkd: adkd,
+        block: block,
+        position: position,
+        time: time,
+        status: status,
+        bits: bits,
+    };
+    waiting::put_entry(waiting, k, t, set);
+}
+
+#[no_mangle]
+pub extern "C" fn leaf_keep_staying(waiting: &mut [u8], root: u64, n: usize) -> usize
+    requires { ⌜ (length (now waiting) ≡ 21504) × (n ≤ 256) ⌝ }
+    ensures { λ r. ⌜ (now (waiting .exit) ≡ splice (now (waiting .entry)) 0 (staying root (now (waiting .entry)) n)) × ((length (staying root (now (waiting .entry)) n) ≡ r * 84) × (r ≤ n)) ⌝ }
+{
+    waiting::keep_staying(waiting, root, n)
+}
+
+#[no_mangle]
+pub extern "C" fn leaf_enter_set(sets: &mut [u8], times: &mut [u32], prn: u8, time: u32, set: &[u8])
+    requires { ⌜ ((length (now sets) ≡ 2484) × (length (now times) ≡ 36)) × (length (now set) ≡ 69) ⌝ }
+    requires { ⌜ ((1 ≤ prn) × (prn ≤ 36)) × (time < 4294967295) ⌝ }
+    ensures { λ _. ⌜ (now (sets .exit) ≡ Tags.setsEntered (now (sets .entry)) (now (times .entry)) (tagOf 0 prn 0 0 0 time 0 0) (now (set .entry))) × (now (times .exit) ≡ Tags.timesEntered (now (times .entry)) (tagOf 0 prn 0 0 0 time 0 0)) ⌝ }
+{
+    let t = Tag {
+        sender: 0,
+        prn: prn,
+        adkd: 0,
+        block: 0,
+        position: 0,
+        time: time,
+        status: 0,
+        bits: 0,
+    };
+    authentic::enter_set(sets, times, t, set);
 }

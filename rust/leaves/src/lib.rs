@@ -5,6 +5,9 @@
 
 mod raw;
 
+pub mod chain;
 pub mod dsm;
+pub mod keys;
+pub mod tags;
 pub mod times;
 pub mod words;

@@ -64,4 +64,84 @@ extern "C" {
         t: u32,
         hk: *const [u8; 15],
     ) -> usize;
+
+    pub fn leaf_above_all(keys: *const u8, keys_len: usize, id: u8) -> u32;
+    pub fn leaf_same_key(
+        keys: *const u8,
+        keys_len: usize,
+        id: u8,
+        kind: u8,
+        key: *const u8,
+        key_len: usize,
+    ) -> u32;
+    pub fn leaf_add_key(
+        keys: *mut u8,
+        keys_len: usize,
+        id: u8,
+        kind: u8,
+        key: *const u8,
+        key_len: usize,
+    );
+    pub fn leaf_drop_lower(keys: *mut u8, keys_len: usize, id: u8);
+    pub fn leaf_kroot_judge(
+        keys: *const u8,
+        keys_len: usize,
+        maclt: u8,
+        offer: *mut u8,
+        offer_len: usize,
+        header: u8,
+        d: *const u8,
+        d_len: usize,
+    ) -> u32;
+    pub fn leaf_chain_unchanged(a: *const u8, a_len: usize, b: *const u8, b_len: usize) -> u32;
+
+    /// Of crates/chain_edge: total, 1 where a number is out of range.
+    pub fn osnma_walk(
+        ns: u64,
+        nmack: u64,
+        root: u64,
+        alpha: *const [u8; 6],
+        width: usize,
+        n: u64,
+        m: u64,
+        key: *mut [u8; 32],
+    ) -> u32;
+    pub fn leaf_key_fits(
+        ns: u64,
+        nmack: u64,
+        root: u64,
+        alpha: *const [u8; 6],
+        width: usize,
+        slot: u64,
+        known: *const [u8; 32],
+        sent: u64,
+        key: *const [u8; 32],
+    ) -> u32;
+
+    pub fn leaf_put_entry(
+        waiting: *mut u8,
+        waiting_len: usize,
+        k: usize,
+        sender: u8,
+        prn: u8,
+        adkd: u8,
+        block: u8,
+        position: u8,
+        time: u32,
+        status: u8,
+        bits: u64,
+        set: *const u8,
+        set_len: usize,
+    );
+    pub fn leaf_keep_staying(waiting: *mut u8, waiting_len: usize, root: u64, n: usize) -> usize;
+    pub fn leaf_enter_set(
+        sets: *mut u8,
+        sets_len: usize,
+        times: *mut u32,
+        times_len: usize,
+        prn: u8,
+        time: u32,
+        set: *const u8,
+        set_len: usize,
+    );
 }

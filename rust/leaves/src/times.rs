@@ -22,7 +22,7 @@ pub fn seconds_of(g: u32) -> u64 {
 }
 
 impl Slots {
-    fn in_range(&self) -> bool {
+    pub(crate) fn in_range(&self) -> bool {
         (1..=36).contains(&self.ns) && (1..=3).contains(&self.nmack) && self.root < 1 << 33
     }
 

@@ -84,17 +84,15 @@ fn a_1_4_dsm_kroot() {
     let mut bench = Bench::started(&annex_start());
     assert_eq!(bench.dsm(18, gst(947, 431_760), HEADER_A, 0, &dsm), 0);
     let waiting = bench.receiver.waiting_message().unwrap();
-    let message = "8220410B03B378F1CA3856A975EE6772D9AB8396866DC57EADA1D29637";
-    let signature = "15E81EE289C9F6F54869405F5E115E424777D11D598D2451CC576C2837A3984715B22FD153EF85179EA6D4BD0101DB1C0E363A19DCA1625034F2CCF9D0E763E3";
     assert_eq!(waiting.key_id, 0);
-    assert_eq!(upper(&waiting.message), message);
-    assert_eq!(upper(&waiting.signature), signature);
+    assert_eq!(upper(&waiting.message), SIGNED_MESSAGE);
+    assert_eq!(upper(&waiting.signature), SIGNATURE);
     // P1 is the start of the hash of message and signature (000, 5.1).
-    let padding = sha256(&[hex(message), hex(signature)].concat());
+    let padding = sha256(&[hex(SIGNED_MESSAGE), hex(SIGNATURE)].concat());
     assert_eq!(upper(&padding[..11]), "A442FF8199A7D3C8CEF9B2");
     assert_eq!(dsm[93..], padding[..11]);
 
-    assert_eq!(bench.good(0, &hex(message), &hex(signature)), 0);
+    assert_eq!(bench.good(0, &hex(SIGNED_MESSAGE), &hex(SIGNATURE)), 0);
     let chain = bench.receiver.chain().unwrap();
     assert_eq!(upper(chain.root.as_slice()), KROOT);
     assert_eq!(header_cid(HEADER_A), chain.parameters.cid);
@@ -168,7 +166,7 @@ fn a_1_5_mac0_and_macseq() {
     };
     let message = upper(&tag.message(&set));
     assert_ne!(message, MAC0_MESSAGE);
-    assert_eq!(message, repair(99, "00", "").apply(MAC0_MESSAGE));
+    assert_eq!(message, mac0_message());
     let mac = "E5819AB582F2269E68FCB6AB5B368041E4E87F25320905E08EB48113ADEE997A";
     assert_eq!(upper(&hmac_sha256(&key, &hex(&message))), mac);
     assert_ne!(upper(&hmac_sha256(&key, &hex(MAC0_MESSAGE))), mac);
