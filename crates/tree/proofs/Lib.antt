@@ -1,0 +1,2 @@
+-- Laws of DSM-PKR that other crates cite.
+pub mod Pkr
