@@ -1,0 +1,2 @@
+-- Laws of tag and MACSEQ messages that other crates cite.
+pub mod Messages

@@ -1,0 +1,135 @@
+// Tag and MACSEQ messages and their codes (000, 5.5 and 5.6; 01, "MACK"). A key is given as what HMAC keeps of it, made once for all
+// tags of a slot. A code is compared by its first bits as a number; one proof serves every tag width.
+// Public calls:
+//   tag_matches   whether a tag matches a set under a key
+//   macseq_fits   whether MACSEQ fits the flexible fields of a section
+use hmac::HmacKey;
+use rules::Chain;
+use rules::Tag;
+ghost use mathlib.Core.Path.{_≡_};
+ghost use mathlib.Core.Bool.{cond};
+ghost use mathlib.Core.List.{List, []};
+ghost use Prim.Native.Nat.{ℕ, _+_, _*_, _≤_, _<_};
+ghost use lib.Dec.{eqb};
+ghost use lib.ListN.{length, take};
+ghost use Rattle.laws.specs.Lists.{splice};
+ghost use Rattle.laws.specs.Bytes.{be2};
+ghost use Rattle.hmac.specs.Hmac.{keyOf};
+ghost use Rattle.rules.specs.Mack.{fieldInfo, macseqOf};
+ghost use Rattle.rules.specs.Tags.{macBits, firstMessage, tagMessage, macseqMessage, flexible};
+ghost use Rattle.tags.specs.Layout.{Laid, section};
+
+// The first n bits of the code of a message, as a number.
+pub fn mac_bits(n: usize, key: HmacKey, message: &[u8]) -> u64
+    requires { ⌜ (n ≤ 56) × (length (now message) ≤ 76) ⌝ }
+    ensures { λ r. ⌜ ((k : List ℕ) → key ≡ keyOf k → r ≡ macBits n k (now (message .entry))) ⌝ }
+{
+    let code = hmac::hmac_with(key, message);
+    bitfields::bits_at(&code, 0, n)
+}
+
+// ---- tags
+
+// A tag's message: PRN_N, then m0, which is the message of tag0.
+pub fn tag_message(t: Tag, set: &[u8], out: &mut [u8])
+    requires { ⌜ (length (now set) ≡ 69) × (length (now out) ≡ 76) ⌝ }
+    ensures { λ _. ⌜ now (out .exit) ≡ tagMessage t (now (set .entry)) ⌝ }
+{
+    let time = t.time;
+    let head = [
+        t.prn,
+        t.sender,
+        (time / 16777216 % 256) as u8,
+        (time / 65536 % 256) as u8,
+        (time / 256 % 256) as u8,
+        (time % 256) as u8,
+        t.position,
+    ];
+    buffer::copy_at(out, 0, &head);
+    navdata::status_and_set(t.status, set, out, 7);
+}
+
+// The code of a tag's message, to the tag's width; tag0's message has no PRN_N.
+fn tag_code(ms: u64, key: HmacKey, first: bool, message: &[u8]) -> u64
+    requires { ⌜ (ms ≤ 40) × (length (now message) ≡ 76) ⌝ }
+    ensures { λ r. ⌜ ((k : List ℕ) (t : Tag) (navdata : List ℕ) → key ≡ keyOf k → now (message .entry) ≡ tagMessage t navdata → r ≡ macBits ms k (cond first (firstMessage t navdata) (tagMessage t navdata))) ⌝ }
+{
+    if first {
+        return mac_bits(ms as usize, key, &message[1..76]);
+    }
+    mac_bits(ms as usize, key, message)
+}
+
+// The tag matches the set under the key; tag0 is the first field of a section.
+pub fn tag_matches(ms: u64, key: HmacKey, first: bool, t: Tag, set: &[u8]) -> bool
+    requires { ⌜ (ms ≤ 40) × (length (now set) ≡ 69) ⌝ }
+    ensures { λ r. ⌜ ((k : List ℕ) → key ≡ keyOf k → r ≡ eqb (macBits ms k (cond first (firstMessage t (now (set .entry))) (tagMessage t (now (set .entry))))) (t .bits)) ⌝ }
+{
+    let bits = t.bits;
+    let mut message = [0u8; 76];
+    tag_message(t, set, &mut message);
+    tag_code(ms, key, first, &message) == bits
+}
+
+// ---- MACSEQ
+
+// The MAC-Info of field j, where it is flexible, into `out` from place n. Gives the place after it.
+fn put_info(
+    config: &[u8],
+    c: Chain,
+    time: u32,
+    mack: &[u8],
+    j: usize,
+    out: &mut [u8],
+    n: usize,
+) -> usize
+    requires { ⌜ Laid c × (((length (now config) ≡ 63) × (length (now mack) ≡ 60)) × ((j < c .nmack * c .fields) × (n + 2 ≤ length (now out)))) ⌝ }
+    ensures { λ r. ⌜ (now (out .exit) ≡ splice (now (out .entry)) n (cond (flexible (now (config .entry)) time j) (be2 (fieldInfo c (now (mack .entry)) j)) [])) × (r ≡ n + cond (flexible (now (config .entry)) time j) 2 0) ⌝ }
+{
+    if tags::flexible(config, time, j) {
+        buffer::put_u16(out, n, tags::field_info(c, mack, j));
+        return n + 2;
+    }
+    n
+}
+
+// The MACSEQ message in the front of `out`. Gives its length.
+fn macseq_message(config: &[u8], c: Chain, prn: u8, time: u32, mack: &[u8], out: &mut [u8]) -> usize
+    requires { ⌜ Laid c × (((length (now config) ≡ 63) × (length (now mack) ≡ 60)) × (length (now out) ≡ 33)) ⌝ }
+    ensures { λ r. ⌜ (take r (now (out .exit)) ≡ macseqMessage (now (config .entry)) c (section prn time 0 (now (mack .entry))) (c .nmack * c .fields)) × (r ≤ 33) ⌝ }
+{
+    let count = (c.nmack * c.fields) as usize;
+    let head = [
+        prn,
+        (time / 16777216 % 256) as u8,
+        (time / 65536 % 256) as u8,
+        (time / 256 % 256) as u8,
+        (time % 256) as u8,
+    ];
+    buffer::copy_at(out, 0, &head);
+    let mut n: usize = 5;
+    let mut j: usize = 0;
+    while j < count {
+        n = put_info(config, c, time, mack, j, out, n);
+        j += 1;
+    }
+    n
+}
+
+// The first 12 bits of the code of the first n bytes.
+fn macseq_code(key: HmacKey, message: &[u8], n: usize) -> u64
+    requires { ⌜ (length (now message) ≡ 33) × (n ≤ 33) ⌝ }
+    ensures { λ r. ⌜ ((k : List ℕ) → key ≡ keyOf k → r ≡ macBits 12 k (take n (now (message .entry)))) ⌝ }
+{
+    mac_bits(12, key, &message[0..n])
+}
+
+// MACSEQ fits the flexible fields of the section, under the key of block 1's tags.
+pub fn macseq_fits(config: &[u8], c: Chain, prn: u8, time: u32, mack: &[u8], key: HmacKey) -> bool
+    requires { ⌜ Laid c × ((length (now config) ≡ 63) × (length (now mack) ≡ 60)) ⌝ }
+    ensures { λ r. ⌜ ((k : List ℕ) (status : ℕ) → key ≡ keyOf k → r ≡ eqb (macBits 12 k (macseqMessage (now (config .entry)) c (section prn time status (now (mack .entry))) (c .nmack * c .fields))) (macseqOf c (now (mack .entry)))) ⌝ }
+{
+    let mut message = [0u8; 33];
+    let n = macseq_message(config, c, prn, time, mack, &mut message);
+    macseq_code(key, &message, n) == tags::macseq_of(c, mack)
+}

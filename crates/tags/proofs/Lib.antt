@@ -1,0 +1,2 @@
+-- Laws of the fields' places that other crates cite.
+pub mod Places

@@ -1,0 +1,2 @@
+-- What the contracts of `tags` and of its callers cite.
+pub mod Layout

@@ -1,0 +1,200 @@
+// The fields of a MACK section, its tags, the marks that say which ADKD a field has, and tag records (01, "MACK"; 000, 4).
+// Fields are read at any bit of the 60 bytes; one proof serves every tag width.
+// Public calls:
+//   field_tag, field_info, macseq_of   the parts of a field
+//   own_tag                            a field as a tag
+//   flexible, not_allowed              what a field's mark says
+//   record_issue, put_record           the record of a tag
+use rules::Chain;
+use rules::Tag;
+ghost use mathlib.Core.Path.{_≡_};
+ghost use mathlib.Core.Bool.{cond, _&&_, _||_};
+ghost use Prim.Native.Nat.{_+_, _*_, _≤_, _<_};
+ghost use lib.ListN.{length};
+ghost use Rattle.laws.specs.Lists.{splice};
+ghost use Rattle.rules.specs.Kroot.{blockBits};
+ghost use Rattle.rules.specs.Mack.{fieldAt, fieldTag, fieldInfo, macseqOf};
+ghost use Rattle.rules.specs.State.{markOf};
+ghost use Rattle.rules.specs.Tags.{ownTag, secondHalf, notAllowed, tagRecord, recordIssue};
+ghost use Rattle.rules.specs.Tags as rules;
+ghost use Rattle.tags.specs.Layout.{Laid, section};
+
+// ---- fields
+
+// Bits of a block.
+fn block_bits(nmack: u64) -> usize
+    ensures { λ r. ⌜ r ≡ blockBits nmack ⌝ }
+{
+    if nmack == 3 {
+        return 160;
+    }
+    if nmack == 2 {
+        return 240;
+    }
+    480
+}
+
+// The bit at which field j of the section begins.
+fn field_place(c: Chain, j: usize) -> usize
+    requires { ⌜ Laid c × (j < c .nmack * c .fields) ⌝ }
+    ensures { λ r. ⌜ (r ≡ fieldAt c j) × (r + c .ms + 16 ≤ 480) ⌝ }
+{
+    let block = block_bits(c.nmack);
+    let fields = c.fields as usize;
+    let wide = c.ms as usize + 16;
+    (j / fields) * block + (j % fields) * wide
+}
+
+// The tag of field j, as a number.
+pub fn field_tag(c: Chain, mack: &[u8], j: usize) -> u64
+    requires { ⌜ Laid c × ((j < c .nmack * c .fields) × (length (now mack) ≡ 60)) ⌝ }
+    ensures { λ r. ⌜ r ≡ fieldTag c (now (mack .entry)) j ⌝ }
+{
+    let at = field_place(c, j);
+    bitfields::bits_at(mack, at, c.ms as usize)
+}
+
+// The PRN, ADKD and IOD of field j: 16 bits.
+pub fn field_info(c: Chain, mack: &[u8], j: usize) -> u16
+    requires { ⌜ Laid c × ((j < c .nmack * c .fields) × (length (now mack) ≡ 60)) ⌝ }
+    ensures { λ r. ⌜ r ≡ fieldInfo c (now (mack .entry)) j ⌝ }
+{
+    let at = field_place(c, j);
+    bitfields::bits_at(mack, at + c.ms as usize, 16) as u16
+}
+
+// MACSEQ, after tag0.
+pub fn macseq_of(c: Chain, mack: &[u8]) -> u64
+    requires { ⌜ (c .ms ≤ 40) × (length (now mack) ≡ 60) ⌝ }
+    ensures { λ r. ⌜ r ≡ macseqOf c (now (mack .entry)) ⌝ }
+{
+    bitfields::bits_at(mack, c.ms as usize, 12)
+}
+
+// One of two bytes, by a test.
+fn pick(b: bool, x: u8, y: u8) -> u8
+    ensures { λ r. ⌜ r ≡ cond b x y ⌝ }
+{
+    if b { x } else { y }
+}
+
+// Field j as a tag. Tag0 is the sender's own, ADKD 0.
+pub fn own_tag(c: Chain, prn: u8, time: u32, status: u8, mack: &[u8], j: usize) -> Tag
+    requires { ⌜ Laid c × ((j < c .nmack * c .fields) × (length (now mack) ≡ 60)) ⌝ }
+    ensures { λ r. ⌜ r ≡ ownTag c (section prn time status (now (mack .entry))) j ⌝ }
+{
+    let fields = c.fields as usize;
+    let bits = field_tag(c, mack, j);
+    let info = field_info(c, mack, j);
+    let first = j == 0;
+    let named = pick(first, prn, (info / 256) as u8);
+    let adkd = pick(first, 0, (info / 16 % 16) as u8);
+    Tag {
+        sender: prn,
+        prn: named,
+        adkd: adkd,
+        block: (j / fields + 1) as u8,
+        position: (j % fields + 1) as u8,
+        time: time,
+        status: status,
+        bits: bits,
+    }
+}
+
+// ---- marks
+
+// Second 30 of the minute.
+fn second_half(time: u32) -> bool
+    ensures { λ r. ⌜ r ≡ secondHalf time ⌝ }
+{
+    gst::second_of(time) % 60 == 30
+}
+
+// The mark of field j.
+fn mark_of(config: &[u8], half: bool, j: usize) -> u8
+    requires { ⌜ (length (now config) ≡ 63) × (j < 14) ⌝ }
+    ensures { λ r. ⌜ r ≡ markOf (now (config .entry)) half j ⌝ }
+{
+    if half {
+        return config[16 + j];
+    }
+    config[2 + j]
+}
+
+// Field j has a flexible ADKD.
+pub fn flexible(config: &[u8], time: u32, j: usize) -> bool
+    requires { ⌜ (length (now config) ≡ 63) × (j < 14) ⌝ }
+    ensures { λ r. ⌜ r ≡ rules.flexible (now (config .entry)) time j ⌝ }
+{
+    mark_of(config, second_half(time), j) == 255
+}
+
+// Both tests hold.
+fn both(a: bool, b: bool) -> bool
+    ensures { λ r. ⌜ r ≡ (a && b) ⌝ }
+{
+    if a { b } else { false }
+}
+
+// One of the tests holds.
+fn either(a: bool, b: bool) -> bool
+    ensures { λ r. ⌜ r ≡ (a || b) ⌝ }
+{
+    if a { true } else { b }
+}
+
+// "4 ADKD not 0, 11, 12, or not the fixed one, or PRN not 1 to 36"
+pub fn not_allowed(config: &[u8], j: usize, t: Tag) -> bool
+    requires { ⌜ (length (now config) ≡ 63) × (j < 14) ⌝ }
+    ensures { λ r. ⌜ r ≡ notAllowed (now (config .entry)) j t ⌝ }
+{
+    let adkd = t.adkd;
+    let prn = t.prn;
+    let mark = mark_of(config, second_half(t.time), j);
+    let known = either(adkd == 0, either(adkd == 11, adkd == 12));
+    let other = both(!(mark == 255), !(adkd == mark));
+    let heard = both(1 <= prn, prn <= 36);
+    either(!known, either(other, !heard))
+}
+
+// ---- records
+
+// The IODnav of a record: that of the set, or 0 for outcomes 3, 4 and 6.
+pub fn record_issue(outcome: u8, set: &[u8]) -> u16
+    requires { ⌜ length (now set) ≡ 69 ⌝ }
+    ensures { λ r. ⌜ r ≡ recordIssue outcome (now (set .entry)) ⌝ }
+{
+    if outcome == 3 {
+        return 0;
+    }
+    if outcome == 4 {
+        return 0;
+    }
+    if outcome == 6 {
+        return 0;
+    }
+    navdata::set_issue(set)
+}
+
+// A tag's record into the area, 12 bytes from place `at`.
+pub fn put_record(area: &mut [u8], at: usize, outcome: u8, t: Tag, issue: u16)
+    requires { ⌜ at + 12 ≤ length (now area) ⌝ }
+    ensures { λ _. ⌜ now (area .exit) ≡ splice (now (area .entry)) at (tagRecord outcome t issue) ⌝ }
+{
+    let time = t.time;
+    let bytes = [
+        outcome,
+        t.sender,
+        t.prn,
+        t.adkd,
+        t.block,
+        t.position,
+        (issue / 256 % 256) as u8,
+        (issue % 256) as u8,
+        (time / 16777216 % 256) as u8,
+        (time / 65536 % 256) as u8,
+        (time / 256 % 256) as u8,
+        (time % 256) as u8,
+    ];
+    buffer::copy_at(area, at, &bytes);
+}
