@@ -16,9 +16,11 @@ ghost use Rattle.navdata.specs.Pieces.{nav};
 ghost use Rattle.rules.specs.Keys as Keys;
 ghost use Rattle.rules.specs.Kroot as Kroot;
 ghost use Rattle.rules.specs.Chain.{held, keyFits};
+ghost use Rattle.rules.specs.Mack.{keysProved};
+ghost use Rattle.rules.specs.Pkr as Pkr;
 ghost use Rattle.rules.specs.Verdict.{staying, chainUnchanged};
 ghost use Rattle.gather.specs.Store.{Lent, store};
-ghost use Rattle.chain.specs.Sound.{Walks};
+ghost use Rattle.chain.specs.Sound.{Walks, Sound};
 ghost use Rattle.leaf_edge.specs.Edge.{gatherTold, gatheredNumber, chainOf, tagOf};
 
 // A test as a number: 1 where it holds.
@@ -227,6 +229,16 @@ pub extern "C" fn leaf_chain_unchanged(a: &[u8], b: &[u8]) -> u32
     number(messages::chain_unchanged(a, b))
 }
 
+// The number of a DSM-PKR; whether it stops the receiver is not told.
+#[no_mangle]
+pub extern "C" fn leaf_pkr_code(keys: &mut [u8], root: &[u8], d: &[u8]) -> u32
+    requires { ⌜ (length (now keys) ≡ 1088) × ((91 ≤ length (now d)) × (length (now d) ≤ 208)) ⌝ }
+    ensures { λ r. ⌜ (r ≡ (Pkr.pkrJudged (now (keys .entry)) (now (root .entry)) (now (d .entry))) .code) × (now (keys .exit) ≡ (Pkr.pkrJudged (now (keys .entry)) (now (root .entry)) (now (d .entry))) .keys) ⌝ }
+{
+    let r = tree::pkr_judge(keys, root, d);
+    r.code
+}
+
 // ---- keys of a chain
 
 #[no_mangle]
@@ -257,6 +269,72 @@ pub extern "C" fn leaf_key_fits(
     let k = *known;
     let s = *key;
     number(chain::key_fits(c, slot, k, sent, s))
+}
+
+// The number of a section's keys.
+#[no_mangle]
+pub extern "C" fn leaf_keys_code(
+    ns: u64,
+    nmack: u64,
+    root: u64,
+    alpha: &[u8; 6],
+    width: usize,
+    ms: u64,
+    fields: u64,
+    g: u32,
+    prn: u8,
+    m: &[u8],
+    slot: u64,
+    key: &mut [u8; 32],
+) -> u32
+    requires { ⌜ Sound (chainOf ns nmack root (now alpha) width ms fields) × ((length (now m) ≡ 60) × ((slot < 2 ^ 34) × (length (now key) ≡ 32))) ⌝ }
+    ensures { λ r. ⌜ (r ≡ (keysProved (chainOf ns nmack root (now (alpha .entry)) width ms fields) g prn (now (m .entry)) (held slot (take width (now (key .entry)))) nmack) .code) × (now (key .exit) ≡ splice (now (key .entry)) 0 ((keysProved (chainOf ns nmack root (now (alpha .entry)) width ms fields) g prn (now (m .entry)) (held slot (take width (now (key .entry)))) nmack) .held .key)) ⌝ }
+{
+    let a = *alpha;
+    let c = Chain {
+        ns: ns,
+        nmack: nmack,
+        root: root,
+        alpha: a,
+        width: width,
+        ms: ms,
+        fields: fields,
+    };
+    let p = section::keys_proved(c, g, prn, m, slot, key);
+    p.code
+}
+
+// The slot of the highest key proved of a section's.
+#[no_mangle]
+pub extern "C" fn leaf_keys_slot(
+    ns: u64,
+    nmack: u64,
+    root: u64,
+    alpha: &[u8; 6],
+    width: usize,
+    ms: u64,
+    fields: u64,
+    g: u32,
+    prn: u8,
+    m: &[u8],
+    slot: u64,
+    key: &mut [u8; 32],
+) -> u64
+    requires { ⌜ Sound (chainOf ns nmack root (now alpha) width ms fields) × ((length (now m) ≡ 60) × ((slot < 2 ^ 34) × (length (now key) ≡ 32))) ⌝ }
+    ensures { λ r. ⌜ (r ≡ (keysProved (chainOf ns nmack root (now (alpha .entry)) width ms fields) g prn (now (m .entry)) (held slot (take width (now (key .entry)))) nmack) .held .slot) × (now (key .exit) ≡ splice (now (key .entry)) 0 ((keysProved (chainOf ns nmack root (now (alpha .entry)) width ms fields) g prn (now (m .entry)) (held slot (take width (now (key .entry)))) nmack) .held .key)) ⌝ }
+{
+    let a = *alpha;
+    let c = Chain {
+        ns: ns,
+        nmack: nmack,
+        root: root,
+        alpha: a,
+        width: width,
+        ms: ms,
+        fields: fields,
+    };
+    let p = section::keys_proved(c, g, prn, m, slot, key);
+    p.slot
 }
 
 // ---- waiting tags and authentic sets

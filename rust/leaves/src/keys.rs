@@ -75,6 +75,22 @@ pub fn kroot_judge(
     })
 }
 
+/// A complete DSM-PKR is judged by the installed root: 01's number. A key that it brings is then in `keys`.
+pub fn pkr_judge(keys: &mut Keys, root: &[u8], dsm: &[u8]) -> Option<u32> {
+    let (keys, keys_len) = (keys.0.as_mut_ptr(), keys.0.len());
+    // SAFETY: as above.
+    (91..=208).contains(&dsm.len()).then(|| unsafe {
+        raw::leaf_pkr_code(
+            keys,
+            keys_len,
+            root.as_ptr(),
+            root.len(),
+            dsm.as_ptr(),
+            dsm.len(),
+        )
+    })
+}
+
 /// Whether two chains' contents have equal CID, parameters and alpha.
 pub fn chain_unchanged(a: &[u8], b: &[u8]) -> Option<bool> {
     // SAFETY: as above.

@@ -95,6 +95,15 @@ extern "C" {
     ) -> u32;
     pub fn leaf_chain_unchanged(a: *const u8, a_len: usize, b: *const u8, b_len: usize) -> u32;
 
+    pub fn leaf_pkr_code(
+        keys: *mut u8,
+        keys_len: usize,
+        root: *const u8,
+        root_len: usize,
+        d: *const u8,
+        d_len: usize,
+    ) -> u32;
+
     /// Of crates/chain_edge: total, 1 where a number is out of range.
     pub fn osnma_walk(
         ns: u64,
@@ -117,6 +126,37 @@ extern "C" {
         sent: u64,
         key: *const [u8; 32],
     ) -> u32;
+
+    pub fn leaf_keys_code(
+        ns: u64,
+        nmack: u64,
+        root: u64,
+        alpha: *const [u8; 6],
+        width: usize,
+        ms: u64,
+        fields: u64,
+        g: u32,
+        prn: u8,
+        m: *const u8,
+        m_len: usize,
+        slot: u64,
+        key: *mut [u8; 32],
+    ) -> u32;
+    pub fn leaf_keys_slot(
+        ns: u64,
+        nmack: u64,
+        root: u64,
+        alpha: *const [u8; 6],
+        width: usize,
+        ms: u64,
+        fields: u64,
+        g: u32,
+        prn: u8,
+        m: *const u8,
+        m_len: usize,
+        slot: u64,
+        key: *mut [u8; 32],
+    ) -> u64;
 
     pub fn leaf_put_entry(
         waiting: *mut u8,

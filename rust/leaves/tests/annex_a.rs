@@ -6,7 +6,7 @@ mod common;
 use common::annex::*;
 use common::{hex, upper};
 use leaves::chain::Chain;
-use leaves::keys::{kroot_judge, Keys};
+use leaves::keys::{kroot_judge, pkr_judge, Keys};
 use leaves::times::Slots;
 use leaves::words::{set_issue, status_and_set, Nav};
 
@@ -105,4 +105,36 @@ fn a_1_5_set_in_the_message() {
     message.resize(75, 0xA5);
     status_and_set(2, &set, &mut message, 6).unwrap();
     assert_eq!(upper(&message), mac0_message());
+}
+
+// A.1.7: each leaf of table 29 with its four nodes gives the root of table 28, and its key is held. Leaf
+// 15 is an emergency message with ID 15, which is 6 (01).
+#[test]
+fn a_1_7_leaves_and_root() {
+    let leaves = leaves();
+    let root = levels(&leaves)[4][0];
+    let (level, index, printed) = NODES[0];
+    let right = NODE_REPAIRS
+        .iter()
+        .find(|repair| (repair.0, repair.1) == (level, index))
+        .map(|repair| repair.2.apply(printed));
+    assert_eq!(right, Some(upper(&root)));
+    let mut keys = Keys([0; 1088]);
+    for (id, leaf) in leaves.iter().enumerate() {
+        let dsm = dsm_pkr(&leaves, id);
+        let mut other = dsm.clone();
+        other[1 + 32 * (id % 4)] ^= 1;
+        let mut expected = keys.clone();
+        let number = if id == 15 { 6 } else { 0 };
+        let wrong = if id == 15 { 6 } else { 10 };
+        assert_eq!(pkr_judge(&mut keys, &root, &other), Some(wrong));
+        assert_eq!(keys, expected);
+        assert_eq!(pkr_judge(&mut keys, &root, &dsm), Some(number));
+        if number == 0 {
+            expected
+                .add(leaf[0] & 15, leaf[0] >> 4, &leaf[1..])
+                .unwrap();
+        }
+        assert_eq!(keys, expected, "leaf {id}");
+    }
 }

@@ -2,14 +2,17 @@
 
 use leaves::chain::Chain;
 use leaves::times::Slots;
+use second_receiver::bits::BitString;
 use second_receiver::chain::{self, TeslaKey};
-use second_receiver::mack::Layout;
+use second_receiver::mack::{prove_keys, Layout, Section};
+use second_receiver::times::Gst;
 use signal::rng::Rng;
 
 /// A chain as both have it.
 struct Pair {
     leaf: Chain,
     second: chain::Chain,
+    layout: Layout,
 }
 
 /// Any chain whose blocks hold a field.
@@ -35,7 +38,11 @@ fn any_pair(rng: &mut Rng) -> Pair {
             width: layout.key_bits / 8,
             ms: layout.tag_bits as u64,
         };
-        return Pair { leaf, second };
+        return Pair {
+            leaf,
+            second,
+            layout,
+        };
     }
 }
 
@@ -50,7 +57,7 @@ fn whole(key: &TeslaKey, rest: &[u8; 32]) -> [u8; 32] {
 fn walks_are_alike() {
     let mut rng = Rng::new(541);
     for _ in 0..2_000 {
-        let Pair { leaf, second } = any_pair(&mut rng);
+        let Pair { leaf, second, .. } = any_pair(&mut rng);
         let (n, rest) = (rng.below(50), rng.array::<32>());
         let m = match rng.below(3) {
             0 => 0,
@@ -71,7 +78,7 @@ fn walks_are_alike() {
 #[test]
 fn a_million_steps() {
     let mut rng = Rng::new(542);
-    let Pair { leaf, second } = any_pair(&mut rng);
+    let Pair { leaf, second, .. } = any_pair(&mut rng);
     let mut key = rng.array::<32>();
     let right = second.hash_down(&TeslaKey::new(&key[..leaf.width]), 1_000_007, 7);
     leaf.walk(1_000_000, 7, &mut key).unwrap();
@@ -105,7 +112,7 @@ fn keys_fit_alike() {
     let mut rng = Rng::new(544);
     let mut fits = 0;
     for _ in 0..2_000 {
-        let Pair { leaf, second } = any_pair(&mut rng);
+        let Pair { leaf, second, .. } = any_pair(&mut rng);
         let (slot, sent) = (rng.below(60), rng.below(60));
         let top = TeslaKey::new(&rng.bytes(leaf.width));
         let rest = rng.array::<32>();
@@ -125,4 +132,87 @@ fn keys_fit_alike() {
         fits += u32::from(right);
     }
     assert!((900..1_900).contains(&fits), "{fits} fit");
+}
+
+/// A section with these keys, any fields, and spare bits that are mostly zero.
+fn section(rng: &mut Rng, layout: &Layout, keys: &[TeslaKey]) -> [u8; 60] {
+    let mut bits = BitString::default();
+    for key in keys {
+        let fields = layout.fields * (layout.tag_bits + 16);
+        bits.push_bits(&rng.bytes(60), 0, fields);
+        bits.push_bits(key.as_slice(), 0, layout.key_bits);
+        let spare = layout.block_bits - layout.key_bits - fields;
+        let mut last = [0; 60];
+        if spare > 0 && rng.once_in(8) {
+            let bit = rng.below(spare as u64) as usize;
+            last[bit / 8] = 0x80 >> (bit % 8);
+        }
+        bits.push_bits(&last, 0, spare);
+    }
+    bits.into_bytes().try_into().unwrap()
+}
+
+#[test]
+fn keys_of_sections_are_judged_alike() {
+    let mut rng = Rng::new(545);
+    let mut counts = [0; 14];
+    for _ in 0..3_000 {
+        let Pair {
+            leaf,
+            mut second,
+            layout,
+        } = any_pair(&mut rng);
+        let prn = rng.range(1, 36) as u8;
+        let far = rng.once_in(300);
+        let ahead = if far { 1_000_000 } else { rng.below(100) };
+        let a_block = second.slots.of_tags(second.slots.start, 2) - 1;
+        let a_subframe = a_block * u64::from(layout.blocks);
+        let subframe = ahead / a_subframe + rng.below(4);
+        let seconds = second.slots.start + 30 * subframe;
+        let time = Gst::from_seconds(seconds);
+        let top = TeslaKey::new(&rng.bytes(leaf.width));
+        let last = second.slots.of_key(seconds, layout.blocks, prn);
+        // The held key: below, among or above the section's.
+        second.held_slot = if far {
+            rng.below(a_subframe + 2)
+        } else {
+            rng.below(last + 40)
+        };
+        let top_slot = last.max(second.held_slot);
+        second.held = second.hash_down(&top, top_slot, second.held_slot);
+        let keys: Vec<TeslaKey> = (1..=layout.blocks)
+            .map(|block| {
+                let slot = second.slots.of_key(seconds, block, prn);
+                let key = second.hash_down(&top, top_slot, slot);
+                let mut bytes = key.as_slice().to_vec();
+                if rng.once_in(10) {
+                    let at = rng.below(bytes.len() as u64) as usize;
+                    bytes[at] ^= 1 << rng.below(8);
+                }
+                TeslaKey::new(&bytes)
+            })
+            .collect();
+        let bytes = section(&mut rng, &layout, &keys);
+        let mut read = Section::read(&bytes, &layout);
+        let before = second.clone();
+        let right = prove_keys(&mut second, &read, prn, time).err().unwrap_or(0);
+        // The leaf leaves the highest key of the blocks before the one that fails.
+        let mut proved = second.clone();
+        while right != 0 {
+            read.keys.pop();
+            proved = before.clone();
+            if prove_keys(&mut proved, &read, prn, time).is_ok() {
+                break;
+            }
+        }
+        let rest = rng.array::<32>();
+        let mut key = whole(&before.held, &rest);
+        let given = leaf.keys_proved(time.0, prn, &bytes, before.held_slot, &mut key);
+        assert_eq!(given, Some((right.into(), proved.held_slot)));
+        assert_eq!(key, whole(&proved.held, &rest));
+        counts[usize::from(right)] += 1;
+    }
+    for number in [0, 12, 13] {
+        assert!(counts[number] > 3, "{number}: {}", counts[number]);
+    }
 }
