@@ -214,7 +214,13 @@ pub extern "C" fn leaf_drop_lower(keys: &mut [u8], id: u8)
 }
 
 #[no_mangle]
-pub extern "C" fn leaf_kroot_judge(keys: &[u8], maclt: u8, offer: &mut [u8], header: u8, d: &[u8]) -> u32
+pub extern "C" fn leaf_kroot_judge(
+    keys: &[u8],
+    maclt: u8,
+    offer: &mut [u8],
+    header: u8,
+    d: &[u8],
+) -> u32
     requires { ⌜ (length (now keys) ≡ 1088) × ((length (now offer) ≡ 179) × (91 ≤ length (now d))) ⌝ }
     ensures { λ r. ⌜ (r ≡ (Kroot.krootJudged (now (keys .entry)) maclt (now (offer .entry)) header (now (d .entry))) .code) × (now (offer .exit) ≡ (Kroot.krootJudged (now (keys .entry)) maclt (now (offer .entry)) header (now (d .entry))) .offer) ⌝ }
 {
