@@ -4,6 +4,8 @@
 
 #![allow(dead_code)]
 
+pub mod annex;
+
 use portable_hash::{hmac_sha256, sha256};
 use second_receiver::receiver::RECORDS_LEN;
 use second_receiver::Receiver;

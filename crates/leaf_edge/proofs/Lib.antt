@@ -1,0 +1,2 @@
+-- The answer of `gather` as one number.
+mod Told

@@ -1,0 +1,2 @@
+-- What the contracts of `leaf_edge` cite.
+pub mod Edge

@@ -1,0 +1,95 @@
+//! The key chain, and the keys of a MACK section (crates/chain, crates/section).
+
+use crate::raw;
+use crate::times::Slots;
+
+/// The last slot that a chain's keys are asked for.
+pub const LAST_SLOT: u64 = 1 << 34;
+
+/// The numbers of a chain.
+#[derive(Clone, Copy, Debug)]
+pub struct Chain {
+    pub slots: Slots,
+    pub alpha: [u8; 6],
+    /// Bytes of a key.
+    pub width: usize,
+    /// Bits of a tag.
+    pub ms: u64,
+}
+
+impl Chain {
+    fn walks(&self) -> bool {
+        self.slots.in_range() && (12..=32).contains(&self.width)
+    }
+
+    fn key_bits(&self) -> u64 {
+        8 * self.width as u64
+    }
+
+    /// Fields of a MACK block; none where the block is too short for one.
+    fn fields(&self) -> Option<u64> {
+        let left = (480 / self.slots.nmack).checked_sub(self.key_bits())?;
+        let fields = left / (self.ms + 16);
+        (self.ms <= 40 && fields > 0).then_some(fields)
+    }
+
+    /// The key of slot `m + n` becomes the key of slot `m`.
+    pub fn walk(&self, n: u64, m: u64, key: &mut [u8; 32]) -> Option<()> {
+        let Slots { ns, nmack, root } = self.slots;
+        // SAFETY: both arrays are lent; nothing is required.
+        let code = unsafe { raw::osnma_walk(ns, nmack, root, &self.alpha, self.width, n, m, key) };
+        (code == 0).then_some(())
+    }
+
+    /// Whether `key`, of slot `sent`, belongs to the chain of the key that is held of slot `slot`.
+    pub fn key_fits(&self, slot: u64, held: &[u8; 32], sent: u64, key: &[u8; 32]) -> Option<bool> {
+        let Slots { ns, nmack, root } = self.slots;
+        // SAFETY: the arrays are lent; the ranges are as required.
+        (self.walks() && slot <= LAST_SLOT && sent <= LAST_SLOT).then(|| unsafe {
+            raw::leaf_key_fits(
+                ns,
+                nmack,
+                root,
+                &self.alpha,
+                self.width,
+                slot,
+                held,
+                sent,
+                key,
+            ) == 1
+        })
+    }
+
+    /// The keys of a section that `prn` sent at `g`, against the key that is held of slot `slot`: 0, 12
+    /// or 13, and the slot of the highest key proved, which is then in `key`.
+    pub fn keys_proved(
+        &self,
+        g: u32,
+        prn: u8,
+        section: &[u8; 60],
+        slot: u64,
+        key: &mut [u8; 32],
+    ) -> Option<(u32, u64)> {
+        let Slots { ns, nmack, root } = self.slots;
+        let (alpha, width, ms) = (&self.alpha, self.width, self.ms);
+        let fields = self.walks().then(|| self.fields()).flatten()?;
+        if slot >= LAST_SLOT {
+            return None;
+        }
+        let (m, m_len) = (section.as_ptr(), section.len());
+        let mut again = *key;
+        // SAFETY: each is lent with its length; lengths and ranges are as required.
+        let (code, high) = unsafe {
+            (
+                raw::leaf_keys_code(
+                    ns, nmack, root, alpha, width, ms, fields, g, prn, m, m_len, slot, key,
+                ),
+                raw::leaf_keys_slot(
+                    ns, nmack, root, alpha, width, ms, fields, g, prn, m, m_len, slot, &mut again,
+                ),
+            )
+        };
+        assert_eq!(*key, again);
+        Some((code, high))
+    }
+}

@@ -1,0 +1,187 @@
+//! The exports of crates/leaf_edge as they are. A slice is a pointer and a count of elements, an array
+//! a pointer alone.
+//!
+//! Safety, for all: each pointer is aligned and good for what it stands for, to read, and where it is
+//! `*mut` also to write; what is written overlaps nothing else that is lent; and what the function's
+//! `requires` in crates/leaf_edge/src/lib.rt asks holds.
+
+extern "C" {
+    pub fn leaf_time_valid(g: u32) -> u32;
+    pub fn leaf_seconds_of(g: u32) -> u64;
+    pub fn leaf_slot_of(ns: u64, nmack: u64, s: u64, b: u64, p: u64) -> u64;
+    pub fn leaf_slot_seconds(ns: u64, nmack: u64, root: u64, m: u64) -> u64;
+    pub fn leaf_tag_slot(ns: u64, nmack: u64, root: u64, g: u32, b: u8, adkd: u8) -> u64;
+
+    pub fn leaf_store_word(
+        words: *mut u8,
+        words_len: usize,
+        times: *mut u32,
+        times_len: usize,
+        prn: usize,
+        kind: usize,
+        w: *const u8,
+        w_len: usize,
+        stamp: u32,
+    );
+    pub fn leaf_usable(
+        words: *const u8,
+        words_len: usize,
+        times: *const u32,
+        times_len: usize,
+        prn: usize,
+        t: u32,
+    ) -> u32;
+    pub fn leaf_set_bytes(
+        words: *const u8,
+        words_len: usize,
+        prn: usize,
+        out: *mut u8,
+        out_len: usize,
+        to: usize,
+    );
+    pub fn leaf_set_of(words: *const u8, words_len: usize, prn: usize, out: *mut [u8; 69]);
+    pub fn leaf_set_issue(set: *const u8, set_len: usize) -> u16;
+    pub fn leaf_status_and_set(
+        status: u8,
+        set: *const u8,
+        set_len: usize,
+        out: *mut u8,
+        out_len: usize,
+        to: usize,
+    );
+
+    pub fn leaf_hkroot_of(f: *const u8, f_len: usize, out: *mut [u8; 15]);
+    pub fn leaf_mack_of(f: *const u8, f_len: usize, out: *mut [u8; 60]);
+    pub fn leaf_gather(
+        blocks: *mut u8,
+        blocks_len: usize,
+        headers: *mut u8,
+        headers_len: usize,
+        marks: *mut u16,
+        marks_len: usize,
+        times: *mut u32,
+        times_len: usize,
+        t: u32,
+        hk: *const [u8; 15],
+    ) -> usize;
+
+    pub fn leaf_above_all(keys: *const u8, keys_len: usize, id: u8) -> u32;
+    pub fn leaf_same_key(
+        keys: *const u8,
+        keys_len: usize,
+        id: u8,
+        kind: u8,
+        key: *const u8,
+        key_len: usize,
+    ) -> u32;
+    pub fn leaf_add_key(
+        keys: *mut u8,
+        keys_len: usize,
+        id: u8,
+        kind: u8,
+        key: *const u8,
+        key_len: usize,
+    );
+    pub fn leaf_drop_lower(keys: *mut u8, keys_len: usize, id: u8);
+    pub fn leaf_kroot_judge(
+        keys: *const u8,
+        keys_len: usize,
+        maclt: u8,
+        offer: *mut u8,
+        offer_len: usize,
+        header: u8,
+        d: *const u8,
+        d_len: usize,
+    ) -> u32;
+    pub fn leaf_chain_unchanged(a: *const u8, a_len: usize, b: *const u8, b_len: usize) -> u32;
+
+    pub fn leaf_pkr_code(
+        keys: *mut u8,
+        keys_len: usize,
+        root: *const u8,
+        root_len: usize,
+        d: *const u8,
+        d_len: usize,
+    ) -> u32;
+
+    /// Of crates/chain_edge: total, 1 where a number is out of range.
+    pub fn osnma_walk(
+        ns: u64,
+        nmack: u64,
+        root: u64,
+        alpha: *const [u8; 6],
+        width: usize,
+        n: u64,
+        m: u64,
+        key: *mut [u8; 32],
+    ) -> u32;
+    pub fn leaf_key_fits(
+        ns: u64,
+        nmack: u64,
+        root: u64,
+        alpha: *const [u8; 6],
+        width: usize,
+        slot: u64,
+        known: *const [u8; 32],
+        sent: u64,
+        key: *const [u8; 32],
+    ) -> u32;
+
+    pub fn leaf_keys_code(
+        ns: u64,
+        nmack: u64,
+        root: u64,
+        alpha: *const [u8; 6],
+        width: usize,
+        ms: u64,
+        fields: u64,
+        g: u32,
+        prn: u8,
+        m: *const u8,
+        m_len: usize,
+        slot: u64,
+        key: *mut [u8; 32],
+    ) -> u32;
+    pub fn leaf_keys_slot(
+        ns: u64,
+        nmack: u64,
+        root: u64,
+        alpha: *const [u8; 6],
+        width: usize,
+        ms: u64,
+        fields: u64,
+        g: u32,
+        prn: u8,
+        m: *const u8,
+        m_len: usize,
+        slot: u64,
+        key: *mut [u8; 32],
+    ) -> u64;
+
+    pub fn leaf_put_entry(
+        waiting: *mut u8,
+        waiting_len: usize,
+        k: usize,
+        sender: u8,
+        prn: u8,
+        adkd: u8,
+        block: u8,
+        position: u8,
+        time: u32,
+        status: u8,
+        bits: u64,
+        set: *const u8,
+        set_len: usize,
+    );
+    pub fn leaf_keep_staying(waiting: *mut u8, waiting_len: usize, root: u64, n: usize) -> usize;
+    pub fn leaf_enter_set(
+        sets: *mut u8,
+        sets_len: usize,
+        times: *mut u32,
+        times_len: usize,
+        prn: u8,
+        time: u32,
+        set: *const u8,
+        set_len: usize,
+    );
+}

@@ -1,0 +1,108 @@
+//! Waiting tags and authentic sets beside the second receiver.
+
+use leaves::tags::{Authentic, Tag, Waiting};
+use second_receiver::tags::{self, WaitingTag};
+use second_receiver::times::Gst;
+use second_receiver::words::NavSet;
+use signal::rng::Rng;
+
+fn any_tag(rng: &mut Rng) -> Tag {
+    let second = 30 * rng.below(20_160) as u32;
+    Tag {
+        sender: rng.number() as u8,
+        prn: rng.number() as u8,
+        adkd: *rng.pick(&[0, 11, 12, 4, 255]),
+        block: rng.range(1, 3) as u8,
+        position: rng.range(1, 14) as u8,
+        time: Gst::new(rng.range(946, 948) as u32, second).0,
+        status: rng.below(4) as u8,
+        bits: rng.below(1 << 40),
+    }
+}
+
+/// The 84 bytes of an entry.
+fn entry(tag: &Tag, set: &[u8; 69]) -> Vec<u8> {
+    let mut bytes = vec![tag.sender, tag.prn, tag.adkd, tag.block, tag.position];
+    bytes.extend(tag.time.to_be_bytes());
+    bytes.push(tag.status);
+    bytes.extend(&tag.bits.to_be_bytes()[3..]);
+    bytes.extend(set);
+    bytes
+}
+
+/// Seconds of the sub-frame of the tag's key, as the second receiver has them.
+fn key_seconds(tag: &Tag, set: &[u8; 69]) -> u64 {
+    let tag = tags::Tag {
+        sender: tag.sender,
+        prn: tag.prn,
+        adkd: tag.adkd,
+        block: tag.block,
+        position: tag.position,
+        time: Gst(tag.time),
+        status: tag.status,
+        bits: tag.bits,
+    };
+    let set = NavSet(*set);
+    WaitingTag { tag, set }.key_seconds()
+}
+
+#[test]
+fn entries_stay_alike() {
+    let mut rng = Rng::new(551);
+    for _ in 0..300 {
+        let mut waiting = Waiting([0; 21504]);
+        rng.fill(&mut waiting.0);
+        let n = *rng.pick(&[0, 1, 2, 100, 255, 256]);
+        let root = 3_600 * rng.range(946 * 168, 949 * 168);
+        let (mut expected, mut staying) = (waiting.0.to_vec(), Vec::new());
+        for k in 0..n {
+            let (tag, set) = (any_tag(&mut rng), rng.array::<69>());
+            let bytes = entry(&tag, &set);
+            waiting.put(k, &tag, &set).unwrap();
+            expected[84 * k..84 * k + 84].copy_from_slice(&bytes);
+            if key_seconds(&tag, &set) >= root {
+                staying.extend(bytes);
+            }
+        }
+        assert_eq!(waiting.0[..], expected[..]);
+        expected[..staying.len()].copy_from_slice(&staying);
+        assert_eq!(waiting.keep_staying(root, n), Some(staying.len() / 84));
+        assert_eq!(waiting.0[..], expected[..]);
+    }
+    assert_eq!(Waiting([0; 21504]).keep_staying(0, 257), None);
+}
+
+// "Outcome 1 replaces the satellite's authentic set unless that set's tag came later."
+#[test]
+fn sets_are_replaced_by_later_tags() {
+    let mut rng = Rng::new(552);
+    let mut held = Authentic {
+        sets: [0; 2484],
+        times: [0; 36],
+    };
+    rng.fill(&mut held.sets);
+    for _ in 0..5_000 {
+        let (prn, set) = (rng.range(1, 36) as u8, rng.array::<69>());
+        let time = match rng.below(10) {
+            0 => u32::MAX - 1,
+            1 => 0,
+            _ => rng.below(1 << 20) as u32,
+        };
+        if rng.once_in(5) {
+            held.times[usize::from(prn) - 1] = *rng.pick(&[0, 1, time, time + 1]);
+        }
+        let mut expected = held.clone();
+        let place = usize::from(prn) - 1;
+        if held.times[place]
+            .checked_sub(1)
+            .is_none_or(|old| old <= time)
+        {
+            expected.sets[69 * place..69 * place + 69].copy_from_slice(&set);
+            expected.times[place] = time + 1;
+        }
+        held.enter(prn, time, &set).unwrap();
+        assert_eq!(held, expected);
+    }
+    assert_eq!(held.enter(37, 1, &[0; 69]), None);
+    assert_eq!(held.enter(1, u32::MAX, &[0; 69]), None);
+}
