@@ -4,7 +4,7 @@
 use std::path::{Path, PathBuf};
 use std::process::{exit, Command, Stdio};
 
-const LIBRARIES: [&str; 2] = ["leaf_edge", "chain_edge"];
+const LIBRARIES: [&str; 3] = ["leaf_edge", "chain_edge", "tag_edge"];
 
 const OPENSSL: &str = "
 #include <openssl/sha.h>

@@ -184,4 +184,27 @@ extern "C" {
         set: *const u8,
         set_len: usize,
     );
+
+    // crates/tag_edge
+    pub fn leaf_mac_bits(
+        n: usize,
+        key: *const u8,
+        key_len: usize,
+        message: *const u8,
+        message_len: usize,
+    ) -> u64;
+    pub fn leaf_tag_matches(
+        ms: u64,
+        key: *const u8,
+        key_len: usize,
+        first: u32,
+        sender: u8,
+        prn: u8,
+        position: u8,
+        time: u32,
+        status: u8,
+        bits: u64,
+        set: *const u8,
+        set_len: usize,
+    ) -> u32;
 }

@@ -7,6 +7,8 @@ use common::annex::*;
 use common::{hex, upper};
 use leaves::chain::Chain;
 use leaves::keys::{kroot_judge, pkr_judge, Keys};
+use leaves::macs::{mac_bits, tag_matches};
+use leaves::tags::Tag;
 use leaves::times::Slots;
 use leaves::words::{set_issue, status_and_set, Nav};
 
@@ -137,4 +139,39 @@ fn a_1_7_leaves_and_root() {
         }
         assert_eq!(keys, expected, "leaf {id}");
     }
+}
+
+// A.1.5: tag0 of E18 under key 73, by its printed message and by its set; a tag that differs in its last bit does not match.
+#[test]
+fn tag0_of_e18() {
+    let key = hex(KEYS.into_iter().find(|key| key.0 == 73).unwrap().2);
+    assert_eq!(mac_bits(12, &key, &hex(&mac0_message())), Some(0xE58));
+    let mut nav = Nav {
+        words: [0; 2880],
+        times: [0; 180],
+    };
+    for (word, kind) in words_of_e18().iter().zip(1..) {
+        nav.store(18, kind, word, 1).unwrap();
+    }
+    let set = nav.set_of(18).unwrap();
+    let tag0 = |bits| Tag {
+        sender: 18,
+        prn: 18,
+        adkd: 0,
+        block: 1,
+        position: 1,
+        time: 0x3B36_979E,
+        status: 2,
+        bits,
+    };
+    assert_eq!(tag_matches(12, &key, true, &tag0(0xE58), &set), Some(true));
+    assert_eq!(tag_matches(12, &key, true, &tag0(0xE59), &set), Some(false));
+    assert_eq!(tag_matches(12, &key, false, &tag0(0xE58), &set), Some(false));
+}
+
+// A.1.5: MACSEQ of the same section.
+#[test]
+fn macseq_of_e18() {
+    let key = hex(KEYS.into_iter().find(|key| key.0 == 73).unwrap().2);
+    assert_eq!(mac_bits(12, &key, &hex("123B36979EFF4012B0")), Some(0xC24));
 }

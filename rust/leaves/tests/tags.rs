@@ -106,3 +106,37 @@ fn sets_are_replaced_by_later_tags() {
     assert_eq!(held.enter(37, 1, &[0; 69]), None);
     assert_eq!(held.enter(1, u32::MAX, &[0; 69]), None);
 }
+
+// Tags of every width, judged beside the second receiver: the right bits, and with one bit of them changed.
+#[test]
+fn tags_match_as_the_second_receiver_says() {
+    let mut rng = Rng::new(0x7A65);
+    for round in 0..400 {
+        let mut set = [0u8; 69];
+        set.iter_mut().for_each(|b| *b = rng.number() as u8);
+        set[68] &= 0xF8;
+        let key: Vec<u8> = (0..rng.range(12, 32)).map(|_| rng.number() as u8).collect();
+        let ms = [10, 12, 14, 16, 18, 20, 24, 28, 32, 40][round % 10];
+        let mut tag = any_tag(&mut rng);
+        tag.adkd = 11;
+        let theirs = |bits| tags::Tag {
+            sender: tag.sender,
+            prn: tag.prn,
+            adkd: tag.adkd,
+            block: tag.block,
+            position: tag.position,
+            time: Gst(tag.time),
+            status: tag.status,
+            bits,
+        };
+        let kept = portable_hash::HmacKey::new(&key);
+        let mac = kept.mac(&theirs(0).message(&NavSet(set)));
+        let right = mac[..5].iter().fold(0u64, |n, b| n << 8 | u64::from(*b)) >> (40 - ms);
+        for bits in [right, right ^ 1 << rng.below(ms)] {
+            tag.bits = bits;
+            let want = theirs(bits).matches(&NavSet(set), &kept, ms as usize);
+            assert_eq!(leaves::macs::tag_matches(ms, &key, false, &tag, &set), Some(want));
+            assert_eq!(want, bits == right);
+        }
+    }
+}

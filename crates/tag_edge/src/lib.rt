@@ -1,0 +1,60 @@
+// The codes of tags and of MACSEQ as exported functions, for the tests in Rust on vectors and beside the second receiver. It is no part of the
+// receiver's own boundary. Each function makes the kept key and calls its leaf once.
+use rules::Tag;
+ghost use mathlib.Core.Path.{_≡_};
+ghost use mathlib.Core.Bool.{cond};
+ghost use Prim.Native.Nat.{_≤_, _<_, _^_};
+ghost use lib.Dec.{eqb};
+ghost use lib.ListN.{length};
+ghost use Rattle.rules.specs.Tags.{macBits, firstMessage, tagMessage};
+
+// The first n bits of the code of a message under a key.
+#[no_mangle]
+pub extern "C" fn leaf_mac_bits(n: usize, key: &[u8], message: &[u8]) -> u64
+    requires { ⌜ ((n ≤ 56) × (length (now message) ≤ 76)) × (length (now key) < 2 ^ 61) ⌝ }
+    ensures { λ r. ⌜ r ≡ macBits n (now (key .entry)) (now (message .entry)) ⌝ }
+{
+    let kept = hmac::hmac_key(key);
+    macs::mac_bits(n, kept, message)
+}
+
+// Whether a tag of ms bits matches a set under a key: 1 where it does. `first` is 1 for tag0, whose message has no PRN_N.
+#[no_mangle]
+pub extern "C" fn leaf_tag_matches(
+    ms: u64,
+    key: &[u8],
+    first: u32,
+    sender: u8,
+    prn: u8,
+    position: u8,
+    time: u32,
+    status: u8,
+    bits: u64,
+    set: &[u8],
+) -> u32
+    requires { ⌜ ((ms ≤ 40) × (length (now set) ≡ 69)) × (length (now key) < 2 ^ 61) ⌝ }
+    ensures { λ r. ⌜ r ≡ cond (eqb (macBits ms (now (key .entry)) (cond (eqb first 1) (firstMessage (record { sender = sender; prn = prn; adkd = 0; block = 1; position = position; time = time; status = status; bits = bits }) (now (set .entry))) (tagMessage (record { sender = sender; prn = prn; adkd = 0; block = 1; position = position; time = time; status = status; bits = bits }) (now (set .entry))))) bits) 1 0 ⌝ }
+{
+    let t = Tag {
+        sender: sender,
+        prn: prn,
+        adkd: 0,
+        block: 1,
+        position: position,
+        time: time,
+        status: status,
+        bits: bits,
+    };
+    let kept = hmac::hmac_key(key);
+    number(macs::tag_matches(ms, kept, first == 1, t, set))
+}
+
+// A test as a number: 1 where it holds.
+fn number(b: bool) -> u32
+    ensures { λ r. ⌜ r ≡ cond b 1 0 ⌝ }
+{
+    if b {
+        return 1;
+    }
+    0
+}
