@@ -3,6 +3,7 @@
 //   sha256, sha256_of_two   the digest of a message, whole or in two parts
 //   finish                  the digest of a message whose first blocks have been hashed
 //   compress                one block; from initial() this hashes a message that its caller has padded to one block
+//   with_length             the length at a padded block's end, for that caller
 //   bytes                   a hash value as the 32 bytes of a digest
 // One block is four turns of sixteen rounds. Each turn calls `sixteen` and `advance` at one place, so that all of it becomes one loop.
 ghost use mathlib.Core.Path.{_≡_};
@@ -399,7 +400,7 @@ fn joined_part(a: &[u8], b: &[u8], at: usize, n: usize) -> [u8; 64]
 }
 
 // The block d with the length in bits of a message of `len` bytes at its end.
-fn with_length(d: [u8; 64], len: usize) -> [u8; 64]
+pub fn with_length(d: [u8; 64], len: usize) -> [u8; 64]
     requires { ⌜ len < 2 ^ 61 ⌝ }
     ensures { λ r. ⌜ r ≡ splice d 56 (be8 (8 * len)) ⌝ }
 {

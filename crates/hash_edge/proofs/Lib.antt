@@ -1,0 +1,2 @@
+-- What is in lent memory after a call.
+mod Results

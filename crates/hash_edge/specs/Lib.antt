@@ -1,0 +1,2 @@
+-- What the contracts of `hash_edge` cite.
+pub mod Edge
