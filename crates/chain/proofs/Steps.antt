@@ -199,17 +199,17 @@ key-kept c h m key l = sym (ap (splice key 0) (walk-none c (h - m) m (take (c .w
 
 module _ (c : Chain) (h slot : ℕ) (known key k : List ℕ) (r : Bool) (w : c .width ≤ 32) where
   -- a key above the held slot is hashed down
-  pub fits-above : length key ≡ 32 → h < slot → k ≡ splice key 0 (S.walk c (slot - h) h (take (c .width) key)) → r ≡ same (take (c .width) k) (take (c .width) known)
+  pub fits-above : length key ≡ 32 → h < slot → k ≡ splice key 0 (S.walk c (slot - h) h (take (c .width) key)) → r ≡ same (part k 0 (c .width)) (part known 0 (c .width))
       → r ≡ S.keyFits c (S.held h (take (c .width) known)) slot (take (c .width) key)
-  unfolding S.keyFits
+  unfolding S.keyFits part
   fits-above n l p q =
       let e = length-walk c (slot - h) h (take (c .width) key) w (length-take-le (c .width) key (omega arith)) in
       q ∙ rw (p, front-splice key (S.walk c (slot - h) h (take (c .width) key)) (c .width) e, lt-ltb h slot l)
 
   -- at or below it, the held key
-  pub fits-below : length known ≡ 32 → slot ≤ h → k ≡ splice known 0 (S.keyOfSlot c (S.held h (take (c .width) known)) slot) → r ≡ same (take (c .width) key) (take (c .width) k)
+  pub fits-below : length known ≡ 32 → slot ≤ h → k ≡ splice known 0 (S.keyOfSlot c (S.held h (take (c .width) known)) slot) → r ≡ same (part key 0 (c .width)) (part k 0 (c .width))
       → r ≡ S.keyFits c (S.held h (take (c .width) known)) slot (take (c .width) key)
-  unfolding S.keyFits S.keyOfSlot
+  unfolding S.keyFits S.keyOfSlot part
   fits-below n l p q =
       let e = length-walk c (h - slot) slot (take (c .width) known) w (length-take-le (c .width) known (omega arith)) in
       q ∙ rw (p, front-splice known (S.walk c (h - slot) slot (take (c .width) known)) (c .width) e, le-ltb h slot l)

@@ -10,8 +10,8 @@
 use rules::Chain;
 ghost use mathlib.Core.Path.{_≡_};
 ghost use Prim.Native.Nat.{_+_, _%_, _^_, _≤_, _<_};
-ghost use lib.ListN.{length, take};
-ghost use Rattle.laws.specs.Lists.{splice, same};
+ghost use lib.ListN.{take};
+ghost use Rattle.laws.specs.Lists.{splice};
 ghost use Rattle.rules.specs.Chain as S;
 ghost use Rattle.chain.specs.Sound.{Walks, Framed};
 
@@ -64,14 +64,6 @@ fn step(c: Chain, m: u64, b: &mut [u8; 64])
     buffer::copy_part(b, 0, &d, 0, width);
 }
 
-// Whether the first n bytes of a and b are the same.
-fn same_front(a: &[u8], b: &[u8], n: usize) -> bool
-    requires { ⌜ (n ≤ length (now a)) × (n ≤ length (now b)) ⌝ }
-    ensures { λ r. ⌜ r ≡ same (take n (now (a .entry))) (take n (now (b .entry))) ⌝ }
-{
-    buffer::equal(&a[0..n], &b[0..n])
-}
-
 // The key of slot m, from the held key, whose slot is `held`. Above that slot it is the held key.
 pub fn key_of_slot(c: Chain, held: u64, m: u64, key: &mut [u8; 32])
     requires { ⌜ Walks c × (held ≤ 2 ^ 34) ⌝ }
@@ -92,11 +84,11 @@ pub fn key_fits(c: Chain, held: u64, known: [u8; 32], slot: u64, key: [u8; 32]) 
     if held < slot {
         let mut k = key;
         walk(c, slot - held, held, &mut k);
-        return same_front(&k, &known, width);
+        return buffer::equal_part(&k, 0, &known, 0, width);
     }
     let mut k = known;
     key_of_slot(c, held, slot, &mut k);
-    same_front(&key, &k, width)
+    buffer::equal_part(&key, 0, &k, 0, width)
 }
 
 // The slot of the key that a satellite sends in block b of the sub-frame at g.

@@ -27,42 +27,42 @@ down-held c =
     let s = c .before .before .before in
     walked-length (s .args .c) _ _ _ _ (search needs) (length-known s) (c .key-of-slot .ensures)
 
-slice-aggregate-same-front : tie.Need-slice-aggregate-same-front
-slice-aggregate-same-front c = sym (down (c .before))
+slice-aggregate-equal-part : tie.Need-slice-aggregate-equal-part
+slice-aggregate-equal-part c = sym (down (c .before))
 
-same-front-requires : tie.Need-same-front-requires
-same-front-requires c κs = (omega (arith, down (c .before .before)), omega (arith, length-known (c .before .before .before .before .before)))
+equal-part-requires : tie.Need-equal-part-requires
+equal-part-requires c κs = (omega (arith, down (c .before .before)), omega (arith, length-known (c .before .before .before .before .before)))
 
 returns : tie.Need-returns
 returns c =
     let w = c .before .before .before in
     let s = w .before .before .before in
     fits-above (s .args .c) (s .args .held) (s .args .slot) (s .args .t3) (s .args .t5) _ _ (search needs) (length-key s)
-    (search needs) (w .walk .ensures) (c .same-front .ensures)
+    (search needs) (w .walk .ensures) (c .equal-part .ensures)
 
-slice-aggregate-same-front-4 : tie.Need-slice-aggregate-same-front-4
-slice-aggregate-same-front-4 c = sym (down-held (c .before .before))
+slice-aggregate-equal-part-4 : tie.Need-slice-aggregate-equal-part-4
+slice-aggregate-equal-part-4 c = sym (down-held (c .before .before))
 
-same-front-requires-2 : tie.Need-same-front-requires-2
-same-front-requires-2 c κs = (omega (arith, length-key (c .before .before .before .before .before)), omega (arith, down-held (c .before .before)))
+equal-part-requires-2 : tie.Need-equal-part-requires-2
+equal-part-requires-2 c κs = (omega (arith, length-key (c .before .before .before .before .before)), omega (arith, down-held (c .before .before)))
 
 returns-2 : tie.Need-returns-2
 returns-2 c =
     let w = c .before .before .before in
     let s = w .before .before .before in
     fits-below (s .args .c) (s .args .held) (s .args .slot) (s .args .t3) (s .args .t5) _ _ (search needs) (length-known s)
-    (search needs) (w .key-of-slot .ensures) (c .same-front2 .ensures)
+    (search needs) (w .key-of-slot .ensures) (c .equal-part2 .ensures)
 
 pub key-fits-spec : {M : Type 1} → statement M
 key-fits-spec =
     tie.close
     (tie.spec
     (λ c. search needs) (λ c κs. search needs)
-    slice-aggregate-same-front
+    slice-aggregate-equal-part
     (λ c. search needs)
-    same-front-requires
+    equal-part-requires
     returns
     (λ c κs. search needs) (λ c. search needs)
-    slice-aggregate-same-front-4
-    same-front-requires-2
+    slice-aggregate-equal-part-4
+    equal-part-requires-2
     returns-2)
