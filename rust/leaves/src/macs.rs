@@ -10,13 +10,7 @@ const KEY_LIMIT: usize = 1 << 61;
 pub fn mac_bits(n: usize, key: &[u8], message: &[u8]) -> Option<u64> {
     // SAFETY: the slices are lent with their lengths; the ranges are as required.
     (n <= 56 && message.len() <= 76 && key.len() < KEY_LIMIT).then(|| unsafe {
-        raw::leaf_mac_bits(
-            n,
-            key.as_ptr(),
-            key.len(),
-            message.as_ptr(),
-            message.len(),
-        )
+        raw::leaf_mac_bits(n, key.as_ptr(), key.len(), message.as_ptr(), message.len())
     })
 }
 

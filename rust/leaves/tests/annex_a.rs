@@ -166,7 +166,10 @@ fn tag0_of_e18() {
     };
     assert_eq!(tag_matches(12, &key, true, &tag0(0xE58), &set), Some(true));
     assert_eq!(tag_matches(12, &key, true, &tag0(0xE59), &set), Some(false));
-    assert_eq!(tag_matches(12, &key, false, &tag0(0xE58), &set), Some(false));
+    assert_eq!(
+        tag_matches(12, &key, false, &tag0(0xE58), &set),
+        Some(false)
+    );
 }
 
 // A.1.5: MACSEQ of the same section.
