@@ -1,0 +1,69 @@
+//! One tag judged under a key that is new each time: the proved leaf and the second receiver. `rust/leaves/chain_benchmark` counts it.
+//!
+//! - `tag_benchmark proved N` or `tag_benchmark second N`: N tags, of which every other one matches; prints how many did
+
+use leaves::macs::tag_matches;
+use leaves::tags::Tag;
+use portable_hash::HmacKey;
+use second_receiver::tags;
+use second_receiver::times::Gst;
+use second_receiver::words::NavSet;
+use std::process::ExitCode;
+
+const SET: [u8; 69] = [0x58; 69];
+const KEY: [u8; 16] = [0x42; 16];
+const TAG: Tag = Tag {
+    sender: 2,
+    prn: 1,
+    adkd: 11,
+    block: 1,
+    position: 2,
+    time: 0x3B36_979E,
+    status: 2,
+    bits: 0,
+};
+
+fn theirs(bits: u64) -> tags::Tag {
+    tags::Tag {
+        sender: TAG.sender,
+        prn: TAG.prn,
+        adkd: TAG.adkd,
+        block: TAG.block,
+        position: TAG.position,
+        time: Gst(TAG.time),
+        status: TAG.status,
+        bits,
+    }
+}
+
+/// The tag's right 40 bits.
+fn right() -> u64 {
+    let mac = HmacKey::new(&KEY).mac(&theirs(0).message(&NavSet(SET)));
+    mac[..5].iter().fold(0, |n, b| n << 8 | u64::from(*b))
+}
+
+fn judged(who: &str, bits: u64) -> Option<bool> {
+    match who {
+        "proved" => tag_matches(40, &KEY, false, &Tag { bits, ..TAG }, &SET),
+        "second" => Some(theirs(bits).matches(&NavSet(SET), &HmacKey::new(&KEY), 40)),
+        _ => None,
+    }
+}
+
+fn main() -> ExitCode {
+    let arguments: Vec<String> = std::env::args().skip(1).collect();
+    let [who, count] = arguments.as_slice() else {
+        return ExitCode::FAILURE;
+    };
+    let count: u64 = count.parse().unwrap_or(0);
+    let bits = right();
+    let matched = (0..count)
+        .filter(|i| judged(who, bits ^ (i & 1)) == Some(true))
+        .count() as u64;
+    println!("{matched}");
+    if matched == count.div_ceil(2) {
+        ExitCode::SUCCESS
+    } else {
+        ExitCode::FAILURE
+    }
+}
