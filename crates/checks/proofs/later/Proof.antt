@@ -1,13 +1,13 @@
--- `core::later` meets its contract: a stamp is a time plus 1. Assumes nothing.
+-- `checks::later` meets its contract: a stamp is a time plus 1. Assumes nothing.
 use mathlib.Core.Path.{_≡_, sym}
 use borrow.Author.Needs.{needs}
 use borrow.Author.Tests.{le-ltb}
 use native.Mathlib.Omega.{arith}
 use Prim.Native.Nat.{_+_}
 use Rattle.rules.specs.Times.{stampOf}
-use Rattle.core.proofs.Faults.{later-stamp}
-use Rattle.core.proofs.later.Statement.{statement}
-use Rattle.core.proofs.later.Tie as tie
+use Rattle.checks.proofs.Faults.{later-stamp}
+use Rattle.checks.proofs.later.Statement.{statement}
+use Rattle.checks.proofs.later.Tie as tie
 
 returns : tie.Need-returns
 unfolding stampOf

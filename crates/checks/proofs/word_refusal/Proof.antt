@@ -1,4 +1,4 @@
--- `core::word_refusal` meets its contract: the checks in the rule's order.
+-- `checks::word_refusal` meets its contract: the checks in the rule's order.
 -- Assumes nothing.
 use mathlib.Core.Path.{_≡_, sym, _∙_}
 use mathlib.Core.Bool.{true, false}
@@ -10,8 +10,8 @@ use borrow.Author.Tests.{eq-eqb, ne-eqb}
 use native.Mathlib.Omega.{arith}
 use Rattle.rules.specs.Calls.{wordChecks, wordUnfit}
 use Rattle.rules.specs.State.{stopped, lastWordOf}
-use Rattle.core.proofs.word_refusal.Statement.{statement}
-use Rattle.core.proofs.word_refusal.Tie as tie
+use Rattle.checks.proofs.word_refusal.Statement.{statement}
+use Rattle.checks.proofs.word_refusal.Tie as tie
 
 returns : tie.Need-returns
 unfolding wordChecks

@@ -1,4 +1,4 @@
--- `core::shaped` meets its contract: the tests of the sixteen lengths, in groups of four.
+-- `checks::shaped` meets its contract: the tests of the sixteen lengths, in groups of four.
 -- Assumes nothing.
 use mathlib.Core.Path.{_≡_}
 use denote.Ref.{now}
@@ -6,9 +6,9 @@ use lib.Dec.{eqb}
 use lib.ListN.{length}
 use borrow.Author.Needs.{needs}
 use Rattle.rules.specs.State.{shaped}
-use Rattle.core.proofs.Faults.{joined}
-use Rattle.core.proofs.shaped.Statement.{statement}
-use Rattle.core.proofs.shaped.Tie as tie
+use Rattle.checks.proofs.Faults.{joined}
+use Rattle.checks.proofs.shaped.Statement.{statement}
+use Rattle.checks.proofs.shaped.Tie as tie
 
 returns : tie.Need-returns
 unfolding shaped

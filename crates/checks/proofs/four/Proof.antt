@@ -1,10 +1,10 @@
--- `core::four` meets its contract. Assumes nothing.
+-- `checks::four` meets its contract. Assumes nothing.
 use borrow.Author.Needs.{needs}
-use Rattle.core.proofs.four.Statement.{statement}
-use Rattle.core.proofs.four.Tie as tie
-use Rattle.core.proofs.four.Reads as reads
-use Rattle.core.proofs.four.Lts as lts
-use Rattle.core.proofs.both.Reads as both-reads
+use Rattle.checks.proofs.four.Statement.{statement}
+use Rattle.checks.proofs.four.Tie as tie
+use Rattle.checks.proofs.four.Reads as reads
+use Rattle.checks.proofs.four.Lts as lts
+use Rattle.checks.proofs.both.Reads as both-reads
 
 -- src/lib.rt:29:21
 both-requires : tie.Need-both-requires

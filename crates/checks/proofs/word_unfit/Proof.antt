@@ -1,4 +1,4 @@
--- `core::word_unfit` meets its contract: each test is the rule's, and a word that is fit has its PRN and time in range.
+-- `checks::word_unfit` meets its contract: each test is the rule's, and a word that is fit has its PRN and time in range.
 -- Assumes nothing.
 use mathlib.Core.Path.{_≡_, sym, _∙_}
 use mathlib.Core.Bool.{true, false, not}
@@ -8,9 +8,9 @@ use borrow.Author.Tests.{eq-eqb, ne-eqb, not-true, not-false}
 use native.Mathlib.Omega.{arith}
 use Rattle.rules.specs.Calls.{wordUnfit}
 use Rattle.rules.specs.Times.{timeValid}
-use Rattle.core.proofs.Faults.{true-false, or-false, prn-low, prn-high, prn-in, time-small}
-use Rattle.core.proofs.word_unfit.Statement.{statement}
-use Rattle.core.proofs.word_unfit.Tie as tie
+use Rattle.checks.proofs.Faults.{true-false, or-false, prn-low, prn-high, prn-in, time-small}
+use Rattle.checks.proofs.word_unfit.Statement.{statement}
+use Rattle.checks.proofs.word_unfit.Tie as tie
 
 returns : tie.Need-returns
 unfolding wordUnfit
