@@ -1,4 +1,5 @@
--- 01 as definitions. Read Calls first: each call is there, with its refusals in order; the other files are what it names.
+-- 01 as definitions. Read Calls first: each call is there, with its refusals in order; the other files are what it names. Numbers such as A19 in
+-- comments are entries of docs/DECISIONS.md.
 pub mod Times
 pub mod Bits
 pub mod State

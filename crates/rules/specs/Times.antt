@@ -1,6 +1,6 @@
 -- Galileo System Time, sub-frames and key slots (01, "Times and slots"; 000, 5.4).
 -- A GST_SF is one 32-bit number: it keeps the order of times. Ages and delays are taken in seconds over weeks, since weeks do not roll
--- over here (READINGS A83). A time that a region keeps is stored as a stamp, the time plus 1; the stamp 0 says never.
+-- over here (A83). A time that a region keeps is stored as a stamp, the time plus 1; the stamp 0 says never.
 use Prim.Native.Nat.{ℕ, _+_, _-_, _*_, _/_, _%_, _^_}
 use mathlib.Core.Bool.{Bool, cond, _&&_}
 use lib.Dec.{leb, ltb, eqb}
