@@ -1,2 +1,2 @@
 -- Laws of the calls.
-mod Faults
+pub mod Faults

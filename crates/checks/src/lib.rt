@@ -16,7 +16,8 @@ ghost use Rattle.rules.specs.Calls.{wordUnfit, wordChecks};
 
 // ---- lengths of the lent regions
 
-fn both(a: bool, b: bool) -> bool
+// Both hold.
+pub fn both(a: bool, b: bool) -> bool
     ensures { λ r. ⌜ r ≡ (a && b) ⌝ }
 {
     if a { b } else { false }

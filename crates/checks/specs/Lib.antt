@@ -1,0 +1,2 @@
+-- what the calls' contracts share
+pub mod Told
