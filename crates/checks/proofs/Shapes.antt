@@ -1,12 +1,11 @@
--- What the test of the lent lengths says, and how a wrong length is refused. Assumes nothing.
+-- What the test of the lent lengths says. Assumes nothing.
 use mathlib.Core.Path.{_≡_, refl, sym}
-use mathlib.Core.Bool.{Bool, true, false, not, _&&_}
+use mathlib.Core.Bool.{Bool, true, false, _&&_}
 use mathlib.Core.List.{List, [], _∷_}
 use Prim.Native.Nat.{ℕ, zero, suc}
 use lib.Dec.{eqb}
 use lib.ListN.{getD, length}
 use borrow.Author.Tests.{eqb-true}
-use Rattle.laws.specs.Refusal.{Check, refuse, firstOf}
 use Rattle.rules.specs.Bits.{allOf}
 use Rattle.rules.specs.State.{State, shaped}
 use Rattle.checks.specs.Lengths.{Lengths}
@@ -64,10 +63,3 @@ lengths s e =
       sets = eqb-true (length (s .auth .sets)) 2484 (test-at (tests s) e 14);
       arrivals = eqb-true (length (s .auth .times)) 36 (test-at (tests s) e 15);
     }
-
--- a test of lengths that fails gives 1, whatever the checks after it
-pub unshaped : (s : State) (rest : Bool) (cs : List Check) → shaped s ≡ false → firstOf (refuse (not (shaped s && rest)) 1 ∷ cs) ≡ 1
-unshaped s rest cs e = rw e
-
-pub rest-unfit : (b rest : Bool) (cs : List Check) → b ≡ true → rest ≡ false → firstOf (refuse (not (b && rest)) 1 ∷ cs) ≡ 1
-rest-unfit b rest cs e f = rw (e, f)
