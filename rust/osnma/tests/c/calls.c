@@ -461,11 +461,14 @@ static void test_stopped(void)
     uint16_t iodnav;
     uint32_t time;
     struct osnma_message got;
+    make_word(1, 0, 3);
+    want_word(5, osnma_gst(947, 432000));
+    ANSWERS(osnma_word(&core, 5, osnma_gst(947, 432000), word), OSNMA_DONE);
     make_message(1, 0, 0, 947, 120);
     wait_for(3);
     core.config[62] = want.config[62] = 1;
-    make_word(1, 0, 3);
     ANSWERS(osnma_word(&core, 5, osnma_gst(947, 432000), word), OSNMA_STOPPED);
+    ANSWERS(osnma_word(&core, 5, osnma_gst(947, 431970), word), OSNMA_STOPPED);
     ANSWERS(osnma_word(&core, 37, osnma_gst(947, 432000), word), OSNMA_OUT_OF_RANGE);
     make_word(63, 0, 3);
     ANSWERS(osnma_word(&core, 5, osnma_gst(947, 432000), word), OSNMA_STOPPED);
@@ -573,8 +576,36 @@ static void test_counts(void)
     short_counts(counted_start, of_start, 3, OSNMA_DONE);
 }
 
-int main(void)
+/* Where each region begins, for comparison with other bindings. */
+static void print_layout(void)
 {
+#define PRINT(region) printf("%s %lu\n", #region, (unsigned long)offsetof(struct osnma_core, region))
+    PRINT(config);
+    PRINT(clocks);
+    PRINT(words);
+    PRINT(stamps);
+    PRINT(blocks);
+    PRINT(headers);
+    PRINT(marks);
+    PRINT(since);
+    PRINT(keys);
+    PRINT(offer);
+    PRINT(chain);
+    PRINT(numbers);
+    PRINT(key);
+    PRINT(waiting);
+    PRINT(sets);
+    PRINT(arrivals);
+#undef PRINT
+}
+
+/* With the word `layout`, only prints where the regions begin. */
+int main(int argc, char **argv)
+{
+    if (argc == 2 && strcmp(argv[1], "layout") == 0) {
+        print_layout();
+        return 0;
+    }
     CHECK(sizeof(struct osnma_core) == OSNMA_CORE_SIZE);
     CHECK(osnma_gst(947, 431970) == 0x3B369762u);
     CHECK(osnma_gst(4095, 604770) == 0xFFF93A62u);

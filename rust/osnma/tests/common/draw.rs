@@ -286,35 +286,39 @@ fn next(receiver: &Receiver, rng: &mut Rng) -> Option<u32> {
     }
 }
 
-/// Lends all blocks of a message in one sub-frame, each from another satellite, with sections of any bytes.
-fn deliver(twin: &mut Twin, rng: &mut Rng, header: u8, id: u8, message: &[u8], time: u32) {
-    let count = dsm::blocks(message);
-    for (block, prn) in (0..count).zip(rng.range(1, 20) as u8..) {
-        let field = subframe::join(&dsm::hkroot(header, id, message, block), &rng.array());
-        let last = block + 1 == count;
-        let filler = (last && rng.once_in(4)).then_some(&mut *rng);
-        twin.subframe(prn, time, &field, filler);
-    }
+/// Lends all blocks of a message at one time, each from another satellite, with sections of any bytes. Gives the number of sub-frames,
+/// as those do that use it.
+fn deliver(twin: &mut Twin, rng: &mut Rng, header: u8, id: u8, message: &[u8], time: u32) -> u64 {
+    let (count, first) = (dsm::blocks(message), rng.range(1, 20) as u8);
+    let fields = (0..count).map(|block| {
+        let section = rng.array();
+        let field = subframe::join(&dsm::hkroot(header, id, message, block), &section);
+        (first + block as u8, field)
+    });
+    let fields: Vec<(u8, [u8; 75])> = fields.collect();
+    let filler = rng.once_in(4).then_some(rng);
+    twin.subframes(time, &fields, filler);
+    count as u64
 }
 
 /// A DSM-KROOT comes under a held key: it then waits for a verdict.
-pub fn deliver_root(twin: &mut Twin, rng: &mut Rng) {
+pub fn deliver_root(twin: &mut Twin, rng: &mut Rng) -> u64 {
     let root = Root::draw(rng, &twin.receiver);
     let keys = twin.receiver.public_keys();
     let key = rng.pick(keys).clone();
     let signature = rng.bytes(dsm::SIGNATURE_LEN[usize::from(key.key_type)]);
     let message = root.dsm(key.id, &signature);
-    let Some(time) = next(&twin.receiver, rng) else {
-        return;
-    };
-    if !walks_far(&twin.receiver, root.header, time) {
-        let id = rng.below(12) as u8;
-        deliver(twin, rng, root.header, id, &message, time);
+    match next(&twin.receiver, rng) {
+        Some(time) if !walks_far(&twin.receiver, root.header, time) => {
+            let id = rng.below(12) as u8;
+            deliver(twin, rng, root.header, id, &message, time)
+        }
+        _ => 0,
     }
 }
 
 /// A DSM-PKR comes: a public key is added, or an emergency message stops both.
-pub fn deliver_key(twin: &mut Twin, rng: &mut Rng, tree: &Tree, emergency: bool) {
+pub fn deliver_key(twin: &mut Twin, rng: &mut Rng, tree: &Tree, emergency: bool) -> u64 {
     let leaf = if emergency {
         15
     } else {
@@ -322,8 +326,9 @@ pub fn deliver_key(twin: &mut Twin, rng: &mut Rng, tree: &Tree, emergency: bool)
         let above = highest.map_or(0, |id| u64::from(id) + 1);
         rng.range(above, above + 3).min(14) as usize
     };
-    if let Some(time) = next(&twin.receiver, rng) {
-        let (message, id) = (tree.pkr(leaf), rng.range(12, 15) as u8);
-        deliver(twin, rng, 0, id, &message, time);
+    let (message, id) = (tree.pkr(leaf), rng.range(12, 15) as u8);
+    match next(&twin.receiver, rng) {
+        Some(time) => deliver(twin, rng, 0, id, &message, time),
+        None => 0,
     }
 }

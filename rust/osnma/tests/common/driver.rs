@@ -146,8 +146,10 @@ pub fn replay(
                 tally.add(call.kind(), twin.call(&call, prn).map_err(at)?);
             }
             None if record[0] == 3 => {
+                let mut field = [0; 75];
+                field.copy_from_slice(&record[6..81]);
                 let filler = rng.once_in(16).then_some(&mut *rng);
-                twin.subframe(record[1], gst(record), &record[6..81], filler);
+                twin.subframes(gst(record), &[(record[1], field)], filler);
                 tally.subframes += 1;
             }
             _ => {}
@@ -278,17 +280,13 @@ impl Driver {
     /// Sub-frames that bring what no call here brings.
     fn deliver(&mut self) {
         let (twin, rng) = (&mut self.twin, &mut self.rng);
-        let before = twin.receiver.last_subframe();
-        match rng.below(600) {
+        self.tally.subframes += match rng.below(600) {
             0..=99 if twin.receiver.waiting_message().is_none() => draw::deliver_root(twin, rng),
             100..=105 => draw::deliver_root(twin, rng),
             106..=125 => draw::deliver_key(twin, rng, &self.tree, false),
             126..=127 => draw::deliver_key(twin, rng, &self.tree, true),
-            _ => {}
-        }
-        if twin.receiver.last_subframe() != before {
-            self.tally.subframes += 1;
-        }
+            _ => 0,
+        };
     }
 
     fn draw(&mut self) -> Call {

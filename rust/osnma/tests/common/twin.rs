@@ -221,11 +221,13 @@ impl Twin {
         Ok(got)
     }
 
-    /// A sub-frame for the second receiver alone; the core then gets the regions that its state stands for. What that state does not
-    /// know stays, or is any bytes where `filler` is given.
-    pub fn subframe(&mut self, prn: u8, time: u32, fields: &[u8], filler: Option<&mut Rng>) {
+    /// Sub-frames of one time for the second receiver alone, by PRN; the core then gets the regions that its state stands for. What that
+    /// state does not know stays, or is any bytes where `filler` is given.
+    pub fn subframes(&mut self, time: u32, fields: &[(u8, [u8; 75])], filler: Option<&mut Rng>) {
         let mut area = [0; RECORDS_LEN];
-        self.receiver.subframe(prn, time, fields, &mut area);
+        for (prn, field) in fields {
+            self.receiver.subframe(*prn, time, field, &mut area);
+        }
         if let Some(rng) = filler {
             self.want = garbage(rng);
         }
@@ -233,7 +235,7 @@ impl Twin {
     }
 
     /// Gives the core the regions that the second receiver's state stands for.
-    pub fn settle(&mut self) {
+    fn settle(&mut self) {
         if self.receiver.is_started() {
             write_known(&self.receiver, &mut self.want);
         }
