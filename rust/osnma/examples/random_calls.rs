@@ -1,5 +1,5 @@
-//! Random calls into the core and the second receiver: `random_calls COUNT SEED`. Stops at the first difference; prints how often
-//! each answer came for each call.
+//! Random calls into the core and the second receiver: `random_calls COUNT SEED`. Stops at the
+//! first difference; prints how often each answer came for each call.
 
 #[path = "../tests/common/mod.rs"]
 mod common;

@@ -2,12 +2,14 @@
 
 use core::fmt;
 
-/// GST_SF in 32 bits: week (12), second of week (20). Its order is the order of time; weeks do not roll over.
+/// GST_SF in 32 bits: week (12), second of week (20). Its order is the order of time; weeks do not
+/// roll over.
 #[derive(Clone, Copy, Debug, PartialEq, Eq, PartialOrd, Ord, Hash)]
 pub struct Gst(u32);
 
 impl Gst {
-    /// The sub-frame that starts at this second of this week: weeks 0 to 4095, seconds that are a multiple of 30 up to 604770.
+    /// The sub-frame that starts at this second of this week: weeks 0 to 4095, seconds that are a
+    /// multiple of 30 up to 604770.
     pub const fn new(week: u16, second: u32) -> Option<Gst> {
         if week <= 4095 && second <= 604_770 && second.is_multiple_of(30) {
             Some(Gst((week as u32) << 20 | second))
@@ -16,7 +18,8 @@ impl Gst {
         }
     }
 
-    /// The 32 bits as they came from a receiver. Any can be held; calls refuse those of no sub-frame.
+    /// The 32 bits as they came from a receiver. Any can be held; calls refuse those of no
+    /// sub-frame.
     pub const fn from_bits(bits: u32) -> Gst {
         Gst(bits)
     }

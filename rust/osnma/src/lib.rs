@@ -1,8 +1,10 @@
-//! The authentication core of a Galileo OSNMA receiver (signal-in-space testing specification v1.1), for Rust.
+//! The authentication core of a Galileo OSNMA receiver (signal-in-space testing specification
+//! v1.1), for Rust.
 //!
-//! The core itself is written in Rattle and proved: every call equals its definition in `crates/rules/specs/Calls.antt`, for
-//! every contents of the memory that it is lent. This crate owns that memory ([`Core`]) and lends it to each call. It allocates
-//! nothing, needs no standard library, and cannot panic.
+//! The core itself is written in Rattle and proved: every call equals its definition in
+//! `crates/rules/specs/Calls.antt`, for every contents of the memory that it is lent. This crate
+//! owns that memory ([`Core`]) and lends it to each call. It allocates nothing, needs no standard
+//! library, and cannot panic.
 //!
 //! ```
 //! use osnma::{Core, Gst, Refusal, Settings};
@@ -28,14 +30,14 @@
 //! core.word(18, time, &word)?;
 //! assert_eq!(core.word(37, time, &word), Err(Refusal::OutOfRange));
 //!
-//! // No tag has shown the satellite's data to be authentic yet, and no message waits for the signature chip.
+//! // No tag has shown the satellite's data to be authentic, and no message waits for the chip.
 //! assert_eq!(core.read_set(18), Err(Refusal::NoSet));
 //! assert_eq!(core.read_message(), Err(Refusal::NotWaiting));
 //! # Ok::<(), Refusal>(())
 //! ```
 //!
-//! The call for the authentication fields of a sub-frame is not in this version. What only they bring (a message that waits,
-//! proved keys, tags, authentic sets) does not come about without it.
+//! The call for the authentication fields of a sub-frame is not in this version. What only they
+//! bring (a message that waits, proved keys, tags, authentic sets) does not come about without it.
 
 #![no_std]
 #![warn(missing_docs)]
@@ -86,7 +88,8 @@ pub struct Settings {
     pub key_type: u8,
     /// The one MACLT number that is taken; any byte.
     pub maclt: u8,
-    /// Marks of the fields at second 0 and at second 30 of the minute: 0 to 15 or [`FLEXIBLE`] each, the first 0.
+    /// Marks of the fields at second 0 and at second 30 of the minute: 0 to 15 or [`FLEXIBLE`]
+    /// each, the first 0.
     pub marks: [[u8; 14]; 2],
     /// The installed root of the tree of public keys.
     pub tree_root: [u8; TREE_ROOT_LEN],
@@ -122,8 +125,9 @@ pub struct WaitingMessage {
 
 /// The core: all memory that the calls take up, 32,896 bytes.
 ///
-/// Only a [`start`](Core::start) makes it a receiver. Before the first accepted one no satellite, message or chain is known:
-/// words are taken by the same rules and forgotten at the start, and reads find nothing.
+/// Only a [`start`](Core::start) makes it a receiver. Before the first accepted one no satellite,
+/// message or chain is known: words are taken by the same rules and forgotten at the start, and
+/// reads find nothing.
 #[derive(Clone)]
 pub struct Core {
     regions: Regions,
@@ -137,12 +141,12 @@ impl Core {
         }
     }
 
-    /// Begins a new list with what it is given and nothing from before: no word, block, message, chain, tag, set or time. Also
-    /// ends a stop.
+    /// Begins a new list with what it is given and nothing from before: no word, block, message,
+    /// chain, tag, set or time. Also ends a stop.
     ///
     /// # Errors
-    /// [`Refusal::OutOfRange`] where NS, key ID, key type or a mark is not in its range, or the first mark of a list is not 0;
-    /// the core is then as before.
+    /// [`Refusal::OutOfRange`] where NS, key ID, key type or a mark is not in its range, or the
+    /// first mark of a list is not 0; the core is then as before.
     pub fn start(&mut self, settings: &Settings) -> Result<(), Refusal> {
         answered(self.regions.lend().start(
             settings.ns,
@@ -155,33 +159,40 @@ impl Core {
         ))
     }
 
-    /// An I/NAV word of a satellite, in the sub-frame at `time`; the fields of a sub-frame are lent before its words. A word of
-    /// types 1 to 5 replaces the satellite's word of its type. Words of other types change nothing.
+    /// An I/NAV word of a satellite, in the sub-frame at `time`; the fields of a sub-frame are lent
+    /// before its words. A word of types 1 to 5 replaces the satellite's word of its type. Words of
+    /// other types change nothing.
     ///
     /// # Errors
     /// In this order, and the core is as before:
-    /// - [`Refusal::OutOfRange`]: PRN not 1 to 36, a time that is no start of a sub-frame, or a word 4 whose SVID is not the PRN;
+    /// - [`Refusal::OutOfRange`]: PRN not 1 to 36, a time that is no start of a sub-frame, or a
+    ///   word 4 whose SVID is not the PRN;
     /// - [`Refusal::Stopped`];
     /// - [`Refusal::OutOfOrder`]: earlier than this satellite's last word of types 1 to 5.
     pub fn word(&mut self, prn: u8, time: Gst, word: &[u8; WORD_LEN]) -> Result<(), Refusal> {
         answered(self.regions.lend().word(prn, time.bits(), word))
     }
 
-    /// The signature chip's verdict on the message that waits. All that it names must be what waits, the zeros after short parts
-    /// too; what [`read_message`](Core::read_message) gave is handed back as it is.
+    /// The signature chip's verdict on the message that waits. All that it names must be what
+    /// waits, the zeros after short parts too; what [`read_message`](Core::read_message) gave is
+    /// handed back as it is.
     ///
-    /// A good verdict on a message of status 1 or 2 drops public keys of lower ID and puts the root in force, unless these contents
-    /// are in force already; one on a message of status 3 drops the chain in force. Either ends the wait.
+    /// A good verdict on a message of status 1 or 2 drops public keys of lower ID and puts the root
+    /// in force, unless these contents are in force already; one on a message of status 3 drops the
+    /// chain in force. Either ends the wait.
     ///
     /// # Errors
     /// In this order:
     /// - [`Refusal::OutOfRange`]: `key_id` above 15; the core is as before;
     /// - [`Refusal::Stopped`]: the core is as before;
-    /// - [`Refusal::NotWaiting`]: nothing waits, or another key ID, message or signature; the core is as before;
-    /// - [`Refusal::VerdictBad`]: the wait ends, and nothing else changes, as with those that follow;
-    /// - [`Refusal::NotInForce`]: status 0; status 3 with no chain in force or another CID; status 1 or 2 with CIDKR other than CID;
-    /// - [`Refusal::NotNewer`]: the root is earlier than the last put in force, or of the same time with other contents, or not
-    ///   later where that one was dropped.
+    /// - [`Refusal::NotWaiting`]: nothing waits, or another key ID, message or signature; the core
+    ///   is as before;
+    /// - [`Refusal::VerdictBad`]: the wait ends, and nothing else changes, as with those that
+    ///   follow;
+    /// - [`Refusal::NotInForce`]: status 0; status 3 with no chain in force or another CID; status
+    ///   1 or 2 with CIDKR other than CID;
+    /// - [`Refusal::NotNewer`]: the root is earlier than the last put in force, or of the same time
+    ///   with other contents, or not later where that one was dropped.
     pub fn verdict(
         &mut self,
         good: bool,
@@ -201,7 +212,8 @@ impl Core {
     ///
     /// # Errors
     /// - [`Refusal::OutOfRange`]: PRN not 1 to 36;
-    /// - [`Refusal::NoSet`]: no tag has shown a set of this satellite to be authentic since the start.
+    /// - [`Refusal::NoSet`]: no tag has shown a set of this satellite to be authentic since the
+    ///   start.
     pub fn read_set(&self, prn: u8) -> Result<AuthenticSet, Refusal> {
         let (mut bytes, mut iodnav, mut time) = ([0; SET_LEN], 0, 0);
         let view = self.regions.view();
@@ -214,8 +226,8 @@ impl Core {
         })
     }
 
-    /// The message that waits for a verdict, with the public key to verify it under. It goes on waiting. Answers in a stopped core
-    /// too.
+    /// The message that waits for a verdict, with the public key to verify it under. It goes on
+    /// waiting. Answers in a stopped core too.
     ///
     /// # Errors
     /// [`Refusal::NotWaiting`].
@@ -243,8 +255,8 @@ impl Core {
         &self.regions
     }
 
-    /// The memory as it is, for tests. Every call is total, so no contents can make one unsafe; but an answer means what its
-    /// documentation says only where the calls alone wrote it.
+    /// The memory as it is, for tests. Every call is total, so no contents can make one unsafe; but
+    /// an answer means what its documentation says only where the calls alone wrote it.
     #[doc(hidden)]
     pub fn regions_mut(&mut self) -> &mut Regions {
         &mut self.regions

@@ -1,9 +1,11 @@
-//! The exports of crates/osnma as they are (`include/osnma.h`). A region is a pointer and a count of elements, in the order of
-//! crates/rules/specs/State.antt. Each call is total: a count that is not right is answered 1, and no contents, argument or count
-//! makes a call leave the memory that it is lent. Nothing is kept after a call.
+//! The exports of crates/osnma as they are (`include/osnma.h`). A region is a pointer and a count
+//! of elements, in the order of crates/rules/specs/State.antt. Each call is total: a count that is
+//! not right is answered 1, and no contents, argument or count makes a call leave the memory that
+//! it is lent. Nothing is kept after a call.
 //!
-//! Safety, for all: each pointer is aligned and good for the count beside it (for one element where there is none), to read, and
-//! where it is `*mut` also to write; what is written overlaps nothing else that is lent.
+//! Safety, for all: each pointer is aligned and good for the count beside it (for one element where
+//! there is none), to read, and where it is `*mut` also to write; what is written overlaps nothing
+//! else that is lent.
 
 extern "C" {
     pub fn osnma_regions_start(

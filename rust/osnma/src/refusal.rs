@@ -2,13 +2,15 @@
 
 use core::fmt;
 
-/// Why a call was refused: the numbers of document 01's table. What a refusal leaves behind is said at each call.
+/// Why a call was refused: the numbers of document 01's table. What a refusal leaves behind is said
+/// at each call.
 #[derive(Clone, Copy, Debug, PartialEq, Eq, Hash)]
 #[non_exhaustive]
 pub enum Refusal {
     /// 1: a lent length is wrong. [`Core`](crate::Core) lends right ones.
     WrongLength,
-    /// 2: PRN, time, NS, key ID, key type, mark or verdict out of range; a word 4 whose SVID is not the PRN.
+    /// 2: PRN, time, NS, key ID, key type, mark or verdict out of range; a word 4 whose SVID is not
+    /// the PRN.
     OutOfRange,
     /// 3: a word or sub-frame earlier than the times noted allow.
     OutOfOrder,
@@ -22,7 +24,8 @@ pub enum Refusal {
     KeyNotHeld,
     /// 8: a DSM-KROOT with parameters that are not taken.
     ParametersUnfit,
-    /// 9: a root that is not later than the last put in force; a public key whose ID is not above all held.
+    /// 9: a root that is not later than the last put in force; a public key whose ID is not above
+    /// all held.
     NotNewer,
     /// 10: a DSM-PKR whose nodes do not give the tree's root.
     TreeUnfit,
@@ -38,7 +41,8 @@ pub enum Refusal {
     VerdictBad,
     /// 16: no authentic set for this PRN since the start.
     NoSet,
-    /// A number that the table has not. The contracts of the proved calls leave none; it would tell of another library.
+    /// A number that the table has not. The contracts of the proved calls leave none; it would tell
+    /// of another library.
     Unlisted(u32),
 }
 

@@ -1,13 +1,14 @@
-//! The sixteen regions that a core lends to each call, and the calls over them. For [`Core`](crate::Core), and for tests, which
-//! look at every byte and lend wrong lengths.
+//! The sixteen regions that a core lends to each call, and the calls over them. For
+//! [`Core`](crate::Core), and for tests, which look at every byte and lend wrong lengths.
 
 use crate::raw;
 
-/// Writes the regions once: name, type and number of elements, in the order of crates/rules/specs/State.antt.
+/// Writes the regions once: name, type and number of elements, in the order of
+/// crates/rules/specs/State.antt.
 macro_rules! regions {
     ($($(#[$doc:meta])* $name:ident: [$element:ty; $count:literal],)*) => {
-        /// All memory of a core, laid out as `struct osnma_core` of `include/osnma.h`. A time is stored plus 1, and 0 says never
-        /// ("stamp").
+        /// All memory of a core, laid out as `struct osnma_core` of `include/osnma.h`. A time is
+        /// stored plus 1, and 0 says never ("stamp").
         #[derive(Clone, Debug, PartialEq, Eq)]
         #[repr(C)]
         pub struct Regions {
@@ -129,7 +130,8 @@ impl Lent<'_> {
         tree_root: &[u8],
         key: &[u8],
     ) -> u32 {
-        // SAFETY: each pointer is of a live slice and has its length beside it; what is written is borrowed for that alone.
+        // SAFETY: each pointer is of a live slice and has its length beside it; what is written is
+        // borrowed for that alone.
         unsafe {
             lend!(
                 osnma_regions_start,

@@ -1,5 +1,5 @@
-//! include/osnma.h from C: tests/c/calls.c is compiled as C99 and, where there is a C++ compiler, as C++, without a warning, linked
-//! with the archive and run.
+//! include/osnma.h from C: tests/c/calls.c is compiled as C99 and, where there is a C++ compiler,
+//! as C++, without a warning, linked with the archive and run.
 
 use osnma::regions::Regions;
 use std::fmt::Write;
@@ -77,6 +77,9 @@ fn one_layout() {
             $(writeln!(layout, "{} {}", stringify!($name), offset_of!(Regions, $name)).unwrap();)*
         };
     }
-    add!(config clocks words stamps blocks headers marks since keys offer chain numbers key waiting sets arrivals);
+    add!(
+        config clocks words stamps blocks headers marks since
+        keys offer chain numbers key waiting sets arrivals
+    );
     assert_eq!(run(&program, &["layout"]), layout);
 }

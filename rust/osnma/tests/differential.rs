@@ -1,5 +1,6 @@
-//! The core against the second receiver: the same calls into both, and after each the answer, the reads, and every byte of every
-//! region. Sub-frames go to the second receiver alone; the core gets the regions that its state stands for.
+//! The core against the second receiver: the same calls into both, and after each the answer, the
+//! reads, and every byte of every region. Sub-frames go to the second receiver alone; the core gets
+//! the regions that its state stands for.
 
 mod common;
 
@@ -13,7 +14,8 @@ use osnma::{Core, Gst, Refusal};
 use signal::rng::Rng;
 use signal::scenario;
 
-/// Runs of long key walks, which take the second receiver seconds and bring the calls here no other states.
+/// Runs of long key walks, which take the second receiver seconds and bring the calls here no other
+/// states.
 const LONG: [&str; 4] = ["sections", "gaps", "held_key", "gap_full"];
 
 const CALLS: u64 = if cfg!(debug_assertions) {
@@ -61,7 +63,8 @@ fn random_calls() {
     }
 }
 
-// Each lent length wrong, alone, with arguments that are right and with ones that are refused by other numbers.
+// Each lent length wrong, alone, with arguments that are right and with ones that are refused by
+// other numbers.
 #[test]
 fn wrong_lengths() {
     let mut rng = Rng::new(3);
@@ -155,7 +158,10 @@ fn one_bit_changed_is_seen() {
                 })*
             };
         }
-        changed!(config clocks words stamps blocks headers marks since keys offer chain numbers key waiting sets arrivals);
+        changed!(
+            config clocks words stamps blocks headers marks since
+            keys offer chain numbers key waiting sets arrivals
+        );
     }
     let zeroed = Regions::zeroed();
     macro_rules! every {
@@ -168,7 +174,10 @@ fn one_bit_changed_is_seen() {
             })*
         };
     }
-    every!(config clocks words stamps blocks headers marks since keys offer chain numbers key waiting sets arrivals);
+    every!(
+        config clocks words stamps blocks headers marks since
+        keys offer chain numbers key waiting sets arrivals
+    );
 }
 
 // A changed bit is also seen after a call that does not touch it.

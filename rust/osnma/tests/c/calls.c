@@ -1,10 +1,11 @@
 /*
- * The calls of include/osnma.h from C: a start, words, what waits and its verdicts, reads, and each refusal that they can give. After
- * every call all regions are compared with what they must hold. Stops with a message and a status other than 0 at the first
- * difference. Compiles as C99 and as C++.
+ * The calls of include/osnma.h from C: a start, words, what waits and its verdicts, reads, and each
+ * refusal that they can give. After every call all regions are compared with what they must hold.
+ * Stops with a message and a status other than 0 at the first difference. Compiles as C99 and as
+ * C++.
  *
- * Only sub-frames bring a message that waits, waiting tags, an authentic set or a stop, so the test writes these into the core
- * itself (`wait_for`, `tag_waits`, `config[62]`).
+ * Only sub-frames bring a message that waits, waiting tags, an authentic set or a stop, so the test
+ * writes these into the core itself (`wait_for`, `tag_waits`, `config[62]`).
  */
 #include <osnma.h>
 
@@ -33,7 +34,8 @@ static void check(int holds, const char *what, int line)
 
 static void check_regions(int line)
 {
-#define SAME(region) check(memcmp(core.region, want.region, sizeof core.region) == 0, #region " differs", line)
+#define SAME(region)                                                                               \
+    check(memcmp(core.region, want.region, sizeof core.region) == 0, #region " differs", line)
     SAME(config);
     SAME(clocks);
     SAME(words);
@@ -80,7 +82,8 @@ static struct osnma_settings settings;
 
 static void settle(void)
 {
-    static const uint8_t list[14] = {0, OSNMA_FLEXIBLE, OSNMA_FLEXIBLE, 0, 12, 0, 0, 11, 15, 1, 2, 3, 4, 5};
+    static const uint8_t list[14] = {
+        0, OSNMA_FLEXIBLE, OSNMA_FLEXIBLE, 0, 12, 0, 0, 11, 15, 1, 2, 3, 4, 5};
     unsigned i;
     settings.ns = 36;
     settings.key_id = 3;
@@ -120,9 +123,9 @@ static void test_start(void)
     uint8_t type, mark;
     settle();
     fill(0xA5);
-#define REFUSED(field, value)                                                                                                       \
-    settle();                                                                                                                       \
-    settings.field = value;                                                                                                         \
+#define REFUSED(field, value)                                                                      \
+    settle();                                                                                      \
+    settings.field = value;                                                                        \
     ANSWERS(osnma_start(&core, &settings), OSNMA_OUT_OF_RANGE)
     REFUSED(ns, 0);
     REFUSED(ns, 37);
@@ -136,7 +139,8 @@ static void test_start(void)
         REFUSED(marks[1 + mark % 13], mark);
     }
 #undef REFUSED
-    /* An accepted start leaves nothing of what was there, and reads no more of a key than its type has. */
+    /* An accepted start leaves nothing of what was there, and reads no more of a key than its type
+     * has. */
     for (type = 0; type < 4; type++) {
         settle();
         settings.key_type = type;
@@ -222,11 +226,14 @@ static void test_words(void)
 
 static uint8_t message[OSNMA_MESSAGE], signature[OSNMA_SIGNATURE];
 
-/* A message of a chain with KS 128, MS 12 and NMACK 2, and a signature of 64 bytes: A.1.4 of the specification, with these fields. */
-static void make_message(unsigned status, unsigned cid, unsigned cidkr, unsigned week, unsigned hour)
+/* A message of a chain with KS 128, MS 12 and NMACK 2, and a signature of 64 bytes: A.1.4 of the
+ * specification, with these fields. */
+static void make_message(unsigned status, unsigned cid, unsigned cidkr, unsigned week,
+                         unsigned hour)
 {
-    static const uint8_t rest[22] = {0xF1, 0xCA, 0x38, 0x56, 0xA9, 0x75, 0xEE, 0x67, 0x72, 0xD9, 0xAB,
-                                     0x83, 0x96, 0x86, 0x6D, 0xC5, 0x7E, 0xAD, 0xA1, 0xD2, 0x96, 0x37};
+    static const uint8_t rest[22] = {0xF1, 0xCA, 0x38, 0x56, 0xA9, 0x75, 0xEE, 0x67,
+                                     0x72, 0xD9, 0xAB, 0x83, 0x96, 0x86, 0x6D, 0xC5,
+                                     0x7E, 0xAD, 0xA1, 0xD2, 0x96, 0x37};
     memset(message, 0, sizeof message);
     memset(signature, 0, sizeof signature);
     message[0] = (uint8_t)(status << 6 | cid << 4 | 2);
@@ -336,7 +343,7 @@ static void test_verdicts(void)
 {
     unsigned cid;
     start();
-    /* A key of lower ID, which only a DSM-PKR adds later on; it goes with a root under key 3. */
+    /* A second key is held, of lower ID: it goes with a root under key 3. */
     core.keys[68 * 2] = want.keys[68 * 2] = 1;
     core.keys[68 * 2 + 1] = want.keys[68 * 2 + 1] = 77;
     /* No chain is in force: status 0 and 3, and a CIDKR that is not the CID. */
@@ -386,7 +393,8 @@ static void test_verdicts(void)
     wait_for(3);
     want_no_offer();
     ANSWERS(verdict(1, 3), OSNMA_NOT_NEWER);
-    /* A later root of the same chain, at second 435600: the tags stay whose keys do not lie before it, and close up. */
+    /* A later root of the same chain, at second 435600: the tags stay whose keys do not lie before
+     * it, and close up. */
     make_message(1, 0, 0, 947, 121);
     wait_for(3);
     want_in_force();
@@ -488,17 +496,20 @@ static void test_stopped(void)
 enum { REGIONS = 16 };
 
 /* The counts that are right, then those of the other byte strings of each call. */
-static const size_t right_counts[REGIONS + 3] = {63, 73, 2880, 180, 3328, 16, 16, 16, 1088, 179, 45, 2, 32, 21504, 2484, 36, 0, 0, 0};
+static const size_t right_counts[REGIONS + 3] = {63, 73, 2880, 180,   3328, 16, 16, 16, 1088, 179,
+                                                 45, 2,  32,   21504, 2484, 36, 0,  0,  0};
 
-#define LENT(n)                                                                                                                     \
-    core.config, n[0], core.clocks, n[1], core.words, n[2], core.stamps, n[3], core.blocks, n[4], core.headers, n[5], core.marks,   \
-        n[6], core.since, n[7], core.keys, n[8], core.offer, n[9], core.chain, n[10], core.numbers, n[11], core.key, n[12],         \
-        core.waiting, n[13], core.sets, n[14], core.arrivals, n[15]
+#define LENT(n)                                                                                    \
+    core.config, n[0], core.clocks, n[1], core.words, n[2], core.stamps, n[3], core.blocks, n[4],  \
+        core.headers, n[5], core.marks, n[6], core.since, n[7], core.keys, n[8], core.offer, n[9], \
+        core.chain, n[10], core.numbers, n[11], core.key, n[12], core.waiting, n[13], core.sets,   \
+        n[14], core.arrivals, n[15]
 
 static enum osnma_answer counted_start(const size_t *n)
 {
-    return (enum osnma_answer)osnma_regions_start(LENT(n), settings.ns, settings.key_id, settings.key_type, settings.maclt,
-                                                  settings.marks, n[16], settings.tree_root, n[17], settings.key, n[18]);
+    return (enum osnma_answer)osnma_regions_start(
+        LENT(n), settings.ns, settings.key_id, settings.key_type, settings.maclt, settings.marks,
+        n[16], settings.tree_root, n[17], settings.key, n[18]);
 }
 
 static enum osnma_answer counted_word(const size_t *n)
@@ -508,7 +519,8 @@ static enum osnma_answer counted_word(const size_t *n)
 
 static enum osnma_answer counted_verdict(const size_t *n)
 {
-    return (enum osnma_answer)osnma_regions_verdict(LENT(n), 0, 3, message, n[16], signature, n[17]);
+    return (enum osnma_answer)osnma_regions_verdict(LENT(n), 0, 3, message, n[16], signature,
+                                                    n[17]);
 }
 
 static enum osnma_answer counted_read_set(const size_t *n)
@@ -528,15 +540,19 @@ static enum osnma_answer counted_read_message(const size_t *n)
     struct osnma_message got;
     enum osnma_answer answer;
     memset(&got, 0x5A, sizeof got);
-    answer = (enum osnma_answer)osnma_regions_read_message(LENT(n), got.message, n[16], got.signature, n[17], got.key, n[18],
+    answer = (enum osnma_answer)osnma_regions_read_message(LENT(n), got.message, n[16],
+                                                           got.signature, n[17], got.key, n[18],
                                                            &got.key_id, &got.key_type);
     if (answer == OSNMA_WRONG_LENGTH)
-        CHECK(got.key_id == 0 && got.key_type == 0 && got.message[0] == 0x5A && got.key[66] == 0x5A);
+        CHECK(got.key_id == 0 && got.key_type == 0 && got.message[0] == 0x5A &&
+              got.key[66] == 0x5A);
     return answer;
 }
 
-/* Each count in turn is 0, then one less than right; `others` are the counts of the other byte strings. */
-static void short_counts(enum osnma_answer (*call)(const size_t *), const size_t *others, unsigned count, enum osnma_answer answer)
+/* Each count in turn is 0, then one less than right; `others` are the counts of the other byte
+ * strings. */
+static void short_counts(enum osnma_answer (*call)(const size_t *), const size_t *others,
+                         unsigned count, enum osnma_answer answer)
 {
     size_t n[REGIONS + 3];
     unsigned i, k;
@@ -563,7 +579,8 @@ static void short_counts(enum osnma_answer (*call)(const size_t *), const size_t
 
 static void test_counts(void)
 {
-    static const size_t of_start[3] = {28, 32, 67}, of_word[1] = {16}, of_verdict[2] = {45, 132}, of_set[1] = {69};
+    static const size_t of_start[3] = {28, 32, 67}, of_word[1] = {16}, of_verdict[2] = {45, 132},
+                        of_set[1] = {69};
     static const size_t of_message[3] = {45, 132, 67};
     start();
     make_message(1, 0, 0, 947, 120);
@@ -579,7 +596,8 @@ static void test_counts(void)
 /* Where each region begins, for comparison with other bindings. */
 static void print_layout(void)
 {
-#define PRINT(region) printf("%s %lu\n", #region, (unsigned long)offsetof(struct osnma_core, region))
+#define PRINT(region)                                                                              \
+    printf("%s %lu\n", #region, (unsigned long)offsetof(struct osnma_core, region))
     PRINT(config);
     PRINT(clocks);
     PRINT(words);

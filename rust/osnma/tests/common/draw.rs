@@ -158,7 +158,8 @@ pub fn verdict(rng: &mut Rng, receiver: &Receiver) -> Call {
     }
 }
 
-/// The parameters of a root and its root key's bytes: of the chain in force, its neighbours, or another.
+/// The parameters of a root and its root key's bytes: of the chain in force, its neighbours, or
+/// another.
 struct Root {
     header: u8,
     parameters: ChainParameters,
@@ -286,8 +287,8 @@ fn next(receiver: &Receiver, rng: &mut Rng) -> Option<u32> {
     }
 }
 
-/// Lends all blocks of a message at one time, each from another satellite, with sections of any bytes. Gives the number of sub-frames,
-/// as those do that use it.
+/// Lends all blocks of a message at one time, each from another satellite, with sections of any
+/// bytes. Gives the number of sub-frames, as those do that use it.
 fn deliver(twin: &mut Twin, rng: &mut Rng, header: u8, id: u8, message: &[u8], time: u32) -> u64 {
     let (count, first) = (dsm::blocks(message), rng.range(1, 20) as u8);
     let fields = (0..count).map(|block| {

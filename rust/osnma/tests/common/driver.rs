@@ -130,7 +130,8 @@ fn gst(record: &[u8]) -> u32 {
         .fold(0, |time, &byte| time << 8 | u32::from(byte))
 }
 
-/// Lends a replay input: starts, words and verdicts to both, sub-frames to the second receiver. `each` sees every state.
+/// Lends a replay input: starts, words and verdicts to both, sub-frames to the second receiver.
+/// `each` sees every state.
 pub fn replay(
     input: &[u8],
     rng: &mut Rng,

@@ -1,9 +1,10 @@
 //! The regions that a state of the second receiver stands for (crates/rules/specs/State.antt).
 //!
-//! The second receiver does not keep what no rule reads again. These parts are held to be as they were before the call: the bytes of
-//! a word, block or authentic set that is not there, the header and first time of a DSM ID without a block, what lies past the count
-//! of waiting tags, and after a drop the chain's contents but for its root's time, the held key and its slot. An accepted start
-//! leaves zeros in all of them.
+//! The second receiver does not keep what no rule reads again. These parts are held to be as they
+//! were before the call: the bytes of a word, block or authentic set that is not there, the header
+//! and first time of a DSM ID without a block, what lies past the count of waiting tags, and after
+//! a drop the chain's contents but for its root's time, the held key and its slot. An accepted
+//! start leaves zeros in all of them.
 
 use osnma::regions::Regions;
 use second_receiver::tags::WaitingTag;
@@ -163,6 +164,9 @@ pub fn difference(got: &Regions, want: &Regions) -> Option<String> {
             })*
         };
     }
-    first!(config clocks words stamps blocks headers marks since keys offer chain numbers key waiting sets arrivals);
+    first!(
+        config clocks words stamps blocks headers marks since
+        keys offer chain numbers key waiting sets arrivals
+    );
     None
 }

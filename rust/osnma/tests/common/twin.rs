@@ -97,11 +97,11 @@ impl Twin {
         }
     }
 
-    /// A call into both. Compares the answer, every byte of every region, and what both reads give then; `prn` is the satellite that
-    /// is read where the call names none. Gives the answer.
+    /// A call into both. Compares the answer, every byte of every region, and what both reads give
+    /// then; `prn` is the satellite that is read where the call names none. Gives the answer.
     ///
-    /// Before a start the second receiver answers no call but a start; the core's answers are then those of its contents, and
-    /// only starts are called.
+    /// Before a start the second receiver answers no call but a start; the core's answers are then
+    /// those of its contents, and only starts are called.
     pub fn call(&mut self, call: &Call, prn: u8) -> Result<u32, String> {
         let answer = self.answers(call)?;
         if answer == 0 && call.kind() == 0 {
@@ -221,8 +221,9 @@ impl Twin {
         Ok(got)
     }
 
-    /// Sub-frames of one time for the second receiver alone, by PRN; the core then gets the regions that its state stands for. What that
-    /// state does not know stays, or is any bytes where `filler` is given.
+    /// Sub-frames of one time for the second receiver alone, by PRN; the core then gets the regions
+    /// that its state stands for. What that state does not know stays, or is any bytes where
+    /// `filler` is given.
     pub fn subframes(&mut self, time: u32, fields: &[(u8, [u8; 75])], filler: Option<&mut Rng>) {
         let mut area = [0; RECORDS_LEN];
         for (prn, field) in fields {
