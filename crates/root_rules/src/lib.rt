@@ -68,7 +68,15 @@ pub fn root_unfit(maclt: u8, chain: &[u8], c: &[u8]) -> bool
 }
 
 // The number of a verdict's checks against what waits and the chain: 14, 15, 11, 9 or 0.
-pub fn vouch_refusal(maclt: u8, chain: &[u8], offer: &[u8], good: u8, id: u8, message: &[u8], signature: &[u8]) -> u32
+pub fn vouch_refusal(
+    maclt: u8,
+    chain: &[u8],
+    offer: &[u8],
+    good: u8,
+    id: u8,
+    message: &[u8],
+    signature: &[u8],
+) -> u32
     requires { ⌜ (length (now chain) ≡ 45) × ((length (now offer) ≡ 179) × (length (now message) ≡ 45)) ⌝ }
     ensures { λ r. ⌜ ((s : State) → macltOf (s .config) ≡ maclt → s .chain ≡ now (chain .entry) → s .offer ≡ now (offer .entry) → r ≡ firstOf (S.vouchChecks s (record { good = good; id = id; message = now (message .entry); signature = now (signature .entry) }))) ⌝ }
 {

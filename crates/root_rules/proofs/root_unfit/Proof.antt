@@ -13,8 +13,8 @@ unfolding chainContents part
 returns c =
     let i = c .before .before in
     λ s m e.
-        rw (i .before .root-seconds2 .ensures, i .before .before .root-seconds .ensures)
-        (root-in-force s _ _ m e (sym (i .in-force .ensures) ∙ c .before .if1 .taken) _ _ (c .same-contents .ensures s m e))
+    rw (i .before .root-seconds2 .ensures, i .before .before .root-seconds .ensures)
+    (root-in-force s _ _ m e (sym (i .in-force .ensures) ∙ c .before .if1 .taken) _ _ (c .same-contents .ensures s m e))
 
 returns-2 : tie.Need-returns-2
 unfolding chainContents part
@@ -22,8 +22,8 @@ returns-2 c =
     let t = c .before in
     let i = t .before in
     λ s m e.
-        rw (i .before .root-seconds2 .ensures, i .before .before .root-seconds .ensures)
-        (root-after s _ _ m e (sym (i .in-force .ensures) ∙ t .if1 .left) _)
+    rw (i .before .root-seconds2 .ensures, i .before .before .root-seconds .ensures)
+    (root-after s _ _ m e (sym (i .in-force .ensures) ∙ t .if1 .left) _)
 
 pub root-unfit-spec : {M : Type 1} → statement M
 root-unfit-spec =

@@ -21,8 +21,8 @@ returns-3 c =
     let t = i .before .before in
     let g = t .before .before .before .args in
     λ s m e.
-        rw (c .cidkr .ensures)
-        (status-put s (g .header) _ _ (search needs) (λ k. i .before .if1 .left (t .status-of .ensures ∙ k)) (λ k. c .before .if2 .left (t .status-of .ensures ∙ k)) (i .cid-of .ensures))
+    rw (c .cidkr .ensures)
+    (status-put s (g .header) _ _ (search needs) (λ k. i .before .if1 .left (t .status-of .ensures ∙ k)) (λ k. c .before .if2 .left (t .status-of .ensures ∙ k)) (i .cid-of .ensures))
 
 pub status-unfit-spec : {M : Type 1} → statement M
 status-unfit-spec =

@@ -38,8 +38,8 @@ unfolding S.messageHeader S.messageContents part
 returns-3 c =
     let t = c .before .before .before .before in
     λ s m e o.
-        status-bad s (verdict (t .before .before .before .before .before .before .before)) (named (t .before) s o) (t .if2 .left)
-        (sym (c .before .status-unfit .ensures s m e) ∙ c .if3 .taken)
+    status-bad s (verdict (t .before .before .before .before .before .before .before)) (named (t .before) s o) (t .if2 .left)
+    (sym (c .before .status-unfit .ensures s m e) ∙ c .if3 .taken)
 
 returns-4 : tie.Need-returns-4
 unfolding S.messageHeader S.messageContents part
@@ -47,9 +47,9 @@ returns-4 c =
     let u = c .before .before .before .before in
     let t = u .before .before .before .before in
     λ s m e o.
-        root-bad s (verdict (t .before .before .before .before .before .before .before)) (named (t .before) s o) (t .if2 .left)
-        (sym (u .before .status-unfit .ensures s m e) ∙ u .if3 .left)
-        (sym (c .before .new-root-unfit .ensures s m e) ∙ c .if4 .taken)
+    root-bad s (verdict (t .before .before .before .before .before .before .before)) (named (t .before) s o) (t .if2 .left)
+    (sym (u .before .status-unfit .ensures s m e) ∙ u .if3 .left)
+    (sym (c .before .new-root-unfit .ensures s m e) ∙ c .if4 .taken)
 
 returns-5 : tie.Need-returns-5
 unfolding S.messageHeader S.messageContents part
@@ -57,9 +57,9 @@ returns-5 c =
     let u = c .before .before .before .before in
     let t = u .before .before .before .before in
     λ s m e o.
-        all-good s (verdict (t .before .before .before .before .before .before .before)) (named (t .before) s o) (t .if2 .left)
-        (sym (u .before .status-unfit .ensures s m e) ∙ u .if3 .left)
-        (sym (c .before .new-root-unfit .ensures s m e) ∙ c .if4 .left)
+    all-good s (verdict (t .before .before .before .before .before .before .before)) (named (t .before) s o) (t .if2 .left)
+    (sym (u .before .status-unfit .ensures s m e) ∙ u .if3 .left)
+    (sym (c .before .new-root-unfit .ensures s m e) ∙ c .if4 .left)
 
 pub vouch-refusal-spec : {M : Type 1} → statement M
 vouch-refusal-spec =
