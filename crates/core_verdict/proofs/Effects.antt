@@ -1,25 +1,25 @@
 -- What a verdict changes, by its cases: the tags that stay, the root held, status 3, and the numbers.
 -- Assumes nothing.
-use mathlib.Core.Path.{_≡_, refl, sym, ap, _∙_}
-use mathlib.Core.Bool.{Bool, true, false, cond, not, _&&_, _||_}
-use mathlib.Core.List.{List, [], _∷_, _++_}
-use Prim.Native.Nat.{ℕ, zero, suc, _+_, _-_, _*_, _/_, _≤_, _<_}
+use mathlib.Core.Path.{_≡_, refl, sym, ap}
+use mathlib.Core.Bool.{Bool, true, false, cond, not, _&&_}
+use mathlib.Core.List.{List, [], _∷_}
+use Prim.Native.Nat.{ℕ, zero, suc, _*_, _/_, _≤_, _<_}
 use native.Mathlib.Omega.{arith}
-use borrow.Author.Tests.{eq-eqb, ne-eqb, lt-ltb, le-ltb}
-use lib.Dec.{eqb, ltb}
-use lib.ListN.{length, getD, set}
+use borrow.Author.Tests.{ne-eqb, lt-ltb, le-ltb}
+use lib.Dec.{eqb}
+use lib.ListN.{length, set}
 use Rattle.checks.specs.Told.{told}
 use Rattle.laws.specs.Lists.{splice}
-use Rattle.laws.specs.Refusal.{firstOf, unless, neb}
+use Rattle.laws.specs.Refusal.{firstOf, neb}
 use Rattle.laws.proofs.Splice.{splice-nil}
 use Rattle.rules.specs.Bits.{filled, anyOf, within}
-use Rattle.rules.specs.Calls.{verdictCall, verdictChecks, Told}
+use Rattle.rules.specs.Calls.{verdictCall, verdictChecks}
 use Rattle.rules.specs.Gather.{statusOf}
 use Rattle.rules.specs.Keys.{withoutLower}
-use Rattle.rules.specs.Kroot.{krootOf, rootSecondsOf, chainContents, inForce, noOffer}
+use Rattle.rules.specs.Kroot.{krootOf, rootSecondsOf, chainContents, inForce}
 use Rattle.rules.specs.State.{State, Tesla, shaped, stopped, macltOf, waitingCount}
 use Rattle.rules.specs.Verdict as S
-use Rattle.core_verdict.specs.Trusted.{tesla, trusted}
+use Rattle.core_verdict.specs.Trusted.{tesla}
 
 -- ---- the tags that stay
 

@@ -1,15 +1,15 @@
 -- Regions that a verdict writes whole: the message that waits, the chain, the numbers, the held key.
 -- Assumes nothing.
-use mathlib.Core.Path.{_≡_, refl, sym, ap, _∙_}
+use mathlib.Core.Path.{_≡_, sym, ap, _∙_}
 use mathlib.Core.List.{List, [], _∷_, _++_}
-use Prim.Native.Nat.{ℕ, _+_, _-_, _*_, _≤_, _<_}
+use Prim.Native.Nat.{ℕ, _-_, _≤_, _<_}
 use native.Mathlib.Nat.{zero-add}
 use native.Mathlib.Omega.{arith}
 use borrow.Author.Tests.{lt-leb, le-leb}
 use lib.ListN.{length, getD, set, replicate, length-append, length-replicate}
 use Rattle.laws.specs.Lists.{part, splice}
 use Rattle.laws.proofs.Splice.{splice-two, splice-whole, splice-append, length-part}
-use Rattle.keyring.proofs.Keys.{splice-cons, length-filled}
+use Rattle.keyring.proofs.Keys.{splice-cons}
 use Rattle.messages.proofs.Parameters.{width-bound}
 use Rattle.rules.specs.Bits.{filled}
 use Rattle.rules.specs.Kroot.{noOffer, krootOf, keyWidth, ksOf}

@@ -1,15 +1,15 @@
 -- The tests of a verdict by their cases: NMA status 0, 3, and 1 or 2; a chain in force and none.
 -- Assumes nothing.
-use mathlib.Core.Path.{_≡_, refl, sym, ap, _∙_}
-use mathlib.Core.Bool.{Bool, true, false, cond, not, _&&_, _||_}
-use mathlib.Core.List.{List, [], _∷_}
-use Prim.Native.Nat.{ℕ, _/_, _≤_, _<_}
+use mathlib.Core.Path.{_≡_, refl, sym, _∙_}
+use mathlib.Core.Bool.{Bool, true, false, not, _&&_, _||_}
+use mathlib.Core.List.{List}
+use Prim.Native.Nat.{ℕ, _<_}
 use native.Mathlib.Omega.{arith}
 use lib.Dec.{leb, ltb, eqb}
 use lib.ListN.{getD}
-use borrow.Author.Tests.{eq-eqb, ne-eqb, le-leb, lt-leb}
+use borrow.Author.Tests.{eq-eqb, ne-eqb, le-leb}
 use Rattle.laws.specs.Lists.{same}
-use Rattle.laws.specs.Refusal.{neb, firstOf, refuse}
+use Rattle.laws.specs.Refusal.{neb, firstOf}
 use Rattle.rules.specs.Bits.{within}
 use Rattle.rules.specs.Gather.{statusOf, cidOf}
 use Rattle.rules.specs.Kroot.{cidkrOf, rootSecondsOf, chainContents, inForce, everForced}

@@ -1,6 +1,6 @@
 -- `core_verdict::judge_named` meets its contract: 14, another refusal, and 0.
 -- Assumes nothing.
-use mathlib.Core.Path.{_≡_, refl, sym, _∙_}
+use mathlib.Core.Path.{refl, sym, _∙_}
 use denote.Ref.{now}
 use Rattle.rules.specs.State.{State}
 use Rattle.rules.specs.Verdict as S
@@ -21,18 +21,26 @@ lent c s =
     trusted s (now (c .args .keys)) (now (c .args .offer)) (now (c .args .chain)) (tesla (now (c .args .numbers)) (now (c .args .key)) (now (c .args .waiting)))
 
 returns : tie.Need-returns
-returns c = let g = c .before .before .before .before .before .before .before .before .before .before .before .before in
+returns c =
+    let g = c .before .before .before .before .before .before .before .before .before .before .before .before in
     λ s m. (sym (c .if1 .taken) ∙ c .before .vouch-refusal .ensures (lent g s) m refl refl, kept (lent g s) (verdict g))
 
 returns-2 : tie.Need-returns-2
-returns-2 c = let g = c .before .before .before .before .before .before .before .before .before .before .before .before .before .before .before .before .before in
-    λ s m. (c .before .before .before .before .before .before .vouch-refusal .ensures (lent g s) m refl refl, rw (c .before .before .before .end-wait .ensures) (wait-ended (lent g s) (verdict g) _ (c .if2 .taken) (c .before .before .before .before .before .if1 .left)))
+returns-2 c =
+    let i = c .before .before .before .before .before in
+    let g = i .before .before .before .before .before .before .before .before .before .before .before .before in
+    λ s m. (i .before .vouch-refusal .ensures (lent g s) m refl refl, rw (c .before .before .before .end-wait .ensures) (wait-ended (lent g s) (verdict g) _ (c .if2 .taken) (i .if1 .left)))
 
 returns-3 : tie.Need-returns-3
-returns-3 c = let g = c .before .before .before .before .before .before .before .before .before .before .before .before .before .before .before .before .before .before .before .before .before .before .before .before .before .before .before .before .before .before .before .before .before in
+returns-3 c =
+    let v = c .before .before .before .before .before .before .before .before .before .before in
+    let j = v .before .before .before .before .before .before in
+    let w = j .before .before .before in
+    let i = w .before .before in
+    let g = i .before .before .before .before .before .before .before .before .before .before .before .before in
     λ s m. (
-      sym (c .before .before .before .before .before .before .before .before .before .before .before .before .before .before .before .before .if2 .left) ∙ c .before .before .before .before .before .before .before .before .before .before .before .before .before .before .before .before .before .before .before .before .before .before .vouch-refusal .ensures (lent g s) m refl refl,
-      rw (c .before .before .before .before .before .before .before .before .before .before .before .before .before .before .before .before .before .before .before .end-wait .ensures) (c .before .before .before .before .before .before .before .before .before .before .vouch .ensures (lent g s) (g .args .good) (now (g .args .signature)) m refl refl refl ∙ taken (lent g s) (verdict g)),
+      sym (j .if2 .left) ∙ i .before .vouch-refusal .ensures (lent g s) m refl refl,
+      rw (w .end-wait .ensures) (v .vouch .ensures (lent g s) (g .args .good) (now (g .args .signature)) m refl refl refl ∙ taken (lent g s) (verdict g)),
     )
 
 pub judge-named-spec : {M : Type 1} → statement M

@@ -1,13 +1,9 @@
 -- `core_verdict::keep_tags` meets its contract: no tag stays but on the same chain.
 -- Assumes nothing.
-use mathlib.Core.Path.{_≡_, sym, ap, _∙_}
-use mathlib.Core.List.{List}
-use Prim.Native.Nat.{ℕ}
-use denote.Ref.{now}
+use mathlib.Core.Path.{sym, _∙_}
 use borrow.Author.Tests.{not-true, not-false}
 use Rattle.laws.specs.Lists.{part}
 use Rattle.rules.specs.Kroot.{chainContents}
-use Rattle.rules.specs.Verdict as S
 use Rattle.core_verdict.proofs.Effects.{none-in-force, chain-changed, same-chain, none-stay, some-stay}
 use borrow.Author.Needs.{needs}
 use Rattle.core_verdict.proofs.keep_tags.Statement.{statement}
@@ -18,14 +14,15 @@ returns c = λ s m e w k. none-stay _ _ (none-in-force s _ _ _ m e (sym (c .befo
 
 returns-2 : tie.Need-returns-2
 unfolding chainContents part
-returns-2 c = let u = c .before .before .before in
+returns-2 c =
+    let u = c .before .before .before in
     λ s m e w k. none-stay _ _ (chain-changed s _ _ _ m e (sym (u .before .in-force .ensures) ∙ not-false _ (u .if1 .left)) (sym (c .before .chain-unchanged .ensures) ∙ not-true _ (c .if2 .taken)))
 
 returns-3 : tie.Need-returns-3
 unfolding chainContents part
-returns-3 c = let i = c .before .before .before .before .before in
+returns-3 c =
+    let i = c .before .before .before .before .before in
     let u = i .before .before .before in
-    let g = c .before .before .before .before .before .before .before .before .before .before .before .before .before .args in
     let f = sym (u .before .in-force .ensures) ∙ not-false _ (u .if1 .left) in
     let n = sym (i .before .chain-unchanged .ensures) ∙ not-false _ (i .if2 .left) in
     λ s m e w k.

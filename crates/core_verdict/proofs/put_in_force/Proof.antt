@@ -16,7 +16,9 @@ same-length : tie.Need-same-length
 same-length c = c .before .before .copy-at .kept .0 ∙ simp length-set
 
 returns : tie.Need-returns
-returns c = let g = c .before .before .before .before .before .before .args in c .before .before .copy-at .ensures ∙ put (now (g .chain)) (now (g .c)) (omega arith) (omega arith)
+returns c =
+    let g = c .before .before .before .before .before .before .args in
+    c .before .before .copy-at .ensures ∙ put (now (g .chain)) (now (g .c)) (omega arith) (omega arith)
 
 pub put-in-force-spec : {M : Type 1} → statement M
 put-in-force-spec = tie.close (tie.spec (λ c. search needs) copy-at-requires same-length returns)

@@ -1,6 +1,6 @@
 -- `core_verdict::put_root` meets its contract: the root key, and zeros to 32 bytes.
 -- Assumes nothing.
-use mathlib.Core.Path.{_≡_, ap, _∙_}
+use mathlib.Core.Path.{ap, _∙_}
 use Prim.Native.Nat.{_≤_}
 use denote.Ref.{now}
 use native.Mathlib.Omega.{arith}
@@ -25,7 +25,8 @@ fill-requires : tie.Need-fill-requires
 fill-requires c κs = omega (arith, width (c .before .before .before .before .before), c .before .before .before .copy-part .kept .0)
 
 returns : tie.Need-returns
-returns c = let g = c .before .before .before .before .before .before .before .before .before .before .before .before .args in
+returns c =
+    let g = c .before .before .before .before .before .before .before .before .before .before .before .before .args in
     let w = c .before .before .before .before .before .before .before .before in
     rw (c .before .before .fill .ensures, c .before .before .before .before .before .before .copy-part .ensures)
     (root-written (now (g .key)) (now (g .c)) (w .key-width .result) (omega arith) (omega arith) (w .key-width .ensures ∙ ap keyWidth (w .before .ks .ensures)))

@@ -1,6 +1,6 @@
 -- `root_rules::new_root_unfit` meets its contract: each return is a case of the NMA status.
 -- Assumes nothing.
-use mathlib.Core.Path.{_≡_, sym, _∙_}
+use mathlib.Core.Path.{sym, _∙_}
 use borrow.Author.Needs.{needs}
 use Rattle.root_rules.proofs.Tests.{root-none, root-drop, root-put}
 use Rattle.root_rules.proofs.new_root_unfit.Statement.{statement}

@@ -1,6 +1,6 @@
 -- `root_rules::root_unfit` meets its contract: a root against the chain in force, and against the last one after a drop.
 -- Assumes nothing.
-use mathlib.Core.Path.{_≡_, sym, _∙_}
+use mathlib.Core.Path.{sym, _∙_}
 use borrow.Author.Needs.{needs}
 use Rattle.laws.specs.Lists.{part}
 use Rattle.rules.specs.Kroot.{chainContents}
