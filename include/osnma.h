@@ -1,6 +1,6 @@
 /*
  * The authentication core of a Galileo OSNMA receiver (signal-in-space testing specification v1.1),
- * for C99 and C++. Link with libosnma.a.
+ * for C99 and C++. Link with libosnma.a, which needs memcpy and memset of a C library and nothing else.
  *
  * The caller owns all memory: one struct osnma_core, lent to each call for as long as the call runs.
  * No call allocates, keeps a pointer, has state of its own, waits, or reports in any way but by its
