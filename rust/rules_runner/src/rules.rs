@@ -11,6 +11,14 @@ use std::rc::Rc;
 pub const AREA_LEN: usize = 3240;
 pub const RECORD_LEN: usize = 12;
 
+/// The sixteen regions of a state, in the order of crates/rules/specs/State.antt.
+pub type Regions = [Vec<u64>; 16];
+
+/// Elements of each region.
+const COUNTS: [usize; 16] = [
+    63, 73, 2880, 180, 3328, 16, 16, 16, 1088, 179, 45, 2, 32, 21504, 2484, 36,
+];
+
 pub struct Rules {
     program: Program,
 }
@@ -54,17 +62,20 @@ fn zeros(len: usize) -> Value {
     Value::List(List::of_numbers(vec![0; len]))
 }
 
+fn numbers(value: &Value) -> Vec<u64> {
+    let Value::List(list) = value else {
+        panic!("{value:?} is no list");
+    };
+    list.numbers().expect("a list of numbers").to_vec()
+}
+
 fn number(value: u8) -> Value {
     Value::Number(value.into())
 }
 
 fn bytes(value: &Value) -> Vec<u8> {
-    let Value::List(list) = value else {
-        panic!("{value:?} is no list");
-    };
-    let numbers = list.numbers().expect("a list of numbers");
-    let byte = |&number| u8::try_from(number).expect("a byte");
-    numbers.iter().map(byte).collect()
+    let byte = |number| u8::try_from(number).expect("a byte");
+    numbers(value).into_iter().map(byte).collect()
 }
 
 impl Rules {
@@ -112,43 +123,33 @@ impl Rules {
         bytes(&self.field(value, name))
     }
 
-    /// Regions of the right lengths, before any start.
-    fn unstarted(&self) -> Value {
-        let state = self.record(vec![
-            ("config", zeros(63)),
-            ("clocks", zeros(73)),
-            (
-                "nav",
-                self.record(vec![("words", zeros(2880)), ("times", zeros(180))]),
-            ),
-            (
-                "store",
-                self.record(vec![
-                    ("blocks", zeros(3328)),
-                    ("headers", zeros(16)),
-                    ("marks", zeros(16)),
-                    ("times", zeros(16)),
-                ]),
-            ),
-            ("keys", zeros(1088)),
-            ("offer", zeros(179)),
-            ("chain", zeros(45)),
-            (
-                "tesla",
-                self.record(vec![
-                    ("numbers", zeros(2)),
-                    ("key", zeros(32)),
-                    ("waiting", zeros(21504)),
-                ]),
-            ),
-            (
-                "auth",
-                self.record(vec![("sets", zeros(2484)), ("times", zeros(36))]),
-            ),
+    /// The state that regions stand for.
+    fn state(&self, regions: &Regions) -> Value {
+        let list = |at: usize| Value::List(List::of_numbers(regions[at].clone()));
+        let nav = self.record(vec![("words", list(2)), ("times", list(3))]);
+        let store = self.record(vec![
+            ("blocks", list(4)),
+            ("headers", list(5)),
+            ("marks", list(6)),
+            ("times", list(7)),
         ]);
-        let shaped = self.call("rules.State.shaped", vec![state.clone()]);
-        assert!(matches!(shaped, Value::Bool(true)), "a region's length");
-        state
+        let tesla = self.record(vec![
+            ("numbers", list(11)),
+            ("key", list(12)),
+            ("waiting", list(13)),
+        ]);
+        let auth = self.record(vec![("sets", list(14)), ("times", list(15))]);
+        self.record(vec![
+            ("config", list(0)),
+            ("clocks", list(1)),
+            ("nav", nav),
+            ("store", store),
+            ("keys", list(8)),
+            ("offer", list(9)),
+            ("chain", list(10)),
+            ("tesla", tesla),
+            ("auth", auth),
+        ])
     }
 
     /// The bytes of a public key of a type (01, "a key of 29, 33, 49 or 67 bytes").
@@ -168,10 +169,19 @@ impl Rules {
         bytes(&self.call("hmac.Hmac.hmac", vec![list(key), list(message)]))
     }
 
+    /// A run from zeros, before any start.
     pub fn run(&self) -> Run<'_> {
+        let run = self.run_on(&COUNTS.map(|count| vec![0; count]));
+        let shaped = self.call("rules.State.shaped", vec![run.state.clone()]);
+        assert!(matches!(shaped, Value::Bool(true)), "a region's length");
+        run
+    }
+
+    /// A run from regions of any lengths and contents.
+    pub fn run_on(&self, regions: &Regions) -> Run<'_> {
         Run {
             rules: self,
-            state: self.unstarted(),
+            state: self.state(regions),
             area: zeros(AREA_LEN),
         }
     }
@@ -183,6 +193,32 @@ impl Run<'_> {
         let told = self.rules.call(call, vec![self.state.clone(), input]);
         self.state = self.rules.field(&told, "state");
         self.rules.number(&told, "code")
+    }
+
+    /// The regions as the last call left them.
+    pub fn regions(&self) -> Regions {
+        let region = |path: &[&str]| {
+            let field = |value: Value, name: &&str| self.rules.field(&value, name);
+            numbers(&path.iter().fold(self.state.clone(), field))
+        };
+        [
+            region(&["config"]),
+            region(&["clocks"]),
+            region(&["nav", "words"]),
+            region(&["nav", "times"]),
+            region(&["store", "blocks"]),
+            region(&["store", "headers"]),
+            region(&["store", "marks"]),
+            region(&["store", "times"]),
+            region(&["keys"]),
+            region(&["offer"]),
+            region(&["chain"]),
+            region(&["tesla", "numbers"]),
+            region(&["tesla", "key"]),
+            region(&["tesla", "waiting"]),
+            region(&["auth", "sets"]),
+            region(&["auth", "times"]),
+        ]
     }
 
     #[allow(clippy::too_many_arguments)]

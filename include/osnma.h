@@ -1,0 +1,457 @@
+/*
+ * The authentication core of a Galileo OSNMA receiver (signal-in-space testing specification v1.1),
+ * for C99 and C++. Link with libosnma.a.
+ *
+ * The caller owns all memory: one struct osnma_core, lent to each call for as long as the call runs.
+ * No call allocates, keeps a pointer, has state of its own, waits, or reports in any way but by its
+ * number and the memory that it is lent. Every call returns, whatever bytes and numbers it is given.
+ *
+ *     static struct osnma_core core;            needs no clearing: an accepted start writes it all
+ *
+ *     osnma_start(&core, &settings)             once, and again to begin anew
+ *     osnma_word(&core, prn, time, word)        each I/NAV word of 16 bytes
+ *     osnma_read_message(&core, &message)       what waits for the signature chip, if something does
+ *     osnma_verdict(&core, good, ..)            the chip's answer on it
+ *     osnma_read_set(&core, prn, set, ..)       a satellite's authentic navigation data
+ *
+ * The call for the authentication fields of a sub-frame is not in this version. What only they bring
+ * (blocks, a message that waits, proved keys, tags, authentic sets) does not come about without it.
+ *
+ * Duties of the caller, for every call:
+ *   - No pointer is null. Each is aligned for its type and good for the whole of what it points to.
+ *   - What a call writes overlaps nothing else that is lent to it; nothing that is lent beside a core
+ *     lies inside the core.
+ *   - One call at a time for one core. Reads of one core may run beside each other; two cores have
+ *     nothing in common.
+ *   - Only these calls write a core, and osnma_start is the first. On other contents a call still
+ *     stays inside the memory that it is lent and returns, but its answer means nothing.
+ *
+ * Byte strings have the high byte first, and bit 0 is the most significant. "Stays" means that every
+ * byte is as before the call.
+ */
+#ifndef OSNMA_H
+#define OSNMA_H
+
+#include <stddef.h>
+#include <stdint.h>
+
+#ifdef __cplusplus
+extern "C" {
+#endif
+
+/* ---- lengths, in bytes where nothing else is said */
+
+#define OSNMA_WORD 16u       /* an I/NAV word */
+#define OSNMA_SET 69u        /* a navigation set: 549 bits of words 1 to 5, then three zero bits */
+#define OSNMA_MESSAGE 45u    /* a signed message, zeros after a short one */
+#define OSNMA_SIGNATURE 132u /* a signature, zeros after a short one */
+#define OSNMA_KEY 67u        /* a public key, zeros after a short one */
+#define OSNMA_TREE_ROOT 32u  /* the root of the tree of public keys */
+#define OSNMA_MARKS 28u      /* 14 marks for second 0 of the minute, then 14 for second 30 */
+#define OSNMA_SATELLITES 36u /* PRN 1 to 36 */
+
+/* The mark of a flexible field. The others are 0 to 15, the ADKD of a fixed one. */
+#define OSNMA_FLEXIBLE 255u
+
+/* Elements of the regions of a core, in their order. */
+#define OSNMA_CONFIG_COUNT 63u
+#define OSNMA_CLOCKS_COUNT 73u
+#define OSNMA_WORDS_COUNT 2880u
+#define OSNMA_STAMPS_COUNT 180u
+#define OSNMA_BLOCKS_COUNT 3328u
+#define OSNMA_HEADERS_COUNT 16u
+#define OSNMA_BLOCK_MARKS_COUNT 16u
+#define OSNMA_SINCE_COUNT 16u
+#define OSNMA_KEYS_COUNT 1088u
+#define OSNMA_OFFER_COUNT 179u
+#define OSNMA_CHAIN_COUNT 45u
+#define OSNMA_NUMBERS_COUNT 2u
+#define OSNMA_HELD_KEY_COUNT 32u
+#define OSNMA_WAITING_COUNT 21504u
+#define OSNMA_SETS_COUNT 2484u
+#define OSNMA_ARRIVALS_COUNT 36u
+
+/* The size of a core where uint64_t is aligned to 8 bytes; never more. */
+#define OSNMA_CORE_SIZE 32896u
+
+/* ---- what calls answer */
+
+/*
+ * The numbers of document 01's table. All but 0 are refusals. What a number leaves behind is said at
+ * each call.
+ */
+enum osnma_answer {
+    /* Nothing below applies. */
+    OSNMA_DONE = 0,
+    /* A lent length is wrong. The calls over a struct osnma_core lend right ones. */
+    OSNMA_WRONG_LENGTH = 1,
+    /* PRN, time, NS, key ID, key type, mark or verdict out of range; word 4 SVID not the PRN. */
+    OSNMA_OUT_OF_RANGE = 2,
+    /* A word earlier than that PRN's last; a sub-frame earlier than the last, or not later for its PRN. */
+    OSNMA_OUT_OF_ORDER = 3,
+    /* An emergency message stopped the core. Only a new start ends this. */
+    OSNMA_STOPPED = 4,
+    /* Sub-frame: 75 zero bytes. */
+    OSNMA_ALL_ZERO = 5,
+    /* Sub-frame: NB reserved, block ID too high, size or emergency ID wrong, DSM-PKR type above 4. */
+    OSNMA_BLOCK_UNFIT = 6,
+    /* Sub-frame: a DSM-KROOT under a public key that is not held. */
+    OSNMA_KEY_NOT_HELD = 7,
+    /* Sub-frame: a DSM-KROOT with parameters that are not taken. */
+    OSNMA_PARAMETERS_UNFIT = 8,
+    /* Verdict: a root that is not newer. Sub-frame: a public key with an ID not above all held. */
+    OSNMA_NOT_NEWER = 9,
+    /* Sub-frame: a DSM-PKR whose nodes do not give the tree's root. */
+    OSNMA_TREE_UNFIT = 10,
+    /* Verdict or section: its status or CID does not go with the chain in force. */
+    OSNMA_NOT_IN_FORCE = 11,
+    /* Section: a TESLA key fails, or a spare bit is 1. */
+    OSNMA_KEY_UNFIT = 12,
+    /* Section: a key more than 1,000,000 slots past the one held. */
+    OSNMA_TOO_FAR = 13,
+    /* Nothing waits, or another key ID or other bytes. */
+    OSNMA_NOT_WAITING = 14,
+    /* The verdict is bad. */
+    OSNMA_VERDICT_BAD = 15,
+    /* No authentic set for this PRN since the start. */
+    OSNMA_NO_SET = 16
+};
+
+/* ---- times */
+
+/* What osnma_gst gives for a week or second that GST_SF cannot hold. Every call refuses it with 2. */
+#define OSNMA_NO_TIME 0xFFFFFFFFu
+
+/*
+ * GST_SF as one number: week (12 bits) and second of week (20 bits). Sub-frames start at multiples of
+ * 30 up to 604770; other seconds that fit are packed as they are, and the calls refuse them with 2.
+ * Weeks do not roll over.
+ */
+static inline uint32_t osnma_gst(uint32_t week, uint32_t second)
+{
+    return week <= 4095u && second <= 0xFFFFFu ? week << 20 | second : OSNMA_NO_TIME;
+}
+
+/* ---- the core */
+
+/*
+ * All memory of a core: osnma_start writes it and the other calls take it up. It can be copied as a
+ * whole, kept, and taken up again by the same library. A "stamp" is a GST_SF plus 1, or 0 for never.
+ */
+struct osnma_core {
+    /* NS, MACLT, 14 + 14 marks, tree root, and 1 where the core is stopped. */
+    uint8_t config[OSNMA_CONFIG_COUNT];
+    /* Stamps of the last sub-frame, of the last sub-frame of each PRN, of the last word of each PRN. */
+    uint32_t clocks[OSNMA_CLOCKS_COUNT];
+    /* By PRN: words 1 to 5. */
+    uint8_t words[OSNMA_WORDS_COUNT];
+    /* By PRN: the stamp of each word. */
+    uint32_t stamps[OSNMA_STAMPS_COUNT];
+    /* By DSM ID: 16 blocks of 13 bytes. */
+    uint8_t blocks[OSNMA_BLOCKS_COUNT];
+    /* By DSM ID: the NMA header that its blocks came with. */
+    uint8_t headers[OSNMA_HEADERS_COUNT];
+    /* By DSM ID: the blocks present, block 0 in the lowest bit. */
+    uint16_t marks[OSNMA_BLOCK_MARKS_COUNT];
+    /* By DSM ID: GST_SF of the block that came first. */
+    uint32_t since[OSNMA_SINCE_COUNT];
+    /* By key ID: the type plus 1 (0 where none is held), and the public key in 67 bytes. */
+    uint8_t keys[OSNMA_KEYS_COUNT];
+    /* 1 where a message waits, its key ID, message and signature. */
+    uint8_t offer[OSNMA_OFFER_COUNT];
+    /* 1 in force, 2 dropped, 0 where there was none; then the contents put in force last. */
+    uint8_t chain[OSNMA_CHAIN_COUNT];
+    /* The held TESLA key's slot, and the count of waiting tags. */
+    uint64_t numbers[OSNMA_NUMBERS_COUNT];
+    /* The held TESLA key. */
+    uint8_t key[OSNMA_HELD_KEY_COUNT];
+    /* 256 waiting tags of 84 bytes, in order of arrival. */
+    uint8_t waiting[OSNMA_WAITING_COUNT];
+    /* By PRN: the authentic set. */
+    uint8_t sets[OSNMA_SETS_COUNT];
+    /* By PRN: the stamp of that set's tag. */
+    uint32_t arrivals[OSNMA_ARRIVALS_COUNT];
+};
+
+/* Does not compile where a core is larger than its stated size, or has fewer bytes than its regions. */
+typedef char osnma_core_has_its_size
+    [sizeof(struct osnma_core) <= OSNMA_CORE_SIZE && sizeof(struct osnma_core) >= 32887u ? 1 : -1];
+
+/* What a start is given. */
+struct osnma_settings {
+    uint8_t ns;                         /* satellites with keys of their own in a block: 1 to 36 */
+    uint8_t key_id;                     /* ID of the public key: 0 to 15 */
+    uint8_t key_type;                   /* its type: 0 to 3, for 29, 33, 49 or 67 bytes */
+    uint8_t maclt;                      /* the one MACLT number that is taken; any byte */
+    uint8_t marks[OSNMA_MARKS];         /* 0 to 15 or OSNMA_FLEXIBLE; the first of each 14 is 0 */
+    uint8_t tree_root[OSNMA_TREE_ROOT]; /* the installed root of the tree of public keys */
+    uint8_t key[OSNMA_KEY];             /* the public key; what follows a short one is not read */
+};
+
+/* A message that waits for a verdict of the signature chip. Short parts are followed by zeros. */
+struct osnma_message {
+    uint8_t message[OSNMA_MESSAGE];     /* what is signed: NMA header, then CIDKR through KROOT */
+    uint8_t signature[OSNMA_SIGNATURE]; /* of 56, 64, 96 or 132 bytes by the key's type */
+    uint8_t key[OSNMA_KEY];             /* the public key to verify it under */
+    uint8_t key_id;                     /* its ID, 0 to 15 */
+    uint8_t key_type;                   /* its type, 0 to 3 */
+};
+
+/* ---- the calls */
+
+/*
+ * Begins a new list with what it is given and nothing from before: no word, block, message, chain,
+ * tag, set or time.
+ *
+ * Lent: the core, of any contents; the settings, which are read.
+ *
+ * OSNMA_DONE          Every byte of the core is written. The public key is held, nothing else is, and
+ *                     the core is not stopped.
+ * OSNMA_OUT_OF_RANGE  The core stays. NS, key ID, key type or a mark is out of range, or the first
+ *                     mark of a list is not 0.
+ */
+static inline enum osnma_answer osnma_start(struct osnma_core *core,
+                                            const struct osnma_settings *settings);
+
+/*
+ * An I/NAV word of a satellite, in the sub-frame at `time` (GST_SF). The authentication fields of a
+ * sub-frame are lent before its words.
+ *
+ * Lent: the core; the 16 bytes of the word, which are read. Its type is bits 0 to 5.
+ *
+ * OSNMA_DONE          Types 1 to 5: the word replaces the satellite's word of its type, and the time
+ *                     is noted for the word and for the satellite. Other types: the core stays.
+ * OSNMA_OUT_OF_RANGE  The core stays. PRN not 1 to 36, `time` not the start of a sub-frame, or a word
+ *                     4 whose SVID is not the PRN.
+ * OSNMA_STOPPED       The core stays.
+ * OSNMA_OUT_OF_ORDER  The core stays. Earlier than this satellite's last word of types 1 to 5.
+ *
+ * The checks go in this order.
+ */
+static inline enum osnma_answer osnma_word(struct osnma_core *core, uint8_t prn, uint32_t time,
+                                           const uint8_t word[OSNMA_WORD]);
+
+/*
+ * The signature chip's verdict on the message that waits: 1 good, 0 bad. All that it names must be
+ * what waits, the zeros after short parts too; what osnma_read_message gave is handed back as it is.
+ *
+ * Lent: the core; the 45 bytes of the message and the 132 of the signature, which are read.
+ *
+ * OSNMA_DONE          The wait ends. Status 3 in the message's header drops the chain in force and the
+ *                     waiting tags. Status 1 or 2 drops public keys of lower ID than `key_id`; contents
+ *                     that are in force already change nothing more, others are put in force: the held
+ *                     key begins again at their root, and waiting tags stay only if the chain is the
+ *                     same (CID, parameters, alpha) and their key's sub-frame is not before the root's.
+ * OSNMA_OUT_OF_RANGE  The core stays. `good` above 1 or `key_id` above 15.
+ * OSNMA_STOPPED       The core stays.
+ * OSNMA_NOT_WAITING   The core stays. Nothing waits, or another key ID, message or signature.
+ * OSNMA_VERDICT_BAD   The wait ends, nothing else changes.
+ * OSNMA_NOT_IN_FORCE  The wait ends, nothing else changes. Status 0; status 3 with no chain in force or
+ *                     another CID; status 1 or 2 with CIDKR other than CID.
+ * OSNMA_NOT_NEWER     The wait ends, nothing else changes. A root earlier than the last put in force, or
+ *                     of the same hour with other contents, or not later where that one was dropped.
+ *
+ * The checks go in this order.
+ */
+static inline enum osnma_answer osnma_verdict(struct osnma_core *core, uint8_t good, uint8_t key_id,
+                                              const uint8_t message[OSNMA_MESSAGE],
+                                              const uint8_t signature[OSNMA_SIGNATURE]);
+
+/*
+ * A satellite's authentic set, its IODnav, and the GST_SF at which the tag came that showed it to be
+ * authentic. A stopped core answers too.
+ *
+ * Lent: the core, which is read; the 69 bytes of the set, its IODnav and its time, which are written.
+ *
+ * OSNMA_DONE          All three are written.
+ * OSNMA_OUT_OF_RANGE  The 69 bytes stay, IODnav and time are 0. PRN not 1 to 36.
+ * OSNMA_NO_SET        The 69 bytes stay, IODnav and time are 0.
+ */
+static inline enum osnma_answer osnma_read_set(const struct osnma_core *core, uint8_t prn,
+                                               uint8_t set[OSNMA_SET], uint16_t *iodnav,
+                                               uint32_t *time);
+
+/*
+ * The message that waits for a verdict, with the public key to verify it under. It goes on waiting. A
+ * stopped core answers too.
+ *
+ * Lent: the core, which is read; the message, which is written.
+ *
+ * OSNMA_DONE          All of it is written.
+ * OSNMA_NOT_WAITING   Its byte strings stay, key ID and key type are 0.
+ */
+static inline enum osnma_answer osnma_read_message(const struct osnma_core *core,
+                                                   struct osnma_message *message);
+
+/* ---- the same calls over single regions */
+
+/*
+ * What the library exports, and what the calls above use. Nobody else needs them but a caller who
+ * keeps the regions apart, as bindings for other languages do. A region is a pointer and a count of
+ * elements, in the order of struct osnma_core; those that are not const are written. Where a count is
+ * wrong the answer is OSNMA_WRONG_LENGTH, and all that is lent stays, but for IODnav and time, or key
+ * ID and key type, of a read, which are 0. The duties are those above: each pointer is aligned for its
+ * type and good for its count, and what is not const overlaps nothing else that is lent.
+ */
+uint32_t osnma_regions_start(
+    uint8_t *config, size_t config_count,
+    uint32_t *clocks, size_t clocks_count,
+    uint8_t *words, size_t words_count,
+    uint32_t *stamps, size_t stamps_count,
+    uint8_t *blocks, size_t blocks_count,
+    uint8_t *headers, size_t headers_count,
+    uint16_t *marks, size_t marks_count,
+    uint32_t *since, size_t since_count,
+    uint8_t *keys, size_t keys_count,
+    uint8_t *offer, size_t offer_count,
+    uint8_t *chain, size_t chain_count,
+    uint64_t *numbers, size_t numbers_count,
+    uint8_t *key, size_t key_count,
+    uint8_t *waiting, size_t waiting_count,
+    uint8_t *sets, size_t sets_count,
+    uint32_t *arrivals, size_t arrivals_count,
+    uint8_t ns, uint8_t key_id, uint8_t key_type, uint8_t maclt,
+    const uint8_t *adkds, size_t adkds_count,
+    const uint8_t *tree_root, size_t tree_root_count,
+    const uint8_t *first_key, size_t first_key_count);
+
+uint32_t osnma_regions_word(
+    const uint8_t *config, size_t config_count,
+    uint32_t *clocks, size_t clocks_count,
+    uint8_t *words, size_t words_count,
+    uint32_t *stamps, size_t stamps_count,
+    const uint8_t *blocks, size_t blocks_count,
+    const uint8_t *headers, size_t headers_count,
+    const uint16_t *marks, size_t marks_count,
+    const uint32_t *since, size_t since_count,
+    const uint8_t *keys, size_t keys_count,
+    const uint8_t *offer, size_t offer_count,
+    const uint8_t *chain, size_t chain_count,
+    const uint64_t *numbers, size_t numbers_count,
+    const uint8_t *key, size_t key_count,
+    const uint8_t *waiting, size_t waiting_count,
+    const uint8_t *sets, size_t sets_count,
+    const uint32_t *arrivals, size_t arrivals_count,
+    uint8_t prn, uint32_t time,
+    const uint8_t *word, size_t word_count);
+
+uint32_t osnma_regions_verdict(
+    const uint8_t *config, size_t config_count,
+    const uint32_t *clocks, size_t clocks_count,
+    const uint8_t *words, size_t words_count,
+    const uint32_t *stamps, size_t stamps_count,
+    const uint8_t *blocks, size_t blocks_count,
+    const uint8_t *headers, size_t headers_count,
+    const uint16_t *marks, size_t marks_count,
+    const uint32_t *since, size_t since_count,
+    uint8_t *keys, size_t keys_count,
+    uint8_t *offer, size_t offer_count,
+    uint8_t *chain, size_t chain_count,
+    uint64_t *numbers, size_t numbers_count,
+    uint8_t *key, size_t key_count,
+    uint8_t *waiting, size_t waiting_count,
+    const uint8_t *sets, size_t sets_count,
+    const uint32_t *arrivals, size_t arrivals_count,
+    uint8_t good, uint8_t key_id,
+    const uint8_t *message, size_t message_count,
+    const uint8_t *signature, size_t signature_count);
+
+uint32_t osnma_regions_read_set(
+    const uint8_t *config, size_t config_count,
+    const uint32_t *clocks, size_t clocks_count,
+    const uint8_t *words, size_t words_count,
+    const uint32_t *stamps, size_t stamps_count,
+    const uint8_t *blocks, size_t blocks_count,
+    const uint8_t *headers, size_t headers_count,
+    const uint16_t *marks, size_t marks_count,
+    const uint32_t *since, size_t since_count,
+    const uint8_t *keys, size_t keys_count,
+    const uint8_t *offer, size_t offer_count,
+    const uint8_t *chain, size_t chain_count,
+    const uint64_t *numbers, size_t numbers_count,
+    const uint8_t *key, size_t key_count,
+    const uint8_t *waiting, size_t waiting_count,
+    const uint8_t *sets, size_t sets_count,
+    const uint32_t *arrivals, size_t arrivals_count,
+    uint8_t prn,
+    uint8_t *set, size_t set_count,
+    uint16_t *iodnav, uint32_t *time);
+
+uint32_t osnma_regions_read_message(
+    const uint8_t *config, size_t config_count,
+    const uint32_t *clocks, size_t clocks_count,
+    const uint8_t *words, size_t words_count,
+    const uint32_t *stamps, size_t stamps_count,
+    const uint8_t *blocks, size_t blocks_count,
+    const uint8_t *headers, size_t headers_count,
+    const uint16_t *marks, size_t marks_count,
+    const uint32_t *since, size_t since_count,
+    const uint8_t *keys, size_t keys_count,
+    const uint8_t *offer, size_t offer_count,
+    const uint8_t *chain, size_t chain_count,
+    const uint64_t *numbers, size_t numbers_count,
+    const uint8_t *key, size_t key_count,
+    const uint8_t *waiting, size_t waiting_count,
+    const uint8_t *sets, size_t sets_count,
+    const uint32_t *arrivals, size_t arrivals_count,
+    uint8_t *message, size_t message_count,
+    uint8_t *signature, size_t signature_count,
+    uint8_t *public_key, size_t public_key_count,
+    uint8_t *key_id, uint8_t *key_type);
+
+/* ---- the calls over a core, by those over its regions */
+
+#define OSNMA_REGIONS_OF(core)                                                                     \
+    (core)->config, OSNMA_CONFIG_COUNT, (core)->clocks, OSNMA_CLOCKS_COUNT, (core)->words,         \
+        OSNMA_WORDS_COUNT, (core)->stamps, OSNMA_STAMPS_COUNT, (core)->blocks, OSNMA_BLOCKS_COUNT, \
+        (core)->headers, OSNMA_HEADERS_COUNT, (core)->marks, OSNMA_BLOCK_MARKS_COUNT,              \
+        (core)->since, OSNMA_SINCE_COUNT, (core)->keys, OSNMA_KEYS_COUNT, (core)->offer,           \
+        OSNMA_OFFER_COUNT, (core)->chain, OSNMA_CHAIN_COUNT, (core)->numbers, OSNMA_NUMBERS_COUNT, \
+        (core)->key, OSNMA_HELD_KEY_COUNT, (core)->waiting, OSNMA_WAITING_COUNT, (core)->sets,     \
+        OSNMA_SETS_COUNT, (core)->arrivals, OSNMA_ARRIVALS_COUNT
+
+static inline enum osnma_answer osnma_start(struct osnma_core *core,
+                                            const struct osnma_settings *settings)
+{
+    return (enum osnma_answer)osnma_regions_start(
+        OSNMA_REGIONS_OF(core), settings->ns, settings->key_id, settings->key_type, settings->maclt,
+        settings->marks, OSNMA_MARKS, settings->tree_root, OSNMA_TREE_ROOT, settings->key, OSNMA_KEY);
+}
+
+static inline enum osnma_answer osnma_word(struct osnma_core *core, uint8_t prn, uint32_t time,
+                                           const uint8_t word[OSNMA_WORD])
+{
+    return (enum osnma_answer)osnma_regions_word(OSNMA_REGIONS_OF(core), prn, time, word, OSNMA_WORD);
+}
+
+static inline enum osnma_answer osnma_verdict(struct osnma_core *core, uint8_t good, uint8_t key_id,
+                                              const uint8_t message[OSNMA_MESSAGE],
+                                              const uint8_t signature[OSNMA_SIGNATURE])
+{
+    return (enum osnma_answer)osnma_regions_verdict(OSNMA_REGIONS_OF(core), good, key_id, message,
+                                                    OSNMA_MESSAGE, signature, OSNMA_SIGNATURE);
+}
+
+static inline enum osnma_answer osnma_read_set(const struct osnma_core *core, uint8_t prn,
+                                               uint8_t set[OSNMA_SET], uint16_t *iodnav,
+                                               uint32_t *time)
+{
+    return (enum osnma_answer)osnma_regions_read_set(OSNMA_REGIONS_OF(core), prn, set, OSNMA_SET,
+                                                     iodnav, time);
+}
+
+static inline enum osnma_answer osnma_read_message(const struct osnma_core *core,
+                                                   struct osnma_message *message)
+{
+    return (enum osnma_answer)osnma_regions_read_message(
+        OSNMA_REGIONS_OF(core), message->message, OSNMA_MESSAGE, message->signature, OSNMA_SIGNATURE,
+        message->key, OSNMA_KEY, &message->key_id, &message->key_type);
+}
+
+#undef OSNMA_REGIONS_OF
+
+#ifdef __cplusplus
+}
+#endif
+
+#endif

@@ -1,0 +1,276 @@
+//! The authentication core of a Galileo OSNMA receiver (signal-in-space testing specification
+//! v1.1), for Rust.
+//!
+//! The core itself is written in Rattle and proved: every call equals its definition in
+//! `crates/rules/specs/Calls.antt`, for every contents of the memory that it is lent. This crate
+//! owns that memory ([`Core`]) and lends it to each call. It allocates nothing, needs no standard
+//! library, and cannot panic.
+//!
+//! ```
+//! use osnma::{Core, Gst, Refusal, Settings};
+//!
+//! let settings = Settings {
+//!     ns: 36,
+//!     key_id: 3,
+//!     key_type: 1,
+//!     maclt: 27,
+//!     // The first field of a section is always ADKD 0; the others are flexible here.
+//!     marks: [[0, 255, 255, 255, 255, 255, 255, 255, 255, 255, 255, 255, 255, 255]; 2],
+//!     tree_root: [0x5E; 32],
+//!     // 33 bytes of a key of type 1; what follows them is not read.
+//!     key: [0x02; 67],
+//! };
+//! let mut core = Core::new();
+//! core.start(&settings)?;
+//!
+//! // A word of type 1 from PRN 18, in the sub-frame at second 432000 of week 947.
+//! let time = Gst::new(947, 432_000).ok_or(Refusal::OutOfRange)?;
+//! let mut word = [0; 16];
+//! word[0] = 1 << 2;
+//! core.word(18, time, &word)?;
+//! assert_eq!(core.word(37, time, &word), Err(Refusal::OutOfRange));
+//!
+//! // No tag has shown the satellite's data to be authentic, and no message waits for the chip.
+//! assert_eq!(core.read_set(18), Err(Refusal::NoSet));
+//! assert_eq!(core.read_message(), Err(Refusal::NotWaiting));
+//! # Ok::<(), Refusal>(())
+//! ```
+//!
+//! The call for the authentication fields of a sub-frame is not in this version. What only they
+//! bring (a message that waits, proved keys, tags, authentic sets) does not come about without it.
+
+#![no_std]
+#![warn(missing_docs)]
+#![deny(
+    clippy::arithmetic_side_effects,
+    clippy::expect_used,
+    clippy::indexing_slicing,
+    clippy::panic,
+    clippy::unreachable,
+    clippy::unwrap_used
+)]
+
+mod gst;
+mod raw;
+mod refusal;
+#[doc(hidden)]
+pub mod regions;
+
+pub use gst::Gst;
+pub use refusal::Refusal;
+
+use refusal::answered;
+use regions::Regions;
+
+/// Bytes of an I/NAV word.
+pub const WORD_LEN: usize = 16;
+/// Bytes of a navigation set: 549 bits of words 1 to 5, then three zero bits.
+pub const SET_LEN: usize = 69;
+/// Bytes of a signed message, zeros after a short one.
+pub const MESSAGE_LEN: usize = 45;
+/// Bytes of a signature, zeros after a short one.
+pub const SIGNATURE_LEN: usize = 132;
+/// Bytes of a public key, zeros after a short one.
+pub const KEY_LEN: usize = 67;
+/// Bytes of the root of the tree of public keys.
+pub const TREE_ROOT_LEN: usize = 32;
+/// The mark of a flexible field; the others are 0 to 15, the ADKD of a fixed one.
+pub const FLEXIBLE: u8 = 255;
+
+/// What a start is given.
+#[derive(Clone, Debug, PartialEq, Eq)]
+pub struct Settings {
+    /// Satellites with keys of their own in a block: 1 to 36.
+    pub ns: u8,
+    /// ID of the public key: 0 to 15.
+    pub key_id: u8,
+    /// Type of the public key: 0 to 3, for 29, 33, 49 or 67 bytes.
+    pub key_type: u8,
+    /// The one MACLT number that is taken; any byte.
+    pub maclt: u8,
+    /// Marks of the fields at second 0 and at second 30 of the minute: 0 to 15 or [`FLEXIBLE`]
+    /// each, the first 0.
+    pub marks: [[u8; 14]; 2],
+    /// The installed root of the tree of public keys.
+    pub tree_root: [u8; TREE_ROOT_LEN],
+    /// The public key; what follows a short one is not read.
+    pub key: [u8; KEY_LEN],
+}
+
+/// A satellite's navigation data that a tag showed to be authentic.
+#[derive(Clone, Debug, PartialEq, Eq)]
+pub struct AuthenticSet {
+    /// The 549 bits of words 1 to 5, then three zero bits.
+    pub bytes: [u8; SET_LEN],
+    /// Their IODnav.
+    pub iodnav: u16,
+    /// When the tag came.
+    pub time: Gst,
+}
+
+/// A message that waits for a verdict of the signature chip. Short parts are followed by zeros.
+#[derive(Clone, Debug, PartialEq, Eq)]
+pub struct WaitingMessage {
+    /// What is signed: the NMA header, then the DSM-KROOT from CIDKR through KROOT.
+    pub message: [u8; MESSAGE_LEN],
+    /// Of 56, 64, 96 or 132 bytes by the key's type.
+    pub signature: [u8; SIGNATURE_LEN],
+    /// The public key to verify it under.
+    pub key: [u8; KEY_LEN],
+    /// The key's ID, 0 to 15.
+    pub key_id: u8,
+    /// The key's type, 0 to 3.
+    pub key_type: u8,
+}
+
+/// The core: all memory that the calls take up, 32,896 bytes.
+///
+/// Only a [`start`](Core::start) makes it a receiver. Before the first accepted one no satellite,
+/// message or chain is known: words are taken by the same rules and forgotten at the start, and
+/// reads find nothing.
+#[derive(Clone)]
+pub struct Core {
+    regions: Regions,
+}
+
+impl Core {
+    /// Zeroed memory, to be started. It is a constant, so that a core can stand in a `static`.
+    pub const fn new() -> Core {
+        Core {
+            regions: Regions::zeroed(),
+        }
+    }
+
+    /// Begins a new list with what it is given and nothing from before: no word, block, message,
+    /// chain, tag, set or time. Also ends a stop.
+    ///
+    /// # Errors
+    /// [`Refusal::OutOfRange`] where NS, key ID, key type or a mark is not in its range, or the
+    /// first mark of a list is not 0; the core is then as before.
+    pub fn start(&mut self, settings: &Settings) -> Result<(), Refusal> {
+        answered(self.regions.lend().start(
+            settings.ns,
+            settings.key_id,
+            settings.key_type,
+            settings.maclt,
+            settings.marks.as_flattened(),
+            &settings.tree_root,
+            &settings.key,
+        ))
+    }
+
+    /// An I/NAV word of a satellite, in the sub-frame at `time`; the fields of a sub-frame are lent
+    /// before its words. A word of types 1 to 5 replaces the satellite's word of its type. Words of
+    /// other types change nothing.
+    ///
+    /// # Errors
+    /// In this order, and the core is as before:
+    /// - [`Refusal::OutOfRange`]: PRN not 1 to 36, a time that is no start of a sub-frame, or a
+    ///   word 4 whose SVID is not the PRN;
+    /// - [`Refusal::Stopped`];
+    /// - [`Refusal::OutOfOrder`]: earlier than this satellite's last word of types 1 to 5.
+    pub fn word(&mut self, prn: u8, time: Gst, word: &[u8; WORD_LEN]) -> Result<(), Refusal> {
+        answered(self.regions.lend().word(prn, time.bits(), word))
+    }
+
+    /// The signature chip's verdict on the message that waits. All that it names must be what
+    /// waits, the zeros after short parts too; what [`read_message`](Core::read_message) gave is
+    /// handed back as it is.
+    ///
+    /// A good verdict on a message of status 1 or 2 drops public keys of lower ID and puts the root
+    /// in force, unless these contents are in force already; one on a message of status 3 drops the
+    /// chain in force. Either ends the wait.
+    ///
+    /// # Errors
+    /// In this order:
+    /// - [`Refusal::OutOfRange`]: `key_id` above 15; the core is as before;
+    /// - [`Refusal::Stopped`]: the core is as before;
+    /// - [`Refusal::NotWaiting`]: nothing waits, or another key ID, message or signature; the core
+    ///   is as before;
+    /// - [`Refusal::VerdictBad`]: the wait ends, and nothing else changes, as with those that
+    ///   follow;
+    /// - [`Refusal::NotInForce`]: status 0; status 3 with no chain in force or another CID; status
+    ///   1 or 2 with CIDKR other than CID;
+    /// - [`Refusal::NotNewer`]: the root is earlier than the last put in force, or of the same time
+    ///   with other contents, or not later where that one was dropped.
+    pub fn verdict(
+        &mut self,
+        good: bool,
+        key_id: u8,
+        message: &[u8; MESSAGE_LEN],
+        signature: &[u8; SIGNATURE_LEN],
+    ) -> Result<(), Refusal> {
+        let good = u8::from(good);
+        answered(
+            self.regions
+                .lend()
+                .verdict(good, key_id, message, signature),
+        )
+    }
+
+    /// A satellite's authentic set. Answers in a stopped core too.
+    ///
+    /// # Errors
+    /// - [`Refusal::OutOfRange`]: PRN not 1 to 36;
+    /// - [`Refusal::NoSet`]: no tag has shown a set of this satellite to be authentic since the
+    ///   start.
+    pub fn read_set(&self, prn: u8) -> Result<AuthenticSet, Refusal> {
+        let (mut bytes, mut iodnav, mut time) = ([0; SET_LEN], 0, 0);
+        let view = self.regions.view();
+        answered(view.read_set(prn, &mut bytes, &mut iodnav, &mut time))?;
+        let time = Gst::from_bits(time);
+        Ok(AuthenticSet {
+            bytes,
+            iodnav,
+            time,
+        })
+    }
+
+    /// The message that waits for a verdict, with the public key to verify it under. It goes on
+    /// waiting. Answers in a stopped core too.
+    ///
+    /// # Errors
+    /// [`Refusal::NotWaiting`].
+    pub fn read_message(&self) -> Result<WaitingMessage, Refusal> {
+        let mut waiting = WaitingMessage {
+            message: [0; MESSAGE_LEN],
+            signature: [0; SIGNATURE_LEN],
+            key: [0; KEY_LEN],
+            key_id: 0,
+            key_type: 0,
+        };
+        answered(self.regions.view().read_message(
+            &mut waiting.message,
+            &mut waiting.signature,
+            &mut waiting.key,
+            &mut waiting.key_id,
+            &mut waiting.key_type,
+        ))?;
+        Ok(waiting)
+    }
+
+    /// The memory as it is, for tests.
+    #[doc(hidden)]
+    pub fn regions(&self) -> &Regions {
+        &self.regions
+    }
+
+    /// The memory as it is, for tests. Every call is total, so no contents can make one unsafe; but
+    /// an answer means what its documentation says only where the calls alone wrote it.
+    #[doc(hidden)]
+    pub fn regions_mut(&mut self) -> &mut Regions {
+        &mut self.regions
+    }
+}
+
+impl Default for Core {
+    fn default() -> Core {
+        Core::new()
+    }
+}
+
+impl core::fmt::Debug for Core {
+    fn fmt(&self, f: &mut core::fmt::Formatter<'_>) -> core::fmt::Result {
+        f.debug_struct("Core").finish_non_exhaustive()
+    }
+}

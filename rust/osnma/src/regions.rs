@@ -1,0 +1,229 @@
+//! The sixteen regions that a core lends to each call, and the calls over them. For
+//! [`Core`](crate::Core), and for tests, which look at every byte and lend wrong lengths.
+
+use crate::raw;
+
+/// Writes the regions once: name, type and number of elements, in the order of
+/// crates/rules/specs/State.antt.
+macro_rules! regions {
+    ($($(#[$doc:meta])* $name:ident: [$element:ty; $count:literal],)*) => {
+        /// All memory of a core, laid out as `struct osnma_core` of `include/osnma.h`. A time is
+        /// stored plus 1, and 0 says never ("stamp").
+        #[derive(Clone, Debug, PartialEq, Eq)]
+        #[repr(C)]
+        pub struct Regions {
+            $($(#[$doc])* pub $name: [$element; $count],)*
+        }
+
+        /// Regions of any lengths, lent to a call that may write.
+        #[derive(Debug)]
+        pub struct Lent<'a> {
+            $(#[allow(missing_docs)] pub $name: &'a mut [$element],)*
+        }
+
+        /// Regions of any lengths, lent to a read.
+        #[derive(Clone, Copy, Debug)]
+        pub struct View<'a> {
+            $(#[allow(missing_docs)] pub $name: &'a [$element],)*
+        }
+
+        impl Regions {
+            /// Zeros everywhere.
+            pub const fn zeroed() -> Regions {
+                Regions { $($name: [0; $count],)* }
+            }
+
+            /// All regions, to write.
+            pub fn lend(&mut self) -> Lent<'_> {
+                Lent { $($name: &mut self.$name,)* }
+            }
+
+            /// All regions, to read.
+            pub fn view(&self) -> View<'_> {
+                View { $($name: &self.$name,)* }
+            }
+        }
+
+        impl Lent<'_> {
+            /// The same regions, to read.
+            pub fn view(&self) -> View<'_> {
+                View { $($name: self.$name,)* }
+            }
+        }
+    };
+}
+
+regions! {
+    /// NS, MACLT, 14 + 14 marks, tree root, and 1 where the core is stopped.
+    config: [u8; 63],
+    /// Stamps: the last sub-frame, the last sub-frame of each PRN, the last word of each PRN.
+    clocks: [u32; 73],
+    /// By PRN: words 1 to 5.
+    words: [u8; 2880],
+    /// By PRN: the stamp of each word.
+    stamps: [u32; 180],
+    /// By DSM ID: 16 blocks of 13 bytes.
+    blocks: [u8; 3328],
+    /// By DSM ID: the NMA header that its blocks came with.
+    headers: [u8; 16],
+    /// By DSM ID: the blocks present, block 0 in the lowest bit.
+    marks: [u16; 16],
+    /// By DSM ID: GST_SF of the block that came first.
+    since: [u32; 16],
+    /// By key ID: the type plus 1 (0 where none is held), the public key in 67 bytes.
+    keys: [u8; 1088],
+    /// 1 where a message waits, its key ID, message and signature.
+    offer: [u8; 179],
+    /// 1 in force, 2 dropped, 0 where there was none; the contents put in force last.
+    chain: [u8; 45],
+    /// The held TESLA key's slot, and the count of waiting tags.
+    numbers: [u64; 2],
+    /// The held TESLA key.
+    key: [u8; 32],
+    /// 256 waiting tags of 84 bytes, in order of arrival.
+    waiting: [u8; 21504],
+    /// By PRN: the authentic set.
+    sets: [u8; 2484],
+    /// By PRN: the stamp of that set's tag.
+    arrivals: [u32; 36],
+}
+
+// As the header says of `struct osnma_core`.
+const _: () = assert!(size_of::<Regions>() <= 32_896);
+
+/// Lends all regions to an export, by pointer and count, and then its other arguments.
+macro_rules! lend {
+    ($export:ident, $from:ident.$pointer:ident, $($other:expr),*) => {
+        raw::$export(
+            $from.config.$pointer(), $from.config.len(),
+            $from.clocks.$pointer(), $from.clocks.len(),
+            $from.words.$pointer(), $from.words.len(),
+            $from.stamps.$pointer(), $from.stamps.len(),
+            $from.blocks.$pointer(), $from.blocks.len(),
+            $from.headers.$pointer(), $from.headers.len(),
+            $from.marks.$pointer(), $from.marks.len(),
+            $from.since.$pointer(), $from.since.len(),
+            $from.keys.$pointer(), $from.keys.len(),
+            $from.offer.$pointer(), $from.offer.len(),
+            $from.chain.$pointer(), $from.chain.len(),
+            $from.numbers.$pointer(), $from.numbers.len(),
+            $from.key.$pointer(), $from.key.len(),
+            $from.waiting.$pointer(), $from.waiting.len(),
+            $from.sets.$pointer(), $from.sets.len(),
+            $from.arrivals.$pointer(), $from.arrivals.len(),
+            $($other),*
+        )
+    };
+}
+
+/// The calls that write give document 01's number.
+impl Lent<'_> {
+    /// `marks` are those of second 0, then those of second 30.
+    #[allow(clippy::too_many_arguments)]
+    pub fn start(
+        &mut self,
+        ns: u8,
+        key_id: u8,
+        key_type: u8,
+        maclt: u8,
+        marks: &[u8],
+        tree_root: &[u8],
+        key: &[u8],
+    ) -> u32 {
+        // SAFETY: each pointer is of a live slice and has its length beside it; what is written is
+        // borrowed for that alone.
+        unsafe {
+            lend!(
+                osnma_regions_start,
+                self.as_mut_ptr,
+                ns,
+                key_id,
+                key_type,
+                maclt,
+                marks.as_ptr(),
+                marks.len(),
+                tree_root.as_ptr(),
+                tree_root.len(),
+                key.as_ptr(),
+                key.len()
+            )
+        }
+    }
+
+    /// An I/NAV word.
+    pub fn word(&mut self, prn: u8, time: u32, word: &[u8]) -> u32 {
+        // SAFETY: as above.
+        unsafe {
+            lend!(
+                osnma_regions_word,
+                self.as_mut_ptr,
+                prn,
+                time,
+                word.as_ptr(),
+                word.len()
+            )
+        }
+    }
+
+    /// 1 good, 0 bad.
+    pub fn verdict(&mut self, good: u8, key_id: u8, message: &[u8], signature: &[u8]) -> u32 {
+        // SAFETY: as above.
+        unsafe {
+            lend!(
+                osnma_regions_verdict,
+                self.as_mut_ptr,
+                good,
+                key_id,
+                message.as_ptr(),
+                message.len(),
+                signature.as_ptr(),
+                signature.len()
+            )
+        }
+    }
+}
+
+/// The reads give document 01's number. Where they refuse, byte strings stay and numbers are 0.
+impl View<'_> {
+    /// A satellite's authentic set, its IODnav and the GST_SF of its tag.
+    pub fn read_set(&self, prn: u8, set: &mut [u8], iodnav: &mut u16, time: &mut u32) -> u32 {
+        // SAFETY: as above.
+        unsafe {
+            lend!(
+                osnma_regions_read_set,
+                self.as_ptr,
+                prn,
+                set.as_mut_ptr(),
+                set.len(),
+                iodnav,
+                time
+            )
+        }
+    }
+
+    /// What waits for a verdict, and its public key.
+    pub fn read_message(
+        &self,
+        message: &mut [u8],
+        signature: &mut [u8],
+        key: &mut [u8],
+        key_id: &mut u8,
+        key_type: &mut u8,
+    ) -> u32 {
+        // SAFETY: as above.
+        unsafe {
+            lend!(
+                osnma_regions_read_message,
+                self.as_ptr,
+                message.as_mut_ptr(),
+                message.len(),
+                signature.as_mut_ptr(),
+                signature.len(),
+                key.as_mut_ptr(),
+                key.len(),
+                key_id,
+                key_type
+            )
+        }
+    }
+}

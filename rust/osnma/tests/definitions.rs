@@ -1,0 +1,218 @@
+//! The core against the definitions themselves (crates/rules/specs/Calls.antt), also on region
+//! contents that no start leaves and that the second receiver cannot have: the definitions give an
+//! answer for any.
+
+mod common;
+
+use common::twin::{garbage, Call, KINDS};
+use common::{draw, driver};
+use osnma::regions::Regions;
+use rules_runner::machine::with_large_stack;
+use rules_runner::program::Hashes;
+use rules_runner::rules::{self, Rules};
+use second_receiver::Receiver;
+use signal::rng::Rng;
+use std::collections::BTreeMap;
+use std::path::Path;
+
+const CALLS: u64 = if cfg!(debug_assertions) { 100 } else { 3_000 };
+
+/// The regions as lists of numbers.
+fn lists(r: &Regions) -> rules::Regions {
+    fn list<T: Copy + Into<u64>>(region: &[T]) -> Vec<u64> {
+        region.iter().map(|&element| element.into()).collect()
+    }
+    [
+        list(&r.config),
+        list(&r.clocks),
+        list(&r.words),
+        list(&r.stamps),
+        list(&r.blocks),
+        list(&r.headers),
+        list(&r.marks),
+        list(&r.since),
+        list(&r.keys),
+        list(&r.offer),
+        list(&r.chain),
+        list(&r.numbers),
+        list(&r.key),
+        list(&r.waiting),
+        list(&r.sets),
+        list(&r.arrivals),
+    ]
+}
+
+/// Changes some of what decides a call to other values, mostly such that no start leaves.
+fn spoil(r: &mut Regions, rng: &mut Rng) {
+    for _ in 0..rng.below(4) {
+        let any = rng.number();
+        match rng.below(14) {
+            0 => r.config[0] = any as u8,
+            1 => r.config[1] ^= 1,
+            2 => r.config[62] = *rng.pick(&[0, 1, 2, 255]),
+            3 => r.offer[0] = *rng.pick(&[0, 1, 2, 255]),
+            4 => r.offer[1] = any as u8,
+            5 => r.chain[0] = *rng.pick(&[0, 1, 2, 3, 255]),
+            6 => r.chain[rng.range(1, 12) as usize] = any as u8,
+            7 => r.numbers[0] = any >> rng.below(64),
+            8 => r.numbers[1] = *rng.pick(&[0, 1, 2, 3, 255, 256, 257, 1 << 32, u64::MAX]),
+            9 => r.keys[68 * rng.below(16) as usize] = rng.below(7) as u8,
+            10 => r.arrivals[rng.below(36) as usize] = *rng.pick(&[0, 1, any as u32, u32::MAX]),
+            11 => {
+                r.clocks[36 + rng.range(1, 36) as usize] = *rng.pick(&[0, 1, any as u32, u32::MAX])
+            }
+            12 => rng.fill(&mut r.waiting),
+            _ => rng.fill(&mut r.keys),
+        }
+    }
+}
+
+/// A message waits: that of the regions, or one like the contents put in force last.
+fn offer(r: &mut Regions, rng: &mut Rng) {
+    r.offer[0] = 1;
+    if rng.once_in(2) {
+        let contents = r.chain;
+        r.offer[3..47].copy_from_slice(&contents[1..]);
+        // Status 1, 2 or 3, and mostly CIDKR as CID.
+        r.offer[2] = (rng.range(1, 3) << 6) as u8 | contents[1] >> 6 << 4;
+        match rng.below(6) {
+            0 => r.offer[8] = r.offer[8].wrapping_add(1),
+            1 => r.offer[8] = r.offer[8].wrapping_sub(1),
+            2 => r.offer[7] = r.offer[7].wrapping_add(1),
+            3 => r.offer[rng.range(2, 46) as usize] ^= 1 << rng.below(8),
+            _ => {}
+        }
+    }
+}
+
+/// A verdict on what the regions say that waits, or almost that.
+fn verdict(r: &Regions, rng: &mut Rng) -> Call {
+    let (mut message, mut signature) = ([0; 45], [0; 132]);
+    message.copy_from_slice(&r.offer[2..47]);
+    signature.copy_from_slice(&r.offer[47..]);
+    if rng.once_in(8) {
+        message[rng.below(45) as usize] ^= 1 << rng.below(8);
+    }
+    Call::Verdict {
+        good: *rng.pick(&[0, 1, 1, 1, 1, 1, 1, 2]),
+        key_id: match rng.below(8) {
+            0 => rng.number() as u8,
+            _ => r.offer[1] % 16,
+        },
+        message,
+        signature,
+    }
+}
+
+/// What a call gives: its number, the bytes read and the numbers read.
+type Given = (u64, Vec<u8>, [u64; 2]);
+
+fn by_core(r: &mut Regions, call: &Call) -> Given {
+    let mut lent = r.lend();
+    let told = |number: u32| (u64::from(number), vec![], [0; 2]);
+    match call {
+        Call::Start(s) => {
+            let marks = s.marks.as_flattened();
+            told(lent.start(
+                s.ns,
+                s.key_id,
+                s.key_type,
+                s.maclt,
+                marks,
+                &s.tree_root,
+                &s.key,
+            ))
+        }
+        Call::Word { prn, time, word } => told(lent.word(*prn, *time, word)),
+        Call::Verdict {
+            good,
+            key_id,
+            message,
+            signature,
+        } => told(lent.verdict(*good, *key_id, message, signature)),
+        Call::ReadSet(prn) => {
+            let (mut set, mut iodnav, mut time) = ([0; 69], 1, 1);
+            let number = lent.view().read_set(*prn, &mut set, &mut iodnav, &mut time);
+            (number.into(), set.to_vec(), [iodnav.into(), time.into()])
+        }
+        Call::ReadMessage => {
+            let (mut message, mut signature, mut key) = ([0; 45], [0; 132], [0; 67]);
+            let (mut id, mut kind) = (1, 1);
+            let view = lent.view();
+            let number =
+                view.read_message(&mut message, &mut signature, &mut key, &mut id, &mut kind);
+            let bytes = [&message[..], &signature, &key].concat();
+            (number.into(), bytes, [id.into(), kind.into()])
+        }
+    }
+}
+
+fn by_rules(run: &mut rules::Run, call: &Call) -> Given {
+    let told = |number| (number, vec![], [0; 2]);
+    match call {
+        Call::Start(s) => {
+            let marks = s.marks.as_flattened();
+            told(run.start(
+                s.ns,
+                s.key_id,
+                s.key_type,
+                s.maclt,
+                marks,
+                &s.tree_root,
+                &s.key,
+            ))
+        }
+        Call::Word { prn, time, word } => told(run.word(*prn, *time, word)),
+        Call::Verdict {
+            good,
+            key_id,
+            message,
+            signature,
+        } => told(run.verdict(*good, *key_id, message, signature)),
+        Call::ReadSet(prn) => {
+            let read = run.read_set(*prn);
+            (read.number, read.set, [read.iodnav, read.time])
+        }
+        Call::ReadMessage => {
+            let read = run.read_offer();
+            let bytes = [read.message, read.signature, read.key].concat();
+            (read.number, bytes, [read.id, read.key_type])
+        }
+    }
+}
+
+#[test]
+fn any_contents() {
+    let crates = Path::new(env!("CARGO_MANIFEST_DIR")).join("../../crates");
+    let answers = with_large_stack(|| {
+        let rules = Rules::load(&crates, Hashes::Portable).unwrap_or_else(|e| panic!("{e}"));
+        let mut rng = Rng::new(11);
+        let tree = draw::tree(&mut rng);
+        let states = driver::states(11, 2).unwrap_or_else(|error| panic!("{error}"));
+        let mut answers: BTreeMap<(&str, u64), u64> = BTreeMap::new();
+        for at in 0..CALLS {
+            let mut regions = match rng.below(8) {
+                0 => garbage(&mut rng),
+                _ => rng.pick(&states).core.regions().clone(),
+            };
+            spoil(&mut regions, &mut rng);
+            let call = match rng.below(8) {
+                0 => Call::Start(draw::settings(&mut rng, &tree)),
+                1 => Call::ReadSet(draw::prn(&mut rng)),
+                2 => Call::ReadMessage,
+                3 | 4 => draw::word(&mut rng, &Receiver::new()),
+                _ => {
+                    offer(&mut regions, &mut rng);
+                    verdict(&regions, &mut rng)
+                }
+            };
+            let mut run = rules.run_on(&lists(&regions));
+            let (given, right) = (by_core(&mut regions, &call), by_rules(&mut run, &call));
+            assert_eq!(given, right, "call {at}: {call:?}");
+            assert!(lists(&regions) == run.regions(), "call {at}: {call:?}");
+            *answers.entry((KINDS[call.kind()], given.0)).or_default() += 1;
+        }
+        answers
+    });
+    println!("{answers:?}");
+}

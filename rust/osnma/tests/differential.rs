@@ -1,0 +1,195 @@
+//! The core against the second receiver: the same calls into both, and after each the answer, the
+//! reads, and every byte of every region. Sub-frames go to the second receiver alone; the core gets
+//! the regions that its state stands for.
+
+mod common;
+
+use common::driver::{replay, Driver, Tally};
+use common::expected::difference;
+use common::loose::{parts, refused, REGIONS, WRONG};
+use common::twin::{garbage, Call, Twin};
+use common::{draw, driver};
+use osnma::regions::Regions;
+use osnma::{Core, Gst, Refusal};
+use signal::rng::Rng;
+use signal::scenario;
+
+/// Runs of long key walks, which take the second receiver seconds and bring the calls here no other
+/// states.
+const LONG: [&str; 4] = ["sections", "gaps", "held_key", "gap_full"];
+
+const CALLS: u64 = if cfg!(debug_assertions) {
+    5_000
+} else {
+    200_000
+};
+
+fn replay_named(long: bool) -> Tally {
+    let mut tally = Tally::default();
+    for scenario in scenario::all() {
+        if LONG.contains(&scenario.name) == long {
+            let run = scenario.run(scenario::SEED);
+            let each = |_: &Twin, _: &mut Rng| Ok(());
+            if let Err(error) = replay(&run.bytes, &mut Rng::new(1), &mut tally, each) {
+                panic!("{}: {error}", run.name);
+            }
+        }
+    }
+    println!("{tally}");
+    tally
+}
+
+// Starts, words and verdicts of every named run, in the states that its sub-frames bring about.
+#[test]
+fn named_runs() {
+    assert!(replay_named(false).calls > 10_000);
+}
+
+#[test]
+#[ignore = "takes long without optimisation"]
+fn long_named_runs() {
+    assert!(replay_named(true).calls > 100);
+}
+
+// Calls drawn at random, from a fixed seed; every answer that a call can give comes.
+#[test]
+fn random_calls() {
+    let mut driver = Driver::new(1, 12).unwrap_or_else(|error| panic!("{error}"));
+    let result = driver.run(CALLS);
+    println!("{} states, {}", driver.states(), driver.tally);
+    assert_eq!(result, Ok(()));
+    if CALLS >= 200_000 {
+        assert_eq!(driver.tally.missing(), [""; 0], "never came");
+    }
+}
+
+// Each lent length wrong, alone, with arguments that are right and with ones that are refused by
+// other numbers.
+#[test]
+fn wrong_lengths() {
+    let mut rng = Rng::new(3);
+    let tree = draw::tree(&mut rng);
+    let states = driver::states(3, 0).unwrap_or_else(|error| panic!("{error}"));
+    for round in 0..40 {
+        let twin = rng.pick(&states).clone();
+        let receiver = &twin.receiver;
+        let mut calls = vec![
+            Call::Start(draw::settings(&mut rng, &tree)),
+            Call::Start(draw::bad_settings(&mut rng, &tree)),
+            Call::ReadSet(rng.range(1, 36) as u8),
+            Call::ReadSet(37),
+            Call::ReadMessage,
+        ];
+        calls.extend((0..2).map(|_| draw::word(&mut rng, receiver)));
+        calls.extend((0..2).map(|_| draw::verdict(&mut rng, receiver)));
+        let regions = match round % 4 {
+            0 => garbage(&mut rng),
+            _ => twin.core.regions().clone(),
+        };
+        for call in calls {
+            for what in REGIONS.iter().chain(parts(&call)) {
+                for wrong in WRONG {
+                    let result = refused(&regions, &call, what, wrong);
+                    assert_eq!(result, Ok(()), "{call:?}");
+                }
+            }
+        }
+    }
+}
+
+// An accepted start writes every byte, whatever was there; a refused one none.
+#[test]
+fn starts_on_any_bytes() {
+    let mut rng = Rng::new(4);
+    let tree = draw::tree(&mut rng);
+    for round in 0..400 {
+        let mut twin = Twin::new(&mut rng);
+        let refused = Call::Start(draw::bad_settings(&mut rng, &tree));
+        assert_eq!(twin.call(&refused, 1), Ok(2), "round {round}");
+        let accepted = Call::Start(draw::settings(&mut rng, &tree));
+        assert_eq!(twin.call(&accepted, 1), Ok(0), "round {round}");
+    }
+}
+
+// Before a start the calls go by the zeros that are there, and a start forgets all of it.
+#[test]
+fn before_a_start() {
+    let mut core = Core::new();
+    assert_eq!(core.regions(), &Regions::zeroed());
+    assert_eq!(core.read_set(1), Err(Refusal::NoSet));
+    assert_eq!(core.read_set(0), Err(Refusal::OutOfRange));
+    assert_eq!(core.read_message(), Err(Refusal::NotWaiting));
+    let verdict = core.verdict(true, 0, &[0; 45], &[0; 132]);
+    assert_eq!(verdict, Err(Refusal::NotWaiting));
+    assert_eq!(core.regions(), &Regions::zeroed());
+    let (time, word) = (Gst::from_bits(30), [4; 16]);
+    assert_eq!(core.word(1, time, &word), Ok(()));
+    assert_eq!(
+        core.word(1, Gst::from_bits(0), &word),
+        Err(Refusal::OutOfOrder)
+    );
+    let mut rng = Rng::new(5);
+    let tree = draw::tree(&mut rng);
+    let settings = draw::settings(&mut rng, &tree);
+    let mut other = Core::new();
+    assert_eq!(core.start(&settings), Ok(()));
+    assert_eq!(other.start(&settings), Ok(()));
+    assert_eq!(core.regions(), other.regions());
+}
+
+// The comparison sees every element of every region: one bit changed on one side is a difference.
+#[test]
+fn one_bit_changed_is_seen() {
+    let mut rng = Rng::new(6);
+    let states = driver::states(6, 0).unwrap_or_else(|error| panic!("{error}"));
+    for state in &states {
+        let mut twin = state.clone();
+        assert_eq!(twin.compare(), Ok(()));
+        macro_rules! changed {
+            ($($name:ident)*) => {
+                $({
+                    let at = rng.below(twin.want.$name.len() as u64) as usize;
+                    let bit = rng.below(8 * std::mem::size_of_val(&twin.want.$name[0]) as u64);
+                    twin.core.regions_mut().$name[at] ^= 1 << bit;
+                    let seen = twin.compare().expect_err(stringify!($name));
+                    let place = format!("{}[{at}] is ", stringify!($name));
+                    assert!(seen.starts_with(&place), "{seen}");
+                    twin.core.regions_mut().$name[at] ^= 1 << bit;
+                })*
+            };
+        }
+        changed!(
+            config clocks words stamps blocks headers marks since
+            keys offer chain numbers key waiting sets arrivals
+        );
+    }
+    let zeroed = Regions::zeroed();
+    macro_rules! every {
+        ($($name:ident)*) => {
+            $(for at in 0..zeroed.$name.len() {
+                let mut other = zeroed.clone();
+                other.$name[at] = 1;
+                let text = format!("{}[{at}] is 1, not 0", stringify!($name));
+                assert_eq!(difference(&other, &zeroed), Some(text));
+            })*
+        };
+    }
+    every!(
+        config clocks words stamps blocks headers marks since
+        keys offer chain numbers key waiting sets arrivals
+    );
+}
+
+// A changed bit is also seen after a call that does not touch it.
+#[test]
+fn a_call_does_not_hide_a_change() {
+    let mut rng = Rng::new(7);
+    let states = driver::states(7, 0).unwrap_or_else(|error| panic!("{error}"));
+    for state in &states {
+        let mut twin = state.clone();
+        let place = rng.below(21504) as usize;
+        twin.core.regions_mut().waiting[place] ^= 1;
+        let call = Call::ReadSet(rng.range(1, 36) as u8);
+        assert!(twin.call(&call, 1).is_err(), "waiting[{place}]");
+    }
+}
