@@ -15,10 +15,6 @@ use Rattle.rules.specs.Gather as Rule
 use Rattle.gather.specs.Store.{told}
 use Rattle.gather.specs.declared.Gathered.the-variants.{Stored, Complete, Refused}
 
-pub or-false : (b : Bool) → b ≡ b || false
-or-false true = refl
-or-false false = refl
-
 -- an ID's block 0 stands first
 pub first-block : (blocks : List ℕ) (id : ℕ) → Rule.storedBlock blocks id 0 ≡ part blocks (id * 208) 13
 unfolding Rule.storedBlock

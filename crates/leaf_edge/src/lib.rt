@@ -23,23 +23,13 @@ ghost use Rattle.gather.specs.Store.{Lent, store};
 ghost use Rattle.chain.specs.Sound.{Walks, Sound};
 ghost use Rattle.leaf_edge.specs.Edge.{gatherTold, gatheredNumber, chainOf, tagOf};
 
-// A test as a number: 1 where it holds.
-fn number(b: bool) -> u32
-    ensures { λ r. ⌜ r ≡ cond b 1 0 ⌝ }
-{
-    if b {
-        return 1;
-    }
-    0
-}
-
 // ---- times and slots
 
 #[no_mangle]
 pub extern "C" fn leaf_time_valid(g: u32) -> u32
     ensures { λ r. ⌜ r ≡ cond (Times.timeValid g) 1 0 ⌝ }
 {
-    number(gst::time_valid(g))
+    bools::number(gst::time_valid(g))
 }
 
 #[no_mangle]
@@ -96,7 +86,7 @@ pub extern "C" fn leaf_usable(words: &[u8], times: &[u32], prn: usize, t: u32) -
     requires { ⌜ ((length (now words) ≡ 2880) × (length (now times) ≡ 180)) × ((1 ≤ prn) × (prn ≤ 36)) ⌝ }
     ensures { λ r. ⌜ r ≡ cond (Words.usable (nav (now (words .entry)) (now (times .entry))) prn t) 1 0 ⌝ }
 {
-    number(navdata::usable(words, times, prn, t))
+    bools::number(navdata::usable(words, times, prn, t))
 }
 
 #[no_mangle]
@@ -186,7 +176,7 @@ pub extern "C" fn leaf_above_all(keys: &[u8], id: u8) -> u32
     requires { ⌜ (length (now keys) ≡ 1088) × (id < 16) ⌝ }
     ensures { λ r. ⌜ r ≡ cond (Keys.aboveAll (now (keys .entry)) id) 1 0 ⌝ }
 {
-    number(keyring::above_all(keys, id))
+    bools::number(keyring::above_all(keys, id))
 }
 
 #[no_mangle]
@@ -194,7 +184,7 @@ pub extern "C" fn leaf_same_key(keys: &[u8], id: u8, kind: u8, key: &[u8]) -> u3
     requires { ⌜ (length (now keys) ≡ 1088) × ((id < 16) × (length (now key) ≤ 67)) ⌝ }
     ensures { λ r. ⌜ r ≡ cond (Keys.sameKey (now (keys .entry)) id kind (now (key .entry))) 1 0 ⌝ }
 {
-    number(keyring::same_key(keys, id, kind, key))
+    bools::number(keyring::same_key(keys, id, kind, key))
 }
 
 #[no_mangle]
@@ -232,7 +222,7 @@ pub extern "C" fn leaf_chain_unchanged(a: &[u8], b: &[u8]) -> u32
     requires { ⌜ (44 ≤ length (now a)) × (44 ≤ length (now b)) ⌝ }
     ensures { λ r. ⌜ r ≡ cond (chainUnchanged (now (a .entry)) (now (b .entry))) 1 0 ⌝ }
 {
-    number(messages::chain_unchanged(a, b))
+    bools::number(messages::chain_unchanged(a, b))
 }
 
 // The number of a DSM-PKR; whether it stops the receiver is not told.
@@ -274,7 +264,7 @@ pub extern "C" fn leaf_key_fits(
     };
     let k = *known;
     let s = *key;
-    number(chain::key_fits(c, slot, k, sent, s))
+    bools::number(chain::key_fits(c, slot, k, sent, s))
 }
 
 // The number of a section's keys.

@@ -189,8 +189,3 @@ status-spliced d to status s h =
     rw (status-and-set-is status s)
     (three-spliced d to ((status % 4 * 64 + bits s 0 6) ∷ []) (bytesAt s 6 67) (bits s 542 7 * 2 ∷ []) 1 67 1 refl (length-bytesAt s 6 67) refl h)
 
--- ---- tests
-
-pub and-true : (b : Bool) → (b && true) ≡ b
-and-true true = refl
-and-true false = refl

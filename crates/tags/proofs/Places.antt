@@ -55,10 +55,6 @@ module _ (c : Chain) (l : Laid c) (j : ℕ) (h : j < c .nmack * c .fields) where
       let k : j ≤ 13 = omega (arith, l .few) in
       (le-trans (div-le-self j (c .fields)) k, le-trans (mod-le j (c .fields)) k)
 
-pub or-false : (b : Bool) → (b || false) ≡ b
-or-false true = refl
-or-false false = refl
-
 -- ---- a chain of accepted parameters is laid out so
 
 fields-few : (n f : ℕ) → 1 ≤ n → n ≤ 3 → f * 26 + 96 ≤ blockBits n → n * f ≤ 14
