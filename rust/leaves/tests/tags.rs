@@ -60,7 +60,11 @@ fn entries_stay_alike() {
         let root = 3_600 * rng.range(946 * 168, 949 * 168);
         let (mut expected, mut staying) = (waiting.0.to_vec(), Vec::new());
         for k in 0..n {
-            let (tag, set) = (any_tag(&mut rng), rng.array::<69>());
+            let (mut tag, set) = (any_tag(&mut rng), rng.array::<69>());
+            // Often a key's sub-frame next to the root's.
+            if rng.once_in(2) {
+                tag.time = Gst::from_seconds(root + 30 * rng.below(14) - 360).0;
+            }
             let bytes = entry(&tag, &set);
             waiting.put(k, &tag, &set).unwrap();
             expected[84 * k..84 * k + 84].copy_from_slice(&bytes);
