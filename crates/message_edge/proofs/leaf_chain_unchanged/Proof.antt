@@ -1,8 +1,8 @@
--- `leaf_edge::leaf_chain_unchanged` meets its contract.
+-- `message_edge::leaf_chain_unchanged` meets its contract.
 -- Assumes nothing.
 use borrow.Author.Needs.{needs}
-use Rattle.leaf_edge.proofs.leaf_chain_unchanged.Statement.{statement}
-use Rattle.leaf_edge.proofs.leaf_chain_unchanged.Tie as tie
+use Rattle.message_edge.proofs.leaf_chain_unchanged.Statement.{statement}
+use Rattle.message_edge.proofs.leaf_chain_unchanged.Tie as tie
 
 returns : tie.Need-returns
 returns c = rw (← (c .before .chain-unchanged .ensures)) (c .number .ensures)

@@ -1,8 +1,8 @@
--- `leaf_edge::leaf_above_all` meets its contract.
+-- `message_edge::leaf_above_all` meets its contract.
 -- Assumes nothing.
 use borrow.Author.Needs.{needs}
-use Rattle.leaf_edge.proofs.leaf_above_all.Statement.{statement}
-use Rattle.leaf_edge.proofs.leaf_above_all.Tie as tie
+use Rattle.message_edge.proofs.leaf_above_all.Statement.{statement}
+use Rattle.message_edge.proofs.leaf_above_all.Tie as tie
 
 returns : tie.Need-returns
 returns c = rw (← (c .before .above-all .ensures)) (c .number .ensures)

@@ -1,8 +1,8 @@
--- `leaf_edge::leaf_same_key` meets its contract.
+-- `message_edge::leaf_same_key` meets its contract.
 -- Assumes nothing.
 use borrow.Author.Needs.{needs}
-use Rattle.leaf_edge.proofs.leaf_same_key.Statement.{statement}
-use Rattle.leaf_edge.proofs.leaf_same_key.Tie as tie
+use Rattle.message_edge.proofs.leaf_same_key.Statement.{statement}
+use Rattle.message_edge.proofs.leaf_same_key.Tie as tie
 
 returns : tie.Need-returns
 returns c = rw (← (c .before .same-key .ensures)) (c .number .ensures)
