@@ -96,13 +96,13 @@ module _ (waiting area waiting₁ sets₁ times₁ area₁ waiting₂ sets₂ ti
       let few = n .few in
       record {
         entries =
-          s .entries
-          ∙ rw (same-work, l .entries, kept-more o e w) (after-front waiting (w .kept) ((alone o e w) .kept) (r * 84) (n .kept-long) (omega arith));
+            s .entries
+            ∙ rw (same-work, l .entries, kept-more o e w) (after-front waiting (w .kept) ((alone o e w) .kept) (r * 84) (n .kept-long) (omega arith));
         sets = s .sets ∙ rw (same-work) (sym (sets-more o e w));
         times = s .times ∙ rw (same-work) (sym (times-more o e w));
         records =
-          s .records
-          ∙ rw (same-work, l .records, records-more o e w) (after-front area (w .records) ((alone o e w) .records) ((k - r) * 12) (n .records-long) (omega arith));
+            s .records
+            ∙ rw (same-work, l .records, records-more o e w) (after-front area (w .records) ((alone o e w) .records) ((k - r) * 12) (n .records-long) (omega arith));
         count = s .count ∙ rw (same-work) (sym (count-more o e w));
       }
 
@@ -145,9 +145,10 @@ due-leaves (suc o) m kept e waiting sets times area sets′ times′ area′ p q
 pub none-swept : (outcomes waiting sets times area : List ℕ)
     → Leaves (swept outcomes waiting 0 (start 0 sets times)) 0 0 waiting area waiting sets times area 0 × Counts (swept outcomes waiting 0 (start 0 sets times)) 0 0
 unfolding swept
-none-swept outcomes waiting sets times area =
-    (record { entries = sym (splice-nil waiting 0); sets = refl; times = refl; records = sym (splice-nil area 0); count = refl },
-    record { few = omega arith; kept-long = refl; records-long = refl })
+none-swept outcomes waiting sets times area = (
+  record { entries = sym (splice-nil waiting 0); sets = refl; times = refl; records = sym (splice-nil area 0); count = refl },
+  record { few = omega arith; kept-long = refl; records-long = refl },
+)
 
 pub one-swept : (outcomes waiting area waiting₁ sets₁ times₁ area₁ waiting₂ sets₂ times₂ area₂ : List ℕ) (k r r₂ : ℕ) (w : Work)
     → k < 256 → length waiting ≡ 21504 → length area ≡ 3240
@@ -156,6 +157,7 @@ pub one-swept : (outcomes waiting area waiting₁ sets₁ times₁ area₁ waiti
     → Leaves (swept outcomes waiting (k + 1) w) 0 0 waiting area waiting₂ sets₂ times₂ area₂ r₂ × Counts (swept outcomes waiting (k + 1) w) (k + 1) r₂
 unfolding swept
 one-swept outcomes waiting area waiting₁ sets₁ times₁ area₁ waiting₂ sets₂ times₂ area₂ k r r₂ w small lw la l n s =
-    rw (add-one k)
-    (more waiting area waiting₁ sets₁ times₁ area₁ waiting₂ sets₂ times₂ area₂ k r r₂ (getD outcomes k 0) (swept outcomes waiting k w) small lw la l n s,
-    rw (← (add-one k)) (counted waiting area waiting₁ sets₁ times₁ area₁ waiting₂ sets₂ times₂ area₂ k r r₂ (getD outcomes k 0) (swept outcomes waiting k w) small lw la l n s))
+    rw (add-one k) (
+      more waiting area waiting₁ sets₁ times₁ area₁ waiting₂ sets₂ times₂ area₂ k r r₂ (getD outcomes k 0) (swept outcomes waiting k w) small lw la l n s,
+      rw (← (add-one k)) (counted waiting area waiting₁ sets₁ times₁ area₁ waiting₂ sets₂ times₂ area₂ k r r₂ (getD outcomes k 0) (swept outcomes waiting k w) small lw la l n s),
+    )

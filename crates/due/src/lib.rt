@@ -1,12 +1,18 @@
 // The sweep of the waiting tags (01, "MACK": "Due tags are judged in arrival order before the section's own, and free their places").
 // A tag that is due gets its record, and for outcome 1 its set becomes the satellite's authentic one; the others close up, in order.
+// Public calls:
+//   judge_due   the whole: keys, outcomes, records, sets and places
+//   sweep       the same for outcomes that are known
+use rules::Chain;
 use rules::Tag;
 ghost use mathlib.Core.Path.{_≡_};
 ghost use mathlib.Core.Bool.{true, cond};
-ghost use Prim.Native.Nat.{_+_, _-_, _*_, _≤_, _<_};
-ghost use lib.ListN.{length};
+ghost use Prim.Native.Nat.{_+_, _-_, _*_, _^_, _≤_, _<_};
+ghost use lib.ListN.{length, take};
 ghost use Rattle.laws.specs.Lists.{splice};
-ghost use Rattle.rules.specs.Tags.{entryAt, entryTag, entrySet, setsEntered, timesEntered, told};
+ghost use Rattle.rules.specs.Chain.{held};
+ghost use Rattle.rules.specs.Tags.{entryAt, entryTag, entrySet, setsEntered, timesEntered, told, duesJudged};
+ghost use Rattle.chain.specs.Sound.{Sound};
 ghost use Rattle.due.specs.Swept as S;
 ghost use Rattle.due.specs.Swept.{start, sweptOne, swept, Leaves, Counts};
 
@@ -105,4 +111,24 @@ pub fn sweep(
         k += 1;
     }
     kept
+}
+
+// The first n waiting tags at a held key of this slot, in arrival order. The entries that stay close up at the front of `waiting`, the
+// records come one after the other at the front of `area`, and the bytes past both stay. Gives how many stay; each other has a record.
+pub fn judge_due(
+    c: Chain,
+    slot: u64,
+    known: [u8; 32],
+    waiting: &mut [u8],
+    n: usize,
+    sets: &mut [u8],
+    times: &mut [u32],
+    area: &mut [u8],
+) -> usize
+    requires { ⌜ ((length (now sets) ≡ 2484) × (length (now times) ≡ 36)) × ((length (now waiting) ≡ 21504) × (length (now area) ≡ 3240)) ⌝ }
+    requires { ⌜ Sound c × ((slot < 2 ^ 34) × (n ≤ 256)) ⌝ }
+    ensures { λ r. ⌜ Leaves (duesJudged c (held slot (take (c .width) known)) (now (waiting .entry)) n (start 0 (now (sets .entry)) (now (times .entry)))) 0 0 (now (waiting .entry)) (now (area .entry)) (now (waiting .exit)) (now (sets .exit)) (now (times .exit)) (now (area .exit)) r × Counts (duesJudged c (held slot (take (c .width) known)) (now (waiting .entry)) n (start 0 (now (sets .entry)) (now (times .entry)))) n r ⌝ }
+{
+    let outcomes = due_keys::outcomes(c, slot, known, waiting, n);
+    sweep(&outcomes, waiting, n, sets, times, area)
 }

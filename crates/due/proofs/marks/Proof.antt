@@ -30,9 +30,10 @@ returns-3 c =
 returns-4 : tie.Need-returns-4
 unfolding S.marks
 returns-4 c =
-    let g = c .before .before .before .before .args in
-    (rw (eq-eqb _ 1 (c .before .before .before .if1 .left), prn-in (g .t .prn) (omega arith) (omega arith)) (c .time-valid .ensures),
-    λ e. ((omega arith, omega arith), time-small (g .t .time) (search needs) (sym (c .time-valid .ensures) ∙ e)))
+    let g = c .before .before .before .before .args in (
+      rw (eq-eqb _ 1 (c .before .before .before .if1 .left), prn-in (g .t .prn) (omega arith) (omega arith)) (c .time-valid .ensures),
+      λ e. ((omega arith, omega arith), time-small (g .t .time) (search needs) (sym (c .time-valid .ensures) ∙ e)),
+    )
 
 pub marks-spec : {M : Type 1} → statement M
 marks-spec = tie.close (tie.spec returns returns-2 returns-3 (λ c κs. search needs) returns-4)

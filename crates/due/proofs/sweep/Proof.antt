@@ -39,12 +39,13 @@ loop-again c =
     let l = s .before .before .before .before .before .before .before .loop in
     let a = s .before .before .before .before .before .before .before .before .before .before .before .before .before in
     let g = a .args in
-    let p = s .«sweep-one» in
-    (search needs,
-    one-swept (now (g .outcomes)) (now (g .waiting)) (now (g .area)) (l .waiting) (l .sets) (l .times) (l .area)
-    (p .last .1 .0) (p .last .1 .1 .1 .1 .0) (p .last .1 .1 .1 .1 .1 .0) (p .last .1 .1 .1 .1 .1 .1 .0)
-    (l .k) (l .kept) (p .result) (start 0 (now (g .sets)) (now (g .times)))
-    (omega (arith, a .pre)) (omega (arith, a .pre)) (omega (arith, a .pre)) (l .inv .1 .0) (l .inv .1 .1) (p .ensures))
+    let p = s .«sweep-one» in (
+      search needs,
+      one-swept (now (g .outcomes)) (now (g .waiting)) (now (g .area)) (l .waiting) (l .sets) (l .times) (l .area)
+          (p .last .1 .0) (p .last .1 .1 .1 .1 .0) (p .last .1 .1 .1 .1 .1 .0) (p .last .1 .1 .1 .1 .1 .1 .0)
+          (l .k) (l .kept) (p .result) (start 0 (now (g .sets)) (now (g .times)))
+          (omega (arith, a .pre)) (omega (arith, a .pre)) (omega (arith, a .pre)) (l .inv .1 .0) (l .inv .1 .1) (p .ensures),
+    )
 
 returns : tie.Need-returns Inv-loop μ-loop
 returns c =

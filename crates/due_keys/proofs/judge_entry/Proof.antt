@@ -19,7 +19,7 @@ returns c h e =
     let g = t .before .before .args in
     let x = entryAt (now (g .waiting)) (g .k) in
     let r = matches-is (g .c) h x (s .copy-set .last .1 .1 .0) (t .entry-tag .result) (m .tag-matches .result) (t .entry-tag .ensures) (s .copy-set .ensures)
-      (m .tag-matches .ensures (keyOfSlot (g .c) h (entrySlot (g .c) x)) e) in
+    (m .tag-matches .ensures (keyOfSlot (g .c) h (entrySlot (g .c) x)) e) in
     rw (sym r ∙ c .if1 .taken)
 
 returns-2 : tie.Need-returns-2
@@ -31,7 +31,7 @@ returns-2 c h e =
     let g = t .before .before .args in
     let x = entryAt (now (g .waiting)) (g .k) in
     let r = matches-is (g .c) h x (s .copy-set .last .1 .1 .0) (t .entry-tag .result) (m .tag-matches .result) (t .entry-tag .ensures) (s .copy-set .ensures)
-      (m .tag-matches .ensures (keyOfSlot (g .c) h (entrySlot (g .c) x)) e) in
+    (m .tag-matches .ensures (keyOfSlot (g .c) h (entrySlot (g .c) x)) e) in
     rw (sym r ∙ c .if1 .left)
 
 pub judge-entry-spec : {M : Type 1} → statement M

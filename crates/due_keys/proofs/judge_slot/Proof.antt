@@ -36,13 +36,18 @@ loop-again c =
     let g = c .before .before .before .before .before .before .args in
     let w = now (g .waiting) in
     let v = now (g .outcomes) in
-    let i = l .inv .1 in
-    (omega arith,
-    (simp length-set (i .0),
-    (behind-kept (l .outcomes) v (l .k) (c .outcome-at .result) (i .1 .0),
-    λ h e s. filled-one (λ (j : ℕ). cond (eqb (entrySlot (g .c) (entryAt w j)) (g .m)) (matchOutcome (g .c) h (entryAt w j)) (getD v j 0))
-      (l .outcomes) (l .k) (c .outcome-at .result) (omega arith) (i .1 .1 h e s)
-      (c .outcome-at .ensures h e (s (l .k) (omega arith)) ∙ rw (i .1 .0 (l .k) (omega arith))))))
+    let i = l .inv .1 in (
+      omega arith,
+      (
+        simp length-set (i .0),
+        (
+          behind-kept (l .outcomes) v (l .k) (c .outcome-at .result) (i .1 .0),
+          λ h e s. filled-one (λ (j : ℕ). cond (eqb (entrySlot (g .c) (entryAt w j)) (g .m)) (matchOutcome (g .c) h (entryAt w j)) (getD v j 0))
+              (l .outcomes) (l .k) (c .outcome-at .result) (omega arith) (i .1 .1 h e s)
+              (c .outcome-at .ensures h e (s (l .k) (omega arith)) ∙ rw (i .1 .0 (l .k) (omega arith))),
+        ),
+      ),
+    )
 
 returns : tie.Need-returns Inv-loop μ-loop
 returns c =

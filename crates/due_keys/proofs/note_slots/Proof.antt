@@ -27,10 +27,13 @@ loop-holds c = (omega arith, (long (c .before), λ j h. absurd (omega arith)))
 loop-again : tie.Need-loop-again Inv-loop μ-loop
 loop-again c =
     let l = c .before .before .loop in
-    let g = c .before .before .before .before .args in
-    (omega arith,
-    (simp length-set (l .inv .1 .0),
-    filled-one (λ (j : ℕ). entrySlot (g .c) (entryAt (now (g .waiting)) j)) (l .slots) (l .k) (c .entry-slot .result) (search needs) (l .inv .1 .1) (c .entry-slot .ensures)))
+    let g = c .before .before .before .before .args in (
+      omega arith,
+      (
+        simp length-set (l .inv .1 .0),
+        filled-one (λ (j : ℕ). entrySlot (g .c) (entryAt (now (g .waiting)) j)) (l .slots) (l .k) (c .entry-slot .result) (search needs) (l .inv .1 .1) (c .entry-slot .ensures),
+      ),
+    )
 
 returns : tie.Need-returns Inv-loop μ-loop
 returns c =

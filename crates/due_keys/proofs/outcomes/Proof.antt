@@ -30,12 +30,15 @@ loop-holds c =
     let g = a .args in
     let h = held (g .slot) (take (g .c .width) (g .known)) in
     let slots = c .before .before .note-slots in
-    let r = c .next-below in
-    (((omega arith, omega (arith, r .ensures .0)), (length-key a, refl)),
-    (key-held (g .c) (g .slot) (take (g .c .width) (g .known)),
-    none-above (g .c) h (now (g .waiting)) (g .n) (r .result)
-    (by-slots (g .c) (now (g .waiting)) (slots .last .1 .1 .1 .0) (g .n) (g .slot + 1) (r .result) (slots .ensures) (r .ensures .1))
-    (replicate 256 0) (λ k q. getD-replicate 256 k 0 0 (omega (arith, a .pre)))))
+    let r = c .next-below in (
+      ((omega arith, omega (arith, r .ensures .0)), (length-key a, refl)),
+      (
+        key-held (g .c) (g .slot) (take (g .c .width) (g .known)),
+        none-above (g .c) h (now (g .waiting)) (g .n) (r .result)
+            (by-slots (g .c) (now (g .waiting)) (slots .last .1 .1 .1 .0) (g .n) (g .slot + 1) (r .result) (slots .ensures) (r .ensures .1))
+            (replicate 256 0) (λ k q. getD-replicate 256 k 0 0 (omega (arith, a .pre))),
+      ),
+    )
 
 loop-again : tie.Need-loop-again Inv-loop μ-loop
 loop-again c =
@@ -47,12 +50,15 @@ loop-again c =
     let h = held (g .slot) (take (g .c .width) (g .known)) in
     let slots = b .before .before .before .note-slots in
     let r = c .next-below2 in
-    let j = d .ensures .1 h (l .inv .0 .0 .0) (l .inv .1 .0) (slots .ensures) in
-    (((omega arith, omega (arith, r .ensures .0)), d .ensures .0),
-    (j .0,
-    next-above (g .c) h (now (g .waiting)) (g .n) (l .m) (r .result) (l .judged) (d .last .1 .1 .1 .1 .1 .1 .1 .0)
-    (omega arith) (r .ensures .0) (l .inv .1 .1) (j .1)
-    (by-slots (g .c) (now (g .waiting)) (slots .last .1 .1 .1 .0) (g .n) (l .m) (r .result) (slots .ensures) (r .ensures .1))))
+    let j = d .ensures .1 h (l .inv .0 .0 .0) (l .inv .1 .0) (slots .ensures) in (
+      ((omega arith, omega (arith, r .ensures .0)), d .ensures .0),
+      (
+        j .0,
+        next-above (g .c) h (now (g .waiting)) (g .n) (l .m) (r .result) (l .judged) (d .last .1 .1 .1 .1 .1 .1 .1 .0)
+            (omega arith) (r .ensures .0) (l .inv .1 .1) (j .1)
+            (by-slots (g .c) (now (g .waiting)) (slots .last .1 .1 .1 .0) (g .n) (l .m) (r .result) (slots .ensures) (r .ensures .1)),
+      ),
+    )
 
 returns : tie.Need-returns Inv-loop μ-loop
 returns c =
