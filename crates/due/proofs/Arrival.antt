@@ -13,7 +13,7 @@ use Rattle.laws.proofs.Splice.{splice-append, splice-nil}
 use Rattle.rules.specs.Tags.{Work, told, kept, setsEntered, timesEntered, tagRecord, recordIssue, entryAt, entryTag, entrySet}
 use Rattle.rules.specs.declared.Tag.{Tag}
 use Rattle.waiting.proofs.Entries.{untouched, length-entry}
-use Rattle.due.specs.Swept.{start, marks, sweptOne, swept, Leaves, Counts}
+use Rattle.due.specs.Swept.{start, marks, sweptOne, swept, Tells, Leaves, Counts}
 
 pub length-record : (o : ℕ) (t : Tag) (i : ℕ) → length (tagRecord o t i) ≡ 12
 unfolding tagRecord be2 be4
@@ -112,15 +112,13 @@ module _ (waiting area waiting₁ sets₁ times₁ area₁ waiting₂ sets₂ ti
 
 -- ---- what one entry leaves
 
--- the record and the set of a tag that is due
-pub told-leaves : (o at issue : ℕ) (t : Tag) (e set sets times area sets′ times′ area′ : List ℕ)
-    → t ≡ entryTag e → set ≡ entrySet e → issue ≡ recordIssue o set → area′ ≡ splice area at (tagRecord o t issue)
+-- the record and the set of a tag
+pub told-leaves : (o at issue : ℕ) (t : Tag) (set sets times area sets′ times′ area′ : List ℕ)
+    → issue ≡ recordIssue o set → area′ ≡ splice area at (tagRecord o t issue)
     → sets′ ≡ cond (marks o t) (setsEntered sets times t set) sets → times′ ≡ cond (marks o t) (timesEntered times t) times
-    → ((sets′ ≡ (told o (entryTag e) (entrySet e) (start 0 sets times)) .sets) × (times′ ≡ (told o (entryTag e) (entrySet e) (start 0 sets times)) .times))
-    × (area′ ≡ splice area at ((told o (entryTag e) (entrySet e) (start 0 sets times)) .records))
+    → Tells (told o t set (start 0 sets times)) at area sets′ times′ area′
 unfolding told marks
-told-leaves o at issue t e set sets times area sets′ times′ area′ et es ei ea eu ev =
-    ((eu ∙ rw (et, es), ev ∙ rw (et)), ea ∙ rw (ei, et, es))
+told-leaves o at issue t set sets times area sets′ times′ area′ ei ea eu ev = record { sets = eu; times = ev; records = ea ∙ rw ei }
 
 -- an entry that is not due stays, and no record is written
 pub stays-leaves : (o m kept : ℕ) (e waiting sets times area waiting′ : List ℕ) → o ≡ 0 → waiting′ ≡ splice waiting (kept * 84) e
@@ -132,13 +130,12 @@ stays-leaves (suc o) m kept e waiting sets times area waiting′ p q = absurd (o
 
 -- an entry that is due leaves its place
 pub due-leaves : (o m kept : ℕ) (e waiting sets times area sets′ times′ area′ : List ℕ) → (o ≡ 0 → ⊥)
-    → ((sets′ ≡ (told o (entryTag e) (entrySet e) (start 0 sets times)) .sets) × (times′ ≡ (told o (entryTag e) (entrySet e) (start 0 sets times)) .times))
-    × (area′ ≡ splice area (m * 12) ((told o (entryTag e) (entrySet e) (start 0 sets times)) .records))
+    → Tells (told o (entryTag e) (entrySet e) (start 0 sets times)) (m * 12) area sets′ times′ area′
     → Leaves (sweptOne o e (start kept sets times)) kept m waiting area waiting sets′ times′ area′ kept
 unfolding sweptOne told
 due-leaves zero m kept e waiting sets times area sets′ times′ area′ p q = absurd (p refl)
 due-leaves (suc o) m kept e waiting sets times area sets′ times′ area′ p q =
-    record { entries = sym (splice-nil waiting (kept * 84)); sets = q .0 .0; times = q .0 .1; records = q .1; count = refl }
+    record { entries = sym (splice-nil waiting (kept * 84)); sets = q .sets; times = q .times; records = q .records; count = refl }
 
 -- ---- no entry yet, and one more of the first n
 

@@ -30,6 +30,12 @@ unfoldable pub swept : List ℕ → List ℕ → ℕ → Work → Work
 swept outcomes waiting zero w = w
 swept outcomes waiting (suc n) w = sweptOne (getD outcomes n 0) (entryAt waiting n) (swept outcomes waiting n w)
 
+-- What lent regions are after a tag's outcome, work w: its record lies from place `at` of the area on.
+pub record Tells (w : Work) (at : ℕ) (area sets′ times′ area′ : List ℕ) : Type 0 where
+  pub sets : sets′ ≡ w .sets
+  pub times : times′ ≡ w .times
+  pub records : area′ ≡ splice area at (w .records)
+
 -- What lent regions are after work w, if they were `waiting` and `area` before it: its entries lie from place `kept` on, its records from
 -- place `told` on, and `r` is the count of entries that stay.
 pub record Leaves (w : Work) (kept told : ℕ) (waiting area waiting′ sets′ times′ area′ : List ℕ) (r : ℕ) : Type 0 where

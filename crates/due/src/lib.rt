@@ -3,18 +3,18 @@
 // Public calls:
 //   judge_due   the whole: keys, outcomes, records, sets and places
 //   sweep       the same for outcomes that are known
+//   tell        the record and the set of one tag of any outcome
 use rules::Chain;
 use rules::Tag;
 ghost use mathlib.Core.Path.{_≡_};
 ghost use mathlib.Core.Bool.{true, cond};
 ghost use Prim.Native.Nat.{_+_, _-_, _*_, _^_, _≤_, _<_};
 ghost use lib.ListN.{length, take};
-ghost use Rattle.laws.specs.Lists.{splice};
 ghost use Rattle.rules.specs.Chain.{held};
 ghost use Rattle.rules.specs.Tags.{entryAt, entryTag, entrySet, setsEntered, timesEntered, told, duesJudged};
 ghost use Rattle.chain.specs.Sound.{Sound};
 ghost use Rattle.due.specs.Swept as S;
-ghost use Rattle.due.specs.Swept.{start, sweptOne, swept, Leaves, Counts};
+ghost use Rattle.due.specs.Swept.{start, sweptOne, swept, Tells, Leaves, Counts};
 
 // ---- a tag that is due
 
@@ -45,8 +45,26 @@ fn enter(outcome: u8, t: Tag, set: &[u8], sets: &mut [u8], times: &mut [u32])
     }
 }
 
-// Entry k has this outcome: its record at place `at` of the area, and its set.
-fn tell(
+// A tag has this outcome: its record goes to place `at` of the area, and for outcome 1 its set to its satellite's place.
+pub fn tell(
+    outcome: u8,
+    t: Tag,
+    set: &[u8],
+    sets: &mut [u8],
+    times: &mut [u32],
+    area: &mut [u8],
+    at: usize,
+)
+    requires { ⌜ ((length (now sets) ≡ 2484) × (length (now times) ≡ 36)) × ((length (now set) ≡ 69) × (at + 12 ≤ length (now area))) ⌝ }
+    ensures { λ _. ⌜ Tells (told outcome t (now (set .entry)) (start 0 (now (sets .entry)) (now (times .entry)))) at (now (area .entry)) (now (sets .exit)) (now (times .exit)) (now (area .exit)) ⌝ }
+{
+    let issue = tags::record_issue(outcome, set);
+    tags::put_record(area, at, outcome, t, issue);
+    enter(outcome, t, set, sets, times);
+}
+
+// The same for the tag of entry k and the copy of its set.
+fn tell_entry(
     outcome: u8,
     waiting: &[u8],
     k: usize,
@@ -56,14 +74,12 @@ fn tell(
     at: usize,
 )
     requires { ⌜ ((length (now sets) ≡ 2484) × (length (now times) ≡ 36)) × ((k * 84 + 84 ≤ length (now waiting)) × (at + 12 ≤ length (now area))) ⌝ }
-    ensures { λ _. ⌜ ((now (sets .exit) ≡ told outcome (entryTag (entryAt (now (waiting .entry)) k)) (entrySet (entryAt (now (waiting .entry)) k)) (start 0 (now (sets .entry)) (now (times .entry))) .sets) × (now (times .exit) ≡ told outcome (entryTag (entryAt (now (waiting .entry)) k)) (entrySet (entryAt (now (waiting .entry)) k)) (start 0 (now (sets .entry)) (now (times .entry))) .times)) × (now (area .exit) ≡ splice (now (area .entry)) at (told outcome (entryTag (entryAt (now (waiting .entry)) k)) (entrySet (entryAt (now (waiting .entry)) k)) (start 0 (now (sets .entry)) (now (times .entry))) .records)) ⌝ }
+    ensures { λ _. ⌜ Tells (told outcome (entryTag (entryAt (now (waiting .entry)) k)) (entrySet (entryAt (now (waiting .entry)) k)) (start 0 (now (sets .entry)) (now (times .entry)))) at (now (area .entry)) (now (sets .exit)) (now (times .exit)) (now (area .exit)) ⌝ }
 {
     let t = waiting::entry_tag(waiting, k);
     let mut set = [0u8; 69];
     waiting::copy_set(waiting, k, &mut set);
-    let issue = tags::record_issue(outcome, &set);
-    tags::put_record(area, at, outcome, t, issue);
-    enter(outcome, t, &set, sets, times);
+    tell(outcome, t, &set, sets, times, area, at);
 }
 
 // ---- arrival order
@@ -86,7 +102,7 @@ fn sweep_one(
         waiting::move_entry(waiting, k, kept);
         return kept + 1;
     }
-    tell(outcome, waiting, k, sets, times, area, (k - kept) * 12);
+    tell_entry(outcome, waiting, k, sets, times, area, (k - kept) * 12);
     kept
 }
 

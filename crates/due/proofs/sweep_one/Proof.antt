@@ -21,7 +21,7 @@ returns-2 c =
     let b = t .before .before .before .before .before in
     let g = b .before .before .before .before .before .args in
     due-leaves (g .outcome) (g .k - g .kept) (g .kept) (entryAt (now (g .waiting)) (g .k)) (now (g .waiting)) (now (g .sets)) (now (g .times)) (now (g .area))
-    (t .tell .last .1 .1 .1 .0) (t .tell .last .1 .1 .1 .1 .0) (t .tell .last .1 .1 .1 .1 .1 .0) (b .if1 .left) (t .tell .ensures)
+    (t .tell-entry .last .1 .1 .1 .0) (t .tell-entry .last .1 .1 .1 .1 .0) (t .tell-entry .last .1 .1 .1 .1 .1 .0) (b .if1 .left) (t .tell-entry .ensures)
 
 pub sweep-one-spec : {M : Type 1} → statement M
 sweep-one-spec =
