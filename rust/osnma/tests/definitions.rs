@@ -197,6 +197,7 @@ fn any_contents() {
             };
             spoil(&mut regions, &mut rng);
             let call = match rng.below(8) {
+                0 if rng.once_in(2) => Call::Start(draw::bad_settings(&mut rng, &tree)),
                 0 => Call::Start(draw::settings(&mut rng, &tree)),
                 1 => Call::ReadSet(draw::prn(&mut rng)),
                 2 => Call::ReadMessage,
