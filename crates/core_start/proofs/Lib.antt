@@ -1,0 +1,2 @@
+-- Laws of the start.
+mod Cleared
