@@ -1,2 +1,3 @@
 -- Laws of the calls.
 pub mod Faults
+pub mod Shapes

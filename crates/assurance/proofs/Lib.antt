@@ -1,0 +1,2 @@
+-- The contracts of the exported calls, against the rules.
+pub mod Boundary

@@ -1,0 +1,2 @@
+-- Laws of the word call.
+mod Words

@@ -1,0 +1,2 @@
+-- what a word may change
+pub mod Heard

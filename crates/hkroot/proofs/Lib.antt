@@ -1,0 +1,2 @@
+-- Laws of the HKROOT half.
+mod Halves
