@@ -2,17 +2,19 @@
 use mathlib.Core.Path.{_≡_, sym, ap, _∙_}
 use mathlib.Core.List.{List, [], _∷_, _++_, append-assoc}
 use mathlib.Core.Bool.{Bool, _&&_}
-use Prim.Native.Nat.{ℕ, _+_, _≤_, _<_}
+use Prim.Native.Nat.{ℕ, _+_, _-_, _≤_, _<_}
 use native.Mathlib.Numerals.{add-one}
 use native.Mathlib.Omega.{arith}
 use lib.ListN.{length, getD, take, replicate, set, length-set, length-append, length-replicate, getD-replicate}
+use Rattle.authentic.specs.Regions.{auth}
 use Rattle.gather.specs.Store.{store}
 use Rattle.laws.specs.Lists.{splice}
 use Rattle.laws.proofs.Splice.{length-splice, splice-more, splice-two, splice-append, splice-whole}
 use Rattle.keyring.proofs.Keys.{splice-one}
 use Rattle.navdata.specs.Pieces.{nav}
 use Rattle.rules.specs.Calls.{markValid, marksValid}
-use Rattle.core_start.specs.Blank.{settings, tesla, noWords, noBlocks, noTags}
+use Rattle.rules.specs.Keys.{keyLength, withKey}
+use Rattle.core_start.specs.Blank.{settings, tesla, noWords, noBlocks, noTags, noSets}
 
 -- a loop that clears: one more number is 0
 pub clear-more : (d : List ℕ) (n i : ℕ) → n ≤ length d → i < n → set (splice d 0 (take i (replicate n 0))) i 0 ≡ splice d 0 (take (i + 1) (replicate n 0))
@@ -52,13 +54,17 @@ config-set d e f ns maclt marks root ld lm lr p q =
     let lb : length b ≡ 30 = length-append a marks ∙ omega arith in
     let lc : length (b ++ root) ≡ 62 = length-append b root ∙ omega arith in
     let eb : e ≡ splice d 0 b = p ∙ ap (λ (l : List ℕ). splice l 2 marks) (first-two d ns maclt (omega arith)) ∙ splice-append d 0 a marks (omega arith) in
-    let ec : f ≡ splice d 0 (b ++ root) = q ∙ rw (eb, ← lb) (splice-append d 0 b root (omega arith)) in
+    let zb : 0 + length b ≡ 30 = omega arith in
+    let zc : 0 + length (b ++ root) ≡ 62 = omega arith in
+    let ec : f ≡ splice d 0 (b ++ root) =
+    q ∙ ap (λ (l : List ℕ). splice l 30 root) eb ∙ ap (λ (k : ℕ). splice (splice d 0 b) k root) (sym zb) ∙ splice-append d 0 b root (omega arith) in
     let lf : length f ≡ 63 = ap length ec ∙ length-splice d 0 (b ++ root) (omega arith) ∙ ld in
     splice-one f 62 0 (omega arith)
-    ∙ rw (ec, ← lc) (splice-append d 0 (b ++ root) (0 ∷ []) (rw lc (omega arith)))
+    ∙ ap (λ (l : List ℕ). splice l 62 (0 ∷ [])) ec
+    ∙ ap (λ (k : ℕ). splice (splice d 0 (b ++ root)) k (0 ∷ [])) (sym zc)
+    ∙ splice-append d 0 (b ++ root) (0 ∷ []) (omega arith)
     ∙ splice-whole d ((b ++ root) ++ (0 ∷ [])) (length-append (b ++ root) (0 ∷ []) ∙ omega arith)
     ∙ append-assoc b root (0 ∷ [])
-    ∙ ?
 
 -- ---- parts of a state
 
@@ -69,3 +75,17 @@ pub tags-clear : (n d e f g : List ℕ) → length n ≡ 2 → length d ≡ 32 �
     → tesla (set (set n 0 0) 1 0) e g ≡ noTags
 tags-clear n d e f g ln ld lf p q =
     rw (first-two n 0 0 (omega arith), splice-whole n (0 ∷ 0 ∷ []) (sym ln), cleared d e 32 ld p, cleared f g 21504 lf q)
+
+pub blocks-clear : (b h m t : List ℕ) → b ≡ replicate 3328 0 → h ≡ replicate 16 0 → m ≡ replicate 16 0 → t ≡ replicate 16 0 → store b h m t ≡ noBlocks
+blocks-clear b h m t eb eh em et = rw (eb, eh, em, et)
+
+pub sets-clear : (d e f g : List ℕ) → length d ≡ 2484 → length f ≡ 36 → e ≡ splice d 0 (replicate 2484 0) → g ≡ splice f 0 (replicate 36 0) → auth e g ≡ noSets
+sets-clear d e f g ld lf p q = rw (cleared d e 2484 ld p, cleared f g 36 lf q)
+
+-- ---- the key
+
+pub key-held : (f e p : List ℕ) (id kind n : ℕ) → f ≡ replicate 1088 0 → n ≡ keyLength kind → e ≡ withKey f id kind (take (n - 0) p)
+    → e ≡ withKey (replicate 1088 0) id kind (take (keyLength kind) p)
+key-held f e p id kind n ef en ee =
+    let z : n - 0 ≡ keyLength kind = omega (arith, en) in
+    ee ∙ ap (λ (l : List ℕ). withKey l id kind (take (n - 0) p)) ef ∙ ap (λ (k : ℕ). withKey (replicate 1088 0) id kind (take k p)) z

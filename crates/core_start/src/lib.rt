@@ -1,10 +1,10 @@
 // The call that starts the core (01, "Start"), over the sixteen lent regions, each of which an accepted start writes whole.
 //   start            the call: any lengths, settings and contents of the regions
-//   start_unfit      NS, key ID, key type or a mark out of range (row 2)
+//   start_refusal    the number that refuses a start: 1 for a length, 2 for a setting out of range, or 0
 //   take_settings    the settings; clocks, words and DSM blocks become those of a core that heard nothing
 //   take_key         the public key; what waits, chain, TESLA key, tags and sets become none
 ghost use mathlib.Core.Path.{_≡_};
-ghost use mathlib.Core.Bool.{false, not, _&&_, _||_};
+ghost use mathlib.Core.Bool.{false, true, not, _&&_, _||_};
 ghost use mathlib.Core.List.{List};
 ghost use Prim.Native.Nat.{ℕ, _≤_, _<_};
 ghost use lib.ListN.{length, getD, take, replicate};
@@ -12,12 +12,12 @@ ghost use Rattle.authentic.specs.Regions.{auth};
 ghost use Rattle.checks.specs.Told.{told};
 ghost use Rattle.gather.specs.Store.{store};
 ghost use Rattle.laws.specs.Lists.{splice};
-ghost use Rattle.laws.specs.Refusal.{neb};
+ghost use Rattle.laws.specs.Refusal.{firstOf, neb};
 ghost use Rattle.navdata.specs.Pieces.{nav};
-ghost use Rattle.rules.specs.Calls.{startCall, startUnfit, markValid, marksValid};
+ghost use Rattle.rules.specs.Calls.{startCall, startChecks, startUnfit, markValid, marksValid};
 ghost use Rattle.rules.specs.Keys.{keyLength, withKey};
 ghost use Rattle.rules.specs.Kroot.{noOffer};
-ghost use Rattle.rules.specs.State.{state};
+ghost use Rattle.rules.specs.State.{state, shaped};
 ghost use Rattle.core_start.specs.Blank.{settings, tesla, noWords, noBlocks, noTags, noSets};
 
 // The core begins anew: NS, the public key's ID, type and bytes, MACLT, 14 + 14 marks, and the Merkle tree's root.
@@ -48,8 +48,109 @@ pub fn start(
 ) -> u32
     ensures { λ r. ⌜ told r (state (now (config .exit)) (now (clocks .exit)) (now (words .exit)) (now (stamps .exit)) (now (blocks .exit)) (now (headers .exit)) (now (marks .exit)) (now (since .exit)) (now (keys .exit)) (now (offer .exit)) (now (chain .exit)) (now (numbers .exit)) (now (key .exit)) (now (waiting .exit)) (now (sets .exit)) (now (arrivals .exit))) ≡ startCall (state (now (config .entry)) (now (clocks .entry)) (now (words .entry)) (now (stamps .entry)) (now (blocks .entry)) (now (headers .entry)) (now (marks .entry)) (now (since .entry)) (now (keys .entry)) (now (offer .entry)) (now (chain .entry)) (now (numbers .entry)) (now (key .entry)) (now (waiting .entry)) (now (sets .entry)) (now (arrivals .entry))) (record { ns = ns; id = id; type = kind; maclt = maclt; marks = now (adkds .entry); root = now (root .entry); key = now (public .entry) }) ⌝ }
 {
+    let code = start_refusal(
+        config,
+        clocks,
+        words,
+        stamps,
+        blocks,
+        headers,
+        marks,
+        since,
+        keys,
+        offer,
+        chain,
+        numbers,
+        key,
+        waiting,
+        sets,
+        arrivals,
+        ns,
+        id,
+        kind,
+        adkds,
+        root,
+        public,
+    );
+    if code != 0 {
+        return code;
+    }
+    take_settings(
+        config,
+        clocks,
+        words,
+        stamps,
+        blocks,
+        headers,
+        marks,
+        since,
+        ns,
+        maclt,
+        adkds,
+        root,
+    );
+    take_key(
+        keys,
+        offer,
+        chain,
+        numbers,
+        key,
+        waiting,
+        sets,
+        arrivals,
+        id,
+        kind,
+        public,
+    );
+    0
+}
+
+// ---- what refuses a start
+
+// The number that refuses a start, or 0. It does not depend on MACLT.
+fn start_refusal(
+    config: &[u8],
+    clocks: &[u32],
+    words: &[u8],
+    stamps: &[u32],
+    blocks: &[u8],
+    headers: &[u8],
+    marks: &[u16],
+    since: &[u32],
+    keys: &[u8],
+    offer: &[u8],
+    chain: &[u8],
+    numbers: &[u64],
+    key: &[u8],
+    waiting: &[u8],
+    sets: &[u8],
+    arrivals: &[u32],
+    ns: u8,
+    id: u8,
+    kind: u8,
+    adkds: &[u8],
+    root: &[u8],
+    public: &[u8],
+) -> u32
+    ensures { λ r. ⌜ ((maclt : ℕ) → r ≡ firstOf (startChecks (state (now (config .entry)) (now (clocks .entry)) (now (words .entry)) (now (stamps .entry)) (now (blocks .entry)) (now (headers .entry)) (now (marks .entry)) (now (since .entry)) (now (keys .entry)) (now (offer .entry)) (now (chain .entry)) (now (numbers .entry)) (now (key .entry)) (now (waiting .entry)) (now (sets .entry)) (now (arrivals .entry))) (record { ns = ns; id = id; type = kind; maclt = maclt; marks = now (adkds .entry); root = now (root .entry); key = now (public .entry) }))) × (r ≡ 0 → (shaped (state (now (config .entry)) (now (clocks .entry)) (now (words .entry)) (now (stamps .entry)) (now (blocks .entry)) (now (headers .entry)) (now (marks .entry)) (now (since .entry)) (now (keys .entry)) (now (offer .entry)) (now (chain .entry)) (now (numbers .entry)) (now (key .entry)) (now (waiting .entry)) (now (sets .entry)) (now (arrivals .entry))) ≡ true) × (((length (now (adkds .entry)) ≡ 28) × ((length (now (root .entry)) ≡ 32) × (length (now (public .entry)) ≡ 67))) × ((id < 16) × (kind < 4)))) ⌝ }
+{
     if !checks::shaped(
-        config, clocks, words, stamps, blocks, headers, marks, since, keys, offer, chain, numbers, key, waiting, sets, arrivals,
+        config,
+        clocks,
+        words,
+        stamps,
+        blocks,
+        headers,
+        marks,
+        since,
+        keys,
+        offer,
+        chain,
+        numbers,
+        key,
+        waiting,
+        sets,
+        arrivals,
     ) {
         return 1;
     }
@@ -65,12 +166,8 @@ pub fn start(
     if start_unfit(ns, id, kind, adkds) {
         return 2;
     }
-    take_settings(config, clocks, words, stamps, blocks, headers, marks, since, ns, maclt, adkds, root);
-    take_key(keys, offer, chain, numbers, key, waiting, sets, arrivals, id, kind, public);
     0
 }
-
-// ---- the settings' ranges
 
 // NS, key ID, key type or a mark out of range.
 fn start_unfit(ns: u8, id: u8, kind: u8, adkds: &[u8]) -> bool

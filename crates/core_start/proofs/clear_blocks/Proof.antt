@@ -1,58 +1,25 @@
+-- `core_start::clear_blocks` meets its contract. Assumes nothing.
+use denote.Ref.{now}
 use borrow.Author.Needs.{needs}
+use Rattle.core_start.proofs.Cleared.{cleared, blocks-clear}
 use Rattle.core_start.proofs.clear_blocks.Statement.{statement}
 use Rattle.core_start.proofs.clear_blocks.Tie as tie
-use Rattle.core_start.proofs.clear_blocks.Reads as reads
-use Rattle.core_start.proofs.clear_blocks.Lts as lts
-use Rattle.buffer.proofs.fill.Reads as fill-reads
-use Rattle.core_start.proofs.clear_u16.Reads as clear-u16-reads
-use Rattle.core_start.proofs.clear_u32.Reads as clear-u32-reads
 
--- src/lib.rt:187:5
-fill-requires : tie.Need-fill-requires
-fill-requires c κs = search needs
-
--- src/lib.rt:188:5
-fill-requires-2 : tie.Need-fill-requires-2
-fill-requires-2 c κs = search needs
-
--- src/lib.rt:189:5
-clear-u16-requires : tie.Need-clear-u16-requires
-clear-u16-requires c κs = search needs
-
--- src/lib.rt:190:5
-clear-u32-requires : tie.Need-clear-u32-requires
-clear-u32-requires c κs = search needs
-
--- src/lib.rt:183:1
-same-length : tie.Need-same-length
-same-length c = search needs
-
--- src/lib.rt:183:1
-same-length-2 : tie.Need-same-length-2
-same-length-2 c = search needs
-
--- src/lib.rt:183:1
-same-length-3 : tie.Need-same-length-3
-same-length-3 c = search needs
-
--- src/lib.rt:183:1
-same-length-4 : tie.Need-same-length-4
-same-length-4 c = search needs
-
--- src/lib.rt:183:1
 returns : tie.Need-returns
-returns c = ?
+returns c =
+    let p = c .before .before .before .before .before .before .before .before .before .before .before .before .before .before .before .before .before .before .before .before in
+    let b = c .before .before .before .before .before .before .before .before .before .before .before .before .before .before .fill in
+    let h = c .before .before .before .before .before .before .before .before .before .before .fill2 in
+    let m = c .before .before .before .before .before .before .clear-u16 in
+    let t = c .before .before .clear-u32 in
+    blocks-clear (b .last .0) (h .last .0) (m .last .0) (t .last .0)
+    (cleared (now (p .args .blocks)) (b .last .0) 3328 (p .pre .0 .0) (b .ensures))
+    (cleared (now (p .args .headers)) (h .last .0) 16 (p .pre .0 .1) (h .ensures))
+    (cleared (now (p .args .marks)) (m .last .0) 16 (p .pre .1 .0) (m .ensures))
+    (cleared (now (p .args .since)) (t .last .0) 16 (p .pre .1 .1) (t .ensures))
 
 pub clear-blocks-spec : {M : Type 1} → statement M
 clear-blocks-spec =
     tie.close
-    (tie.spec
-    fill-requires
-    fill-requires-2
-    clear-u16-requires
-    clear-u32-requires
-    same-length
-    same-length-2
-    same-length-3
-    same-length-4
+    (tie.spec (λ c κs. search needs) (λ c κs. search needs) (λ c κs. search needs) (λ c κs. search needs) (λ c. search needs) (λ c. search needs) (λ c. search needs) (λ c. search needs)
     returns)
