@@ -8,10 +8,17 @@ use borrow.Fn.Kinds.{Dens, endedOf}
 use denote.Triple.Clauses.{AtExit}
 use denote.Ref.{now}
 use Rattle.checks.specs.Told.{told}
-use Rattle.rules.specs.Calls.{wordCall}
+use Rattle.core_reads.specs.Reads.{setTold, offerTold}
+use Rattle.rules.specs.Calls.{wordCall, verdictCall, setRead, offerRead}
 use Rattle.rules.specs.State.{state}
 use Rattle.osnma.proofs.osnma_regions_word.Reads as word-reads
 use Rattle.osnma.proofs.osnma_regions_word.Kinds as word-kinds
+use Rattle.osnma.proofs.osnma_regions_verdict.Reads as verdict-reads
+use Rattle.osnma.proofs.osnma_regions_verdict.Kinds as verdict-kinds
+use Rattle.osnma.proofs.osnma_regions_read_set.Reads as read-set-reads
+use Rattle.osnma.proofs.osnma_regions_read_set.Kinds as read-set-kinds
+use Rattle.osnma.proofs.osnma_regions_read_message.Reads as read-message-reads
+use Rattle.osnma.proofs.osnma_regions_read_message.Kinds as read-message-kinds
 
 -- ---- word: the clocks, words and stamps at exit; the other regions are lent to be read only
 
@@ -27,3 +34,48 @@ word-is κs args r last d = d
 
 pub word-only : (κs : Lfts 17) (args : Dens κs word-kinds.ps) (r : ℕ) (last : AtExit (endedOf 17 word-kinds.ps word-kinds.r) κs) → word-rule κs args r last → word-reads.Learnt κs args r last
 word-only κs args r last d = d
+
+-- ---- verdict: keys, offer, chain, numbers, key and waiting at exit; the other regions are lent to be read only
+
+pub verdict-asks-nothing : (κs : Lfts 18) (args : Dens κs verdict-kinds.ps) → verdict-reads.Asked κs args
+verdict-asks-nothing κs args = tt
+
+abbrev verdict-rule : (κs : Lfts 18) (args : Dens κs verdict-kinds.ps) (r : ℕ) (last : AtExit (endedOf 18 verdict-kinds.ps verdict-kinds.r) κs) → Type 0
+verdict-rule κs (config, (clocks, (words, (stamps, (blocks, (headers, (marks, (since, (keys, (offer, (chain, (numbers, (key, (waiting, (sets, (arrivals, (good, (id, (message, (signature, _)))))))))))))))))))) r (_, (_, (_, (_, (_, (_, (_, (_, (keys′, (offer′, (chain′, (numbers′, (key′, (waiting′, (_, (_, (_, (_, (_, (_, _)))))))))))))))))))) =
+    told r (state (now config) (now clocks) (now words) (now stamps) (now blocks) (now headers) (now marks) (now since) (now keys′) (now offer′) (now chain′) (now numbers′) (now key′) (now waiting′) (now sets) (now arrivals)) ≡ verdictCall (state (now config) (now clocks) (now words) (now stamps) (now blocks) (now headers) (now marks) (now since) (now keys) (now offer) (now chain) (now numbers) (now key) (now waiting) (now sets) (now arrivals)) (record { good = good; id = id; message = now message; signature = now signature })
+
+pub verdict-is : (κs : Lfts 18) (args : Dens κs verdict-kinds.ps) (r : ℕ) (last : AtExit (endedOf 18 verdict-kinds.ps verdict-kinds.r) κs) → verdict-reads.Learnt κs args r last → verdict-rule κs args r last
+verdict-is κs args r last d = d
+
+pub verdict-only : (κs : Lfts 18) (args : Dens κs verdict-kinds.ps) (r : ℕ) (last : AtExit (endedOf 18 verdict-kinds.ps verdict-kinds.r) κs) → verdict-rule κs args r last → verdict-reads.Learnt κs args r last
+verdict-only κs args r last d = d
+
+-- ---- the read of an authentic set: its 69 bytes, IODnav and GST_SF at exit
+
+pub read-set-asks-nothing : (κs : Lfts 19) (args : Dens κs read-set-kinds.ps) → read-set-reads.Asked κs args
+read-set-asks-nothing κs args = tt
+
+abbrev read-set-rule : (κs : Lfts 19) (args : Dens κs read-set-kinds.ps) (r : ℕ) (last : AtExit (endedOf 19 read-set-kinds.ps read-set-kinds.r) κs) → Type 0
+read-set-rule κs (config, (clocks, (words, (stamps, (blocks, (headers, (marks, (since, (keys, (offer, (chain, (numbers, (key, (waiting, (sets, (arrivals, (prn, (out, (_, (_, _)))))))))))))))))))) r (_, (_, (_, (_, (_, (_, (_, (_, (_, (_, (_, (_, (_, (_, (_, (_, (_, (out′, (issue′, (time′, _)))))))))))))))))))) =
+    setTold r (now out′) (now issue′) (now time′) ≡ setRead (state (now config) (now clocks) (now words) (now stamps) (now blocks) (now headers) (now marks) (now since) (now keys) (now offer) (now chain) (now numbers) (now key) (now waiting) (now sets) (now arrivals)) prn (now out)
+
+pub read-set-is : (κs : Lfts 19) (args : Dens κs read-set-kinds.ps) (r : ℕ) (last : AtExit (endedOf 19 read-set-kinds.ps read-set-kinds.r) κs) → read-set-reads.Learnt κs args r last → read-set-rule κs args r last
+read-set-is κs args r last d = d
+
+pub read-set-only : (κs : Lfts 19) (args : Dens κs read-set-kinds.ps) (r : ℕ) (last : AtExit (endedOf 19 read-set-kinds.ps read-set-kinds.r) κs) → read-set-rule κs args r last → read-set-reads.Learnt κs args r last
+read-set-only κs args r last d = d
+
+-- ---- the read of what waits: message, signature, key, key ID and type at exit
+
+pub read-message-asks-nothing : (κs : Lfts 21) (args : Dens κs read-message-kinds.ps) → read-message-reads.Asked κs args
+read-message-asks-nothing κs args = tt
+
+abbrev read-message-rule : (κs : Lfts 21) (args : Dens κs read-message-kinds.ps) (r : ℕ) (last : AtExit (endedOf 21 read-message-kinds.ps read-message-kinds.r) κs) → Type 0
+read-message-rule κs (config, (clocks, (words, (stamps, (blocks, (headers, (marks, (since, (keys, (offer, (chain, (numbers, (key, (waiting, (sets, (arrivals, (message, (signature, (public, (_, (_, _))))))))))))))))))))) r (_, (_, (_, (_, (_, (_, (_, (_, (_, (_, (_, (_, (_, (_, (_, (_, (message′, (signature′, (public′, (id′, (kind′, _))))))))))))))))))))) =
+    offerTold r (now message′) (now signature′) (now public′) (now id′) (now kind′) ≡ offerRead (state (now config) (now clocks) (now words) (now stamps) (now blocks) (now headers) (now marks) (now since) (now keys) (now offer) (now chain) (now numbers) (now key) (now waiting) (now sets) (now arrivals)) (now message) (now signature) (now public)
+
+pub read-message-is : (κs : Lfts 21) (args : Dens κs read-message-kinds.ps) (r : ℕ) (last : AtExit (endedOf 21 read-message-kinds.ps read-message-kinds.r) κs) → read-message-reads.Learnt κs args r last → read-message-rule κs args r last
+read-message-is κs args r last d = d
+
+pub read-message-only : (κs : Lfts 21) (args : Dens κs read-message-kinds.ps) (r : ℕ) (last : AtExit (endedOf 21 read-message-kinds.ps read-message-kinds.r) κs) → read-message-rule κs args r last → read-message-reads.Learnt κs args r last
+read-message-only κs args r last d = d

@@ -4,7 +4,8 @@
 // No function asks anything of its caller: any lengths, bytes, numbers and times. Each is one call of the core, with the same contract.
 ghost use mathlib.Core.Path.{_≡_};
 ghost use Rattle.checks.specs.Told.{told};
-ghost use Rattle.rules.specs.Calls.{wordCall};
+ghost use Rattle.core_reads.specs.Reads.{setTold, offerTold};
+ghost use Rattle.rules.specs.Calls.{wordCall, verdictCall, setRead, offerRead};
 ghost use Rattle.rules.specs.State.{state};
 
 // Lends an I/NAV word with the GST_SF of its sub-frame (01, word).
@@ -52,5 +53,157 @@ pub extern "C" fn osnma_regions_word(
         prn,
         time,
         bytes,
+    )
+}
+
+// Tells what the signature chip says of the waiting message: good 1, bad 0 (01, verdict).
+#[no_mangle]
+pub extern "C" fn osnma_regions_verdict(
+    config: &[u8],
+    clocks: &[u32],
+    words: &[u8],
+    stamps: &[u32],
+    blocks: &[u8],
+    headers: &[u8],
+    marks: &[u16],
+    since: &[u32],
+    keys: &mut [u8],
+    offer: &mut [u8],
+    chain: &mut [u8],
+    numbers: &mut [u64],
+    key: &mut [u8],
+    waiting: &mut [u8],
+    sets: &[u8],
+    arrivals: &[u32],
+    good: u8,
+    id: u8,
+    message: &[u8],
+    signature: &[u8],
+) -> u32
+    ensures { λ r. ⌜ told r (state (now (config .entry)) (now (clocks .entry)) (now (words .entry)) (now (stamps .entry)) (now (blocks .entry)) (now (headers .entry)) (now (marks .entry)) (now (since .entry)) (now (keys .exit)) (now (offer .exit)) (now (chain .exit)) (now (numbers .exit)) (now (key .exit)) (now (waiting .exit)) (now (sets .entry)) (now (arrivals .entry))) ≡ verdictCall (state (now (config .entry)) (now (clocks .entry)) (now (words .entry)) (now (stamps .entry)) (now (blocks .entry)) (now (headers .entry)) (now (marks .entry)) (now (since .entry)) (now (keys .entry)) (now (offer .entry)) (now (chain .entry)) (now (numbers .entry)) (now (key .entry)) (now (waiting .entry)) (now (sets .entry)) (now (arrivals .entry))) (record { good = good; id = id; message = now (message .entry); signature = now (signature .entry) }) ⌝ }
+{
+    core_verdict::verdict(
+        config,
+        clocks,
+        words,
+        stamps,
+        blocks,
+        headers,
+        marks,
+        since,
+        keys,
+        offer,
+        chain,
+        numbers,
+        key,
+        waiting,
+        sets,
+        arrivals,
+        good,
+        id,
+        message,
+        signature,
+    )
+}
+
+// Reads a satellite's authentic set, its IODnav and the GST_SF of its tag (01, read).
+#[no_mangle]
+pub extern "C" fn osnma_regions_read_set(
+    config: &[u8],
+    clocks: &[u32],
+    words: &[u8],
+    stamps: &[u32],
+    blocks: &[u8],
+    headers: &[u8],
+    marks: &[u16],
+    since: &[u32],
+    keys: &[u8],
+    offer: &[u8],
+    chain: &[u8],
+    numbers: &[u64],
+    key: &[u8],
+    waiting: &[u8],
+    sets: &[u8],
+    arrivals: &[u32],
+    prn: u8,
+    out: &mut [u8],
+    issue: &mut u16,
+    time: &mut u32,
+) -> u32
+    ensures { λ r. ⌜ setTold r (now (out .exit)) (now (issue .exit)) (now (time .exit)) ≡ setRead (state (now (config .entry)) (now (clocks .entry)) (now (words .entry)) (now (stamps .entry)) (now (blocks .entry)) (now (headers .entry)) (now (marks .entry)) (now (since .entry)) (now (keys .entry)) (now (offer .entry)) (now (chain .entry)) (now (numbers .entry)) (now (key .entry)) (now (waiting .entry)) (now (sets .entry)) (now (arrivals .entry))) prn (now (out .entry)) ⌝ }
+{
+    core_reads::read_set(
+        config,
+        clocks,
+        words,
+        stamps,
+        blocks,
+        headers,
+        marks,
+        since,
+        keys,
+        offer,
+        chain,
+        numbers,
+        key,
+        waiting,
+        sets,
+        arrivals,
+        prn,
+        out,
+        issue,
+        time,
+    )
+}
+
+// Reads the message that waits for a verdict, with its key (01, read).
+#[no_mangle]
+pub extern "C" fn osnma_regions_read_message(
+    config: &[u8],
+    clocks: &[u32],
+    words: &[u8],
+    stamps: &[u32],
+    blocks: &[u8],
+    headers: &[u8],
+    marks: &[u16],
+    since: &[u32],
+    keys: &[u8],
+    offer: &[u8],
+    chain: &[u8],
+    numbers: &[u64],
+    key: &[u8],
+    waiting: &[u8],
+    sets: &[u8],
+    arrivals: &[u32],
+    message: &mut [u8],
+    signature: &mut [u8],
+    public: &mut [u8],
+    id: &mut u8,
+    kind: &mut u8,
+) -> u32
+    ensures { λ r. ⌜ offerTold r (now (message .exit)) (now (signature .exit)) (now (public .exit)) (now (id .exit)) (now (kind .exit)) ≡ offerRead (state (now (config .entry)) (now (clocks .entry)) (now (words .entry)) (now (stamps .entry)) (now (blocks .entry)) (now (headers .entry)) (now (marks .entry)) (now (since .entry)) (now (keys .entry)) (now (offer .entry)) (now (chain .entry)) (now (numbers .entry)) (now (key .entry)) (now (waiting .entry)) (now (sets .entry)) (now (arrivals .entry))) (now (message .entry)) (now (signature .entry)) (now (public .entry)) ⌝ }
+{
+    core_reads::read_message(
+        config,
+        clocks,
+        words,
+        stamps,
+        blocks,
+        headers,
+        marks,
+        since,
+        keys,
+        offer,
+        chain,
+        numbers,
+        key,
+        waiting,
+        sets,
+        arrivals,
+        message,
+        signature,
+        public,
+        id,
+        kind,
     )
 }

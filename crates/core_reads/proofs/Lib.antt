@@ -1,0 +1,3 @@
+-- Laws of the reads.
+mod Lengths
+mod Answers

@@ -1,0 +1,2 @@
+-- what the reads' contracts say
+pub mod Reads

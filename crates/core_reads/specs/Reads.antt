@@ -1,0 +1,13 @@
+-- What a read gives, written from its number and what it lent out at exit.
+use mathlib.Core.List.{List}
+use Prim.Native.Nat.{ℕ}
+use Rattle.rules.specs.Calls.{SetRead, OfferRead}
+
+-- the answer's number, the set's bytes, its IODnav and its tag's GST_SF
+abbrev pub setTold : ℕ → List ℕ → ℕ → ℕ → SetRead
+setTold code out issue time = record { code = code; out = out; issue = issue; time = time }
+
+-- the answer's number, the message, its signature, its key's bytes, ID and type
+abbrev pub offerTold : ℕ → List ℕ → List ℕ → List ℕ → ℕ → ℕ → OfferRead
+offerTold code message signature key id type =
+    record { code = code; message = message; signature = signature; key = key; id = id; type = type }

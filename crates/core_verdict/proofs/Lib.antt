@@ -1,0 +1,4 @@
+-- Laws of a verdict's effects.
+mod Lengths
+mod Regions
+mod Effects

@@ -1,0 +1,2 @@
+-- what a verdict may change
+pub mod Trusted

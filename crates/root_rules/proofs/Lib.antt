@@ -1,0 +1,2 @@
+-- Laws of a verdict's tests.
+pub mod Tests
