@@ -1,14 +1,13 @@
 -- The slots of keys and tags are below 2 ^ 34, and the chain of accepted parameters is sound.
 -- Assumes nothing.
 use mathlib.Core.Path.{_≡_, refl}
-use mathlib.Core.Bool.{Bool, true, false, _&&_, _||_}
+use mathlib.Core.Bool.{false}
 use mathlib.Core.List.{List, [], _∷_}
 use Prim.Native.Nat.{ℕ, zero, suc, _+_, _-_, _*_, _/_, _%_, _^_, _≤_, _<_}
 use native.Mathlib.Omega.{arith}
 use native.Mathlib.Nat.{mul-le-mul, mod-lt}
-use lib.Dec.{T, leb, ltb, eqb}
-use lib.ListN.{getD}
-use borrow.Author.Tests.{leb-true, ltb-false, eqb-false}
+use lib.Dec.{T, ltb, eqb}
+use borrow.Author.Tests.{ltb-false, eqb-false}
 use Rattle.laws.specs.Refusal.{neb}
 use Rattle.laws.proofs.Table.{table-range}
 use Rattle.laws.proofs.Tests.{neither}

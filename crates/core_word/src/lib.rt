@@ -59,7 +59,15 @@ pub fn word(
     if bytes.len() != 16 {
         return 1;
     }
-    take_word(config, clocks, words, stamps, bitfields::index(prn), time, bytes)
+    take_word(
+        config,
+        clocks,
+        words,
+        stamps,
+        bitfields::index(prn),
+        time,
+        bytes,
+    )
 }
 
 // A word whose lengths are right: the clock of its satellite, the word and its stamp are written, or nothing is.

@@ -176,7 +176,8 @@ fn widths_bad(maclt: u8, c: &[u8]) -> bool
     let k = ks(c);
     let m = ms(c);
     let used = 8 * (key_width(k) as u64) + tag_width(m) + 16;
-    (8 < k) | ((9 < m) | ((maclt_field(c) != maclt) | (bitfields::block_bits(bitfields::wide(nmack(c))) < used)))
+    let block = bitfields::block_bits(bitfields::wide(nmack(c)));
+    (8 < k) | ((9 < m) | ((maclt_field(c) != maclt) | (block < used)))
 }
 
 // Hour above 167; week 0 hour 0.

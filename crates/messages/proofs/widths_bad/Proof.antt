@@ -20,7 +20,7 @@ returns : tie.Need-returns
 unfolding G.widthsBad
 returns c =
     let c4 = c .before .before .before .before .before in
-    rw (c .block-bits .ensures, c .before .wide .ensures .0, c .before .before .nmack .ensures, c .before .before .before .maclt-field .ensures, c .before .before .before .before .tag-width .ensures, c4 .key-width .ensures, c4 .before .ms .ensures, c4 .before .before .ks .ensures)
+    rw (c .maclt-field .ensures, c .before .block-bits .ensures, c .before .before .wide .ensures .0, c .before .before .before .nmack .ensures, c .before .before .before .before .tag-width .ensures, c4 .key-width .ensures, c4 .before .ms .ensures, c4 .before .before .ks .ensures)
 
 pub widths-bad-spec : {M : Type 1} → statement M
 widths-bad-spec =
