@@ -3,9 +3,8 @@
 use mathlib.Core.Path.{_≡_, refl, ap, _∙_}
 use mathlib.Core.Bool.{Bool, true, false, cond}
 use mathlib.Core.List.{List}
-use Prim.Native.Nat.{ℕ, zero, suc, _<_}
+use Prim.Native.Nat.{ℕ, zero, suc}
 use native.Mathlib.Omega.{arith}
-use lib.ListN.{getD}
 use Rattle.rules.specs.Chain.{Held}
 use Rattle.rules.specs.Tags.{Work, told, kept, entryAt, entryTag, entrySet, isDue, tagMatches, dueJudged, duesJudged}
 use Rattle.rules.specs.declared.Chain.{Chain}

@@ -1,6 +1,6 @@
 -- The sweep of the waiting tags, once it is known what becomes of each: outcome 0 says that a tag is not due and stays. It is the rule
 -- `duesJudged` (rules, Tags.antt) with its outcomes read from a list; proofs/Judged.antt shows that they are the same.
-use Prim.Native.Nat.{ℕ, zero, suc, _+_, _-_, _*_, _≤_}
+use Prim.Native.Nat.{ℕ, zero, suc, _-_, _*_, _≤_}
 use mathlib.Core.Path.{_≡_}
 use mathlib.Core.Bool.{Bool, _&&_}
 use mathlib.Core.List.{List, []}

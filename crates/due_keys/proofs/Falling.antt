@@ -4,16 +4,15 @@
 use mathlib.Core.Path.{_≡_, refl, sym, ap, _∙_}
 use mathlib.Core.Bool.{Bool, true, false, cond}
 use mathlib.Core.Logic.{_⊎_, inl, inr, ⊎-elim}
-use mathlib.Core.List.{List, [], _∷_, _++_}
-use Prim.Native.Nat.{ℕ, zero, suc, _+_, _-_, _*_, _≤_, _<_}
+use mathlib.Core.List.{List}
+use Prim.Native.Nat.{ℕ, _+_, _-_, _≤_, _<_}
 use native.Mathlib.Omega.{arith}
-use lib.Dec.{leb, ltb, eqb}
-use lib.ListN.{length, take, getD, set, replicate, getD-replicate}
+use lib.Dec.{ltb, eqb}
+use lib.ListN.{length, take, getD, set}
 use lib.Seq.{getD-set-same, getD-set-other, length-take-le}
-use borrow.Author.Tests.{lt-ltb, le-ltb, le-leb, lt-leb, eq-eqb, ne-eqb, ltb-true, ltb-false}
+use borrow.Author.Tests.{lt-ltb, le-ltb, le-leb, lt-leb, eq-eqb, ne-eqb}
 use Rattle.laws.specs.Lists.{splice}
 use Rattle.laws.proofs.Splice.{below?, length-splice}
-use Rattle.hmac.specs.Hmac.{keyOf}
 use Rattle.rules.specs.Chain as S
 use Rattle.rules.specs.Times as T
 use Rattle.rules.specs.Tags.{entryAt, entryTag, entrySet, isDue, tagKey, tagMatches, tagMessage, macBits}

@@ -5,11 +5,9 @@ use hmac::HmacKey;
 use rules::Chain;
 ghost use mathlib.Core.Path.{_≡_};
 ghost use mathlib.Core.Bool.{cond};
-ghost use mathlib.Core.List.{List};
 ghost use Prim.Native.Nat.{ℕ, _+_, _*_, _^_, _≤_, _<_};
 ghost use lib.Dec.{eqb};
 ghost use lib.ListN.{length, take, getD};
-ghost use Rattle.laws.specs.Lists.{splice};
 ghost use Rattle.hmac.specs.Hmac.{keyOf};
 ghost use Rattle.rules.specs.Chain.{Held, held, keyOfSlot};
 ghost use Rattle.rules.specs.Tags.{entryAt};
@@ -78,10 +76,8 @@ fn judge_entry(c: Chain, key: HmacKey, waiting: &[u8], k: usize) -> u8
     let t = waiting::entry_tag(waiting, k);
     let mut set = [0u8; 69];
     waiting::copy_set(waiting, k, &mut set);
-    if macs::tag_matches(c.ms, key, false, t, &set) {
-        return 1;
-    }
-    2
+    let matches = macs::tag_matches(c.ms, key, false, t, &set);
+    tags::outcome_number(tags::judged(matches))
 }
 
 // The outcome of entry k once the tags of slot m are judged: where its slot is another, the one it had.

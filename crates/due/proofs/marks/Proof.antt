@@ -1,11 +1,9 @@
 -- `due::marks` meets its contract: the tests are the definition's own, and a time has room for its stamp.
 -- Assumes nothing.
-use mathlib.Core.Path.{_≡_, sym, _∙_}
-use mathlib.Core.Bool.{true}
+use mathlib.Core.Path.{sym, _∙_}
 use native.Mathlib.Omega.{arith}
 use borrow.Author.Needs.{needs}
 use borrow.Author.Tests.{eq-eqb, ne-eqb}
-use Rattle.rules.specs.Times.{timeValid}
 use Rattle.checks.proofs.Faults.{true-false, prn-low, prn-high, prn-in, time-small}
 use Rattle.due.specs.Swept as S
 use Rattle.due.proofs.marks.Statement.{statement}

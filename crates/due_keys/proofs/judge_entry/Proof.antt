@@ -1,6 +1,6 @@
 -- `due_keys::judge_entry` meets its contract: the test is the definition's own.
 -- Assumes nothing.
-use mathlib.Core.Path.{sym, _∙_}
+use mathlib.Core.Path.{_∙_}
 use denote.Ref.{now}
 use Rattle.rules.specs.Chain.{keyOfSlot}
 use Rattle.rules.specs.Tags.{entryAt}
@@ -13,28 +13,17 @@ use Rattle.due_keys.proofs.judge_entry.Tie as tie
 returns : tie.Need-returns
 unfolding matchOutcome
 returns c h e =
-    let m = c .before in
+    let j = c .before in
+    let m = j .before in
     let s = m .before .before .before in
     let t = s .before .before in
     let g = t .before .before .args in
     let x = entryAt (now (g .waiting)) (g .k) in
     let r = matches-is (g .c) h x (s .copy-set .last .1 .1 .0) (t .entry-tag .result) (m .tag-matches .result) (t .entry-tag .ensures) (s .copy-set .ensures)
     (m .tag-matches .ensures (keyOfSlot (g .c) h (entrySlot (g .c) x)) e) in
-    rw (sym r ∙ c .if1 .taken)
-
-returns-2 : tie.Need-returns-2
-unfolding matchOutcome
-returns-2 c h e =
-    let m = c .before in
-    let s = m .before .before .before in
-    let t = s .before .before in
-    let g = t .before .before .args in
-    let x = entryAt (now (g .waiting)) (g .k) in
-    let r = matches-is (g .c) h x (s .copy-set .last .1 .1 .0) (t .entry-tag .result) (m .tag-matches .result) (t .entry-tag .ensures) (s .copy-set .ensures)
-    (m .tag-matches .ensures (keyOfSlot (g .c) h (entrySlot (g .c) x)) e) in
-    rw (sym r ∙ c .if1 .left)
+    c .outcome-number .ensures ∙ j .judged .ensures ∙ rw r
 
 pub judge-entry-spec : {M : Type 1} → statement M
 judge-entry-spec =
     tie.close
-    (tie.spec (λ c κs. search needs) (λ c. search needs) (λ c κs. search needs) (λ c. search needs) (λ c κs. search needs) returns returns-2)
+    (tie.spec (λ c κs. search needs) (λ c. search needs) (λ c κs. search needs) (λ c. search needs) (λ c κs. search needs) (λ c κs. search needs) (λ c κs. search needs) returns)

@@ -1,9 +1,8 @@
 -- `due_keys::next_below` meets its contract: after k turns none of the first k slots below the bound is above the best.
 -- Assumes nothing.
-use mathlib.Core.Path.{_≡_}
 use Prim.Native.Nat.{ℕ, _-_, _≤_, _<_}
 use native.Mathlib.Omega.{arith}
-use lib.ListN.{length, getD}
+use lib.ListN.{getD}
 use denote.Ref.{now}
 use Rattle.due_keys.proofs.Falling.{best-one}
 use borrow.Author.Needs.{needs}

@@ -1,12 +1,12 @@
 -- `due_keys::outcomes` meets its contract: at each turn the tags above slot m are judged, and the key of slot `at` is at hand.
 -- Assumes nothing.
 use mathlib.Core.Path.{_≡_, refl}
-use Prim.Native.Nat.{ℕ, _+_, _≤_}
+use Prim.Native.Nat.{_+_, _≤_}
 use native.Mathlib.Omega.{arith}
 use lib.ListN.{length, take, replicate, getD-replicate}
 use denote.Ref.{now}
 use Rattle.rules.specs.Chain.{held, keyOfSlot}
-use Rattle.due_keys.specs.Outcomes.{Slots, JudgedAbove}
+use Rattle.due_keys.specs.Outcomes.{JudgedAbove}
 use Rattle.due_keys.proofs.Falling.{key-held, by-slots, none-above, next-above, all-judged}
 use borrow.Author.Needs.{needs}
 use Rattle.due_keys.proofs.outcomes.Statement.{statement}
