@@ -28,8 +28,8 @@ pub start-asks-nothing : (κs : Lfts 19) (args : Dens κs start-kinds.ps) → st
 start-asks-nothing κs args = tt
 
 abbrev start-rule : (κs : Lfts 19) (args : Dens κs start-kinds.ps) (r : ℕ) (last : AtExit (endedOf 19 start-kinds.ps start-kinds.r) κs) → Type 0
-start-rule κs (config, (clocks, (words, (stamps, (blocks, (headers, (marks, (since, (keys, (offer, (chain, (numbers, (key, (waiting, (sets, (arrivals, (ns, (id, (kind, (maclt, (adkds, (root, (first_key, _))))))))))))))))))))))) r (config′, (clocks′, (words′, (stamps′, (blocks′, (headers′, (marks′, (since′, (keys′, (offer′, (chain′, (numbers′, (key′, (waiting′, (sets′, (arrivals′, (_, (_, (_, (_, (_, (_, (_, _))))))))))))))))))))))) =
-    told r (state (now config′) (now clocks′) (now words′) (now stamps′) (now blocks′) (now headers′) (now marks′) (now since′) (now keys′) (now offer′) (now chain′) (now numbers′) (now key′) (now waiting′) (now sets′) (now arrivals′)) ≡ startCall (state (now config) (now clocks) (now words) (now stamps) (now blocks) (now headers) (now marks) (now since) (now keys) (now offer) (now chain) (now numbers) (now key) (now waiting) (now sets) (now arrivals)) (record { ns = ns; id = id; type = kind; maclt = maclt; marks = now adkds; root = now root; key = now first_key })
+start-rule κs (config, (clocks, (words, (stamps, (blocks, (headers, (marks, (since, (keys, (offer, (chain, (numbers, (key, (waiting, (sets, (arrivals, (ns, (id, (kind, (maclt, (adkds, (root, (public, _))))))))))))))))))))))) r (config′, (clocks′, (words′, (stamps′, (blocks′, (headers′, (marks′, (since′, (keys′, (offer′, (chain′, (numbers′, (key′, (waiting′, (sets′, (arrivals′, (_, (_, (_, (_, (_, (_, (_, _))))))))))))))))))))))) =
+    told r (state (now config′) (now clocks′) (now words′) (now stamps′) (now blocks′) (now headers′) (now marks′) (now since′) (now keys′) (now offer′) (now chain′) (now numbers′) (now key′) (now waiting′) (now sets′) (now arrivals′)) ≡ startCall (state (now config) (now clocks) (now words) (now stamps) (now blocks) (now headers) (now marks) (now since) (now keys) (now offer) (now chain) (now numbers) (now key) (now waiting) (now sets) (now arrivals)) (record { ns = ns; id = id; type = kind; maclt = maclt; marks = now adkds; root = now root; key = now public })
 
 pub start-is : (κs : Lfts 19) (args : Dens κs start-kinds.ps) (r : ℕ) (last : AtExit (endedOf 19 start-kinds.ps start-kinds.r) κs) → start-reads.Learnt κs args r last → start-rule κs args r last
 start-is κs args r last d = d

@@ -7,7 +7,6 @@ use lib.Dec.{leb, ltb, eqb}
 use borrow.Author.Tests.{lt-ltb, le-ltb, le-leb, lt-leb, leb-true, ltb-true, ltb-false}
 use native.Mathlib.Omega.{arith}
 use Rattle.laws.proofs.Tests.{and-left, and-true}
-pub use Rattle.laws.proofs.Tests.{true-false, both-true}
 use Rattle.rules.specs.Bits.{allOf}
 use Rattle.rules.specs.State.{prnValid}
 use Rattle.rules.specs.Times.{timeValid, secondOf, stampOf}

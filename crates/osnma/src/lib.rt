@@ -33,9 +33,9 @@ pub extern "C" fn osnma_regions_start(
     maclt: u8,
     adkds: &[u8],
     root: &[u8],
-    first_key: &[u8],
+    public: &[u8],
 ) -> u32
-    ensures { λ r. ⌜ told r (state (now (config .exit)) (now (clocks .exit)) (now (words .exit)) (now (stamps .exit)) (now (blocks .exit)) (now (headers .exit)) (now (marks .exit)) (now (since .exit)) (now (keys .exit)) (now (offer .exit)) (now (chain .exit)) (now (numbers .exit)) (now (key .exit)) (now (waiting .exit)) (now (sets .exit)) (now (arrivals .exit))) ≡ startCall (state (now (config .entry)) (now (clocks .entry)) (now (words .entry)) (now (stamps .entry)) (now (blocks .entry)) (now (headers .entry)) (now (marks .entry)) (now (since .entry)) (now (keys .entry)) (now (offer .entry)) (now (chain .entry)) (now (numbers .entry)) (now (key .entry)) (now (waiting .entry)) (now (sets .entry)) (now (arrivals .entry))) (record { ns = ns; id = id; type = kind; maclt = maclt; marks = now (adkds .entry); root = now (root .entry); key = now (first_key .entry) }) ⌝ }
+    ensures { λ r. ⌜ told r (state (now (config .exit)) (now (clocks .exit)) (now (words .exit)) (now (stamps .exit)) (now (blocks .exit)) (now (headers .exit)) (now (marks .exit)) (now (since .exit)) (now (keys .exit)) (now (offer .exit)) (now (chain .exit)) (now (numbers .exit)) (now (key .exit)) (now (waiting .exit)) (now (sets .exit)) (now (arrivals .exit))) ≡ startCall (state (now (config .entry)) (now (clocks .entry)) (now (words .entry)) (now (stamps .entry)) (now (blocks .entry)) (now (headers .entry)) (now (marks .entry)) (now (since .entry)) (now (keys .entry)) (now (offer .entry)) (now (chain .entry)) (now (numbers .entry)) (now (key .entry)) (now (waiting .entry)) (now (sets .entry)) (now (arrivals .entry))) (record { ns = ns; id = id; type = kind; maclt = maclt; marks = now (adkds .entry); root = now (root .entry); key = now (public .entry) }) ⌝ }
 {
     core_start::start(
         config,
@@ -60,7 +60,7 @@ pub extern "C" fn osnma_regions_start(
         maclt,
         adkds,
         root,
-        first_key,
+        public,
     )
 }
 

@@ -1,7 +1,7 @@
 -- `core_start::marks_unfit` meets its contract. Assumes nothing.
 use borrow.Author.Needs.{needs}
 use borrow.Author.Tests.{eq-eqb, ne-eqb}
-use Rattle.checks.proofs.Faults.{or-false}
+use Rattle.laws.proofs.Tests.{or-false}
 use Rattle.core_start.proofs.marks_unfit.Statement.{statement}
 use Rattle.core_start.proofs.marks_unfit.Tie as tie
 

@@ -3,7 +3,7 @@
 use borrow.Author.Needs.{needs}
 use borrow.Author.Tests.{lt-ltb, le-ltb, le-leb, lt-leb}
 use native.Mathlib.Omega.{arith}
-use Rattle.checks.proofs.Faults.{true-false}
+use Rattle.laws.proofs.Tests.{true-false}
 use Rattle.rules.specs.Calls.{startUnfit}
 use Rattle.core_start.proofs.start_unfit.Statement.{statement}
 use Rattle.core_start.proofs.start_unfit.Tie as tie

@@ -4,7 +4,8 @@ use mathlib.Core.Path.{sym, _∙_}
 use native.Mathlib.Omega.{arith}
 use borrow.Author.Needs.{needs}
 use borrow.Author.Tests.{eq-eqb, ne-eqb}
-use Rattle.checks.proofs.Faults.{true-false, prn-low, prn-high, prn-in, time-small}
+use Rattle.laws.proofs.Tests.{true-false}
+use Rattle.checks.proofs.Faults.{prn-low, prn-high, prn-in, time-small}
 use Rattle.due.specs.Swept as S
 use Rattle.due.proofs.marks.Statement.{statement}
 use Rattle.due.proofs.marks.Tie as tie
