@@ -4,7 +4,13 @@
 use std::path::{Path, PathBuf};
 use std::process::{exit, Command, Stdio};
 
-const LIBRARIES: [&str; 3] = ["leaf_edge", "chain_edge", "tag_edge"];
+const LIBRARIES: [&str; 5] = [
+    "leaf_edge",
+    "message_edge",
+    "chain_edge",
+    "tag_edge",
+    "field_edge",
+];
 
 const OPENSSL: &str = "
 #include <openssl/sha.h>

@@ -9,8 +9,10 @@ use denote.Triple.Clauses.{AtExit}
 use denote.Ref.{now}
 use Rattle.checks.specs.Told.{told}
 use Rattle.core_reads.specs.Reads.{setTold, offerTold}
-use Rattle.rules.specs.Calls.{wordCall, verdictCall, setRead, offerRead}
+use Rattle.rules.specs.Calls.{startCall, wordCall, verdictCall, setRead, offerRead}
 use Rattle.rules.specs.State.{state}
+use Rattle.osnma.proofs.osnma_regions_start.Reads as start-reads
+use Rattle.osnma.proofs.osnma_regions_start.Kinds as start-kinds
 use Rattle.osnma.proofs.osnma_regions_word.Reads as word-reads
 use Rattle.osnma.proofs.osnma_regions_word.Kinds as word-kinds
 use Rattle.osnma.proofs.osnma_regions_verdict.Reads as verdict-reads
@@ -19,6 +21,21 @@ use Rattle.osnma.proofs.osnma_regions_read_set.Reads as read-set-reads
 use Rattle.osnma.proofs.osnma_regions_read_set.Kinds as read-set-kinds
 use Rattle.osnma.proofs.osnma_regions_read_message.Reads as read-message-reads
 use Rattle.osnma.proofs.osnma_regions_read_message.Kinds as read-message-kinds
+
+-- ---- start: told by its number and all sixteen regions at exit
+
+pub start-asks-nothing : (κs : Lfts 19) (args : Dens κs start-kinds.ps) → start-reads.Asked κs args
+start-asks-nothing κs args = tt
+
+abbrev start-rule : (κs : Lfts 19) (args : Dens κs start-kinds.ps) (r : ℕ) (last : AtExit (endedOf 19 start-kinds.ps start-kinds.r) κs) → Type 0
+start-rule κs (config, (clocks, (words, (stamps, (blocks, (headers, (marks, (since, (keys, (offer, (chain, (numbers, (key, (waiting, (sets, (arrivals, (ns, (id, (kind, (maclt, (adkds, (root, (public, _))))))))))))))))))))))) r (config′, (clocks′, (words′, (stamps′, (blocks′, (headers′, (marks′, (since′, (keys′, (offer′, (chain′, (numbers′, (key′, (waiting′, (sets′, (arrivals′, (_, (_, (_, (_, (_, (_, (_, _))))))))))))))))))))))) =
+    told r (state (now config′) (now clocks′) (now words′) (now stamps′) (now blocks′) (now headers′) (now marks′) (now since′) (now keys′) (now offer′) (now chain′) (now numbers′) (now key′) (now waiting′) (now sets′) (now arrivals′)) ≡ startCall (state (now config) (now clocks) (now words) (now stamps) (now blocks) (now headers) (now marks) (now since) (now keys) (now offer) (now chain) (now numbers) (now key) (now waiting) (now sets) (now arrivals)) (record { ns = ns; id = id; type = kind; maclt = maclt; marks = now adkds; root = now root; key = now public })
+
+pub start-is : (κs : Lfts 19) (args : Dens κs start-kinds.ps) (r : ℕ) (last : AtExit (endedOf 19 start-kinds.ps start-kinds.r) κs) → start-reads.Learnt κs args r last → start-rule κs args r last
+start-is κs args r last d = d
+
+pub start-only : (κs : Lfts 19) (args : Dens κs start-kinds.ps) (r : ℕ) (last : AtExit (endedOf 19 start-kinds.ps start-kinds.r) κs) → start-rule κs args r last → start-reads.Learnt κs args r last
+start-only κs args r last d = d
 
 -- ---- word: the clocks, words and stamps at exit; the other regions are lent to be read only
 

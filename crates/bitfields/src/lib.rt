@@ -1,10 +1,16 @@
 // Bit fields of byte strings (01: "high byte first; bit 0 is the most significant").
 // A field is read by whole bytes and then shifted and masked.
+// Public calls:
+//   bits_at, field_at, number, byte_at   a field as a number
+//   bytes_to, bytes_at                   bytes from any bit on
+//   block_bits                           bits of a MACK block
+//   wide, low, index                     a number in a wider type
 ghost use mathlib.Core.Path.{_≡_};
 ghost use Prim.Native.Nat.{_+_, _*_, _≤_, _<_, _^_};
 ghost use lib.ListN.{length, getD};
 ghost use Rattle.laws.specs.Lists.{splice};
 ghost use Rattle.rules.specs.Bits.{bits, bytesAt};
+ghost use Rattle.rules.specs.Kroot.{blockBits};
 
 // The number in the n bits from bit `at` on, at most 56.
 pub fn bits_at(s: &[u8], at: usize, n: usize) -> u64
@@ -40,12 +46,6 @@ pub fn number(s: &[u8], first: usize, n: usize) -> u64
     v
 }
 
-fn wide(x: u8) -> u64
-    ensures { λ r. ⌜ (r ≡ x) × (r < 256) ⌝ }
-{
-    x as u64
-}
-
 // The byte from bit r of place k on.
 pub fn byte_at(s: &[u8], k: usize, r: usize) -> u8
     requires { ⌜ (8 * k + r + 8 ≤ 8 * length (now s)) × (r < 8) ⌝ }
@@ -78,4 +78,39 @@ pub fn bytes_at(s: &[u8], at: usize, n: usize, out: &mut [u8])
     ensures { λ _. ⌜ now (out .exit) ≡ splice (now (out .entry)) 0 (bytesAt (now (s .entry)) at n) ⌝ }
 {
     bytes_to(s, at, n, out, 0);
+}
+
+// ---- blocks of a MACK section
+
+// Bits of a block: 60/NMACK bytes.
+pub fn block_bits(nmack: u64) -> u64
+    ensures { λ r. ⌜ r ≡ blockBits nmack ⌝ }
+{
+    if nmack == 3 {
+        return 160;
+    }
+    if nmack == 2 {
+        return 240;
+    }
+    480
+}
+
+// ---- numbers in a wider type
+
+pub fn wide(x: u8) -> u64
+    ensures { λ r. ⌜ (r ≡ x) × (r < 256) ⌝ }
+{
+    x as u64
+}
+
+pub fn low(x: u32) -> u64
+    ensures { λ r. ⌜ (r ≡ x) × (r < 4294967296) ⌝ }
+{
+    x as u64
+}
+
+pub fn index(x: u8) -> usize
+    ensures { λ r. ⌜ (r ≡ x) × (r < 256) ⌝ }
+{
+    x as usize
 }

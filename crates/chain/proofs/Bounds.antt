@@ -1,15 +1,16 @@
 -- The slots of keys and tags are below 2 ^ 34, and the chain of accepted parameters is sound.
 -- Assumes nothing.
 use mathlib.Core.Path.{_≡_, refl}
-use mathlib.Core.Bool.{Bool, true, false, _&&_, _||_}
+use mathlib.Core.Bool.{false}
 use mathlib.Core.List.{List, [], _∷_}
 use Prim.Native.Nat.{ℕ, zero, suc, _+_, _-_, _*_, _/_, _%_, _^_, _≤_, _<_}
 use native.Mathlib.Omega.{arith}
 use native.Mathlib.Nat.{mul-le-mul, mod-lt}
-use lib.Dec.{T, leb, ltb, eqb}
-use lib.ListN.{getD}
-use borrow.Author.Tests.{leb-true, ltb-false, eqb-false}
+use lib.Dec.{T, ltb, eqb}
+use borrow.Author.Tests.{ltb-false, eqb-false}
 use Rattle.laws.specs.Refusal.{neb}
+use Rattle.laws.proofs.Table.{table-range}
+use Rattle.laws.proofs.Tests.{neither}
 use Rattle.bitfields.proofs.Fields.{bits-lt}
 use Rattle.gst.proofs.Times.{seconds-bound, delay-bound, hour-bound}
 use Rattle.rules.specs.Bits.{bits}
@@ -45,51 +46,27 @@ tag-bound c g b adkd w h k =
 
 -- ---- a chain in force
 
-either-false : (a b : Bool) → a || b ≡ false → (a ≡ false) × (b ≡ false)
-either-false true b e = let z : _≡_ {A = ℕ} 0 1 = cc in absurd (omega arith)
-either-false false b e = (refl, e)
-
--- every entry of a table lies in a range
-abbrev inRange : ℕ → ℕ → List ℕ → Bool
-inRange low high [] = true
-inRange low high (x ∷ xs) = (leb low x && leb x high) && inRange low high xs
-
-both-true : (a b : Bool) → T (a && b) → T a × T b
-both-true true b t = (tt, t)
-both-true false b t = absurd t
-
-holds : (a : Bool) → T a → a ≡ true
-holds true t = refl
-holds false t = absurd t
-
-entry : (low high d : ℕ) (l : List ℕ) (i : ℕ) → low ≤ d → d ≤ high → T (inRange low high l) → (low ≤ getD l i d) × (getD l i d ≤ high)
-entry low high d [] i g h t = (g, h)
-entry low high d (x ∷ xs) zero g h t =
-    let e = both-true (leb low x) (leb x high) ((both-true (leb low x && leb x high) (inRange low high xs) t) .0) in
-    (leb-true low x (holds (leb low x) (e .0)), leb-true x high (holds (leb x high) (e .1)))
-entry low high d (x ∷ xs) (suc i) g h t = entry low high d xs i g h ((both-true (leb low x && leb x high) (inRange low high xs) t) .1)
-
 key-widths : (code : ℕ) → (12 ≤ K.keyWidth code) × (K.keyWidth code ≤ 32)
 unfolding K.keyWidth
-key-widths code = entry 12 32 32 (12 ∷ 13 ∷ 14 ∷ 15 ∷ 16 ∷ 20 ∷ 24 ∷ 28 ∷ 32 ∷ []) code (omega arith) (omega arith) tt
+key-widths code = table-range 12 32 32 (12 ∷ 13 ∷ 14 ∷ 15 ∷ 16 ∷ 20 ∷ 24 ∷ 28 ∷ 32 ∷ []) tt (omega arith) (omega arith) code
 
 tag-widths : (code : ℕ) → K.tagWidth code ≤ 40
 unfolding K.tagWidth
-tag-widths code = (entry 10 40 40 (10 ∷ 12 ∷ 14 ∷ 16 ∷ 18 ∷ 20 ∷ 24 ∷ 28 ∷ 32 ∷ 40 ∷ []) code (omega arith) (omega arith) tt) .1
+tag-widths code = table-range 10 40 40 (10 ∷ 12 ∷ 14 ∷ 16 ∷ 18 ∷ 20 ∷ 24 ∷ 28 ∷ 32 ∷ 40 ∷ []) tt (omega arith) (omega arith) code .1
 
 -- parameters that are not bad: NMACK is not 0, and a block holds a field and the key
 params-good : (maclt : ℕ) (d : List ℕ) → K.parametersBad maclt d ≡ false
     → (K.nmackOf d ≡ 0 → ⊥) × (8 * K.keyWidth (K.ksOf d) + K.tagWidth (K.msOf d) + 16 ≤ K.blockBits (K.nmackOf d))
 unfolding K.parametersBad
 params-good maclt d e =
-    let e1 = either-false (neb (K.hfOf d) 0) _ e in
-    let e2 = either-false (neb (K.mfOf d) 0) _ (e1 .1) in
-    let e3 = either-false (neb (K.moOf d) 0) _ (e2 .1) in
-    let e4 = either-false (eqb (K.nmackOf d) 0) _ (e3 .1) in
-    let e5 = either-false (ltb 8 (K.ksOf d)) _ (e4 .1) in
-    let e6 = either-false (ltb 9 (K.msOf d)) _ (e5 .1) in
-    let e7 = either-false (neb (K.macltFieldOf d) maclt) _ (e6 .1) in
-    let e8 = either-false (ltb (K.blockBits (K.nmackOf d)) (8 * K.keyWidth (K.ksOf d) + K.tagWidth (K.msOf d) + 16)) _ (e7 .1) in
+    let e1 = neither (neb (K.hfOf d) 0) _ e in
+    let e2 = neither (neb (K.mfOf d) 0) _ (e1 .1) in
+    let e3 = neither (neb (K.moOf d) 0) _ (e2 .1) in
+    let e4 = neither (eqb (K.nmackOf d) 0) _ (e3 .1) in
+    let e5 = neither (ltb 8 (K.ksOf d)) _ (e4 .1) in
+    let e6 = neither (ltb 9 (K.msOf d)) _ (e5 .1) in
+    let e7 = neither (neb (K.macltFieldOf d) maclt) _ (e6 .1) in
+    let e8 = neither (ltb (K.blockBits (K.nmackOf d)) (8 * K.keyWidth (K.ksOf d) + K.tagWidth (K.msOf d) + 16)) _ (e7 .1) in
     (eqb-false _ _ (e4 .0), ltb-false _ _ (e8 .0))
 
 nmack-below : (d : List ℕ) → K.nmackOf d < 4

@@ -1,7 +1,7 @@
 -- The first check that fails gives 1 and leaves the key; where none does, the numbers are in range.
 -- Assumes nothing.
-use mathlib.Core.Path.{_≡_, refl, sym, _∙_}
-use mathlib.Core.Bool.{Bool, true, false, cond, not, _&&_}
+use mathlib.Core.Path.{_≡_, sym, _∙_}
+use mathlib.Core.Bool.{Bool, true, false, cond, not}
 use mathlib.Core.Logic.{⊎-elim}
 use mathlib.Core.List.{List}
 use Prim.Native.Nat.{ℕ, _+_, _-_, _^_, _≤_, _<_}
@@ -12,6 +12,7 @@ use borrow.Author.Tests.{leb-true, lt-leb, le-leb}
 use Rattle.laws.specs.Lists.{splice}
 use Rattle.laws.specs.Refusal.{firstOf}
 use Rattle.laws.proofs.Splice.{below?}
+use Rattle.laws.proofs.Tests.{and-left, and-right}
 use Rattle.rules.specs.Bits.{within}
 use Rattle.rules.specs.Chain as S
 use Rattle.rules.specs.declared.Chain.{Chain}
@@ -28,14 +29,8 @@ pub refused : (c : Chain) (n m : ℕ) (key : List ℕ) → firstOf (walkChecks (
 unfolding osnmaWalk
 refused c n m key e = rw e
 
-both : (a b : Bool) → a && b ≡ true → (a ≡ true) × (b ≡ true)
-both true b e = (refl, e)
-both false b e = let z : _≡_ {A = ℕ} 0 1 = cc in absurd (omega arith)
-
 between : (low high x : ℕ) → within low high x ≡ true → (low ≤ x) × (x ≤ high)
-between low high x e =
-    let p = both (leb low x) (leb x high) e in
-    (leb-true low x (p .0), leb-true x high (p .1))
+between low high x e = (leb-true low x (and-left (leb low x) (leb x high) e), leb-true x high (and-right (leb low x) (leb x high) e))
 
 -- a sum compared without being made
 pub without-sum : (n m : ℕ) → m ≤ 2 ^ 34 → leb n (2 ^ 34 - m) ≡ leb (m + n) (2 ^ 34)

@@ -1,33 +1,15 @@
 -- Laws that the checks of the calls share: ranges as tests, and joined tests. Assumes nothing.
-use mathlib.Core.Path.{_≡_, refl, ap, sym, subst, _∙_}
-use mathlib.Core.Bool.{Bool, true, false, not, _&&_, _||_}
-use mathlib.Core.List.{List, [], _∷_}
+use mathlib.Core.Path.{_≡_, refl, ap, sym, _∙_}
+use mathlib.Core.Bool.{Bool, true, false, _&&_}
+use mathlib.Core.List.{[], _∷_}
 use Prim.Native.Nat.{ℕ, _+_, _-_, _%_, _^_, _≤_, _<_}
-use lib.Dec.{T, leb, ltb, eqb}
+use lib.Dec.{leb, ltb, eqb}
 use borrow.Author.Tests.{lt-ltb, le-ltb, le-leb, lt-leb, leb-true, ltb-true, ltb-false}
 use native.Mathlib.Omega.{arith}
+use Rattle.laws.proofs.Tests.{and-left, and-true}
 use Rattle.rules.specs.Bits.{allOf}
 use Rattle.rules.specs.State.{prnValid}
 use Rattle.rules.specs.Times.{timeValid, secondOf, stampOf}
-
--- a test cannot be both
-pub true-false : {A : Type 0} → true ≡ false → A
-true-false e = absurd (subst (λ (b : Bool). T b) e tt)
-
-pub and-left : (a b : Bool) → (a && b) ≡ true → a ≡ true
-and-left true b e = refl
-and-left false b e = e
-
-pub both-true : (a b : Bool) → a ≡ true → b ≡ true → (a && b) ≡ true
-both-true a b e f = rw (e, f)
-
-pub or-false : (a : Bool) → (a || false) ≡ a
-or-false true = refl
-or-false false = refl
-
-and-true : (a : Bool) → (a && true) ≡ a
-and-true true = refl
-and-true false = refl
 
 -- ---- ranges
 

@@ -1,19 +1,15 @@
 -- What the test of the lent lengths says. Assumes nothing.
-use mathlib.Core.Path.{_≡_, refl, sym}
-use mathlib.Core.Bool.{Bool, true, false, _&&_}
+use mathlib.Core.Path.{_≡_, refl}
+use mathlib.Core.Bool.{Bool, true}
 use mathlib.Core.List.{List, [], _∷_}
 use Prim.Native.Nat.{ℕ, zero, suc}
 use lib.Dec.{eqb}
 use lib.ListN.{getD, length}
 use borrow.Author.Tests.{eqb-true}
+use Rattle.laws.proofs.Tests.{and-left, and-right}
 use Rattle.rules.specs.Bits.{allOf}
 use Rattle.rules.specs.State.{State, shaped}
 use Rattle.checks.specs.Lengths.{Lengths}
-use Rattle.checks.proofs.Faults.{and-left, true-false}
-
-and-right : (a b : Bool) → (a && b) ≡ true → b ≡ true
-and-right true b e = e
-and-right false b e = true-false (sym e)
 
 -- each of the tests holds
 test-at : (bs : List Bool) → allOf bs ≡ true → (i : ℕ) → getD bs i true ≡ true

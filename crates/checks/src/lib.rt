@@ -20,13 +20,13 @@ ghost use Rattle.rules.specs.Calls.{wordUnfit, wordChecks};
 pub fn both(a: bool, b: bool) -> bool
     ensures { λ r. ⌜ r ≡ (a && b) ⌝ }
 {
-    if a { b } else { false }
+    bools::both(a, b)
 }
 
 fn four(a: bool, b: bool, c: bool, d: bool) -> bool
     ensures { λ r. ⌜ r ≡ (a && (b && (c && d))) ⌝ }
 {
-    both(a, both(b, both(c, d)))
+    bools::both(a, bools::both(b, bools::both(c, d)))
 }
 
 // Every region has its length.

@@ -12,21 +12,21 @@ use Rattle.rules.specs.Keys.{keyType, keyBytes}
 use Rattle.rules.specs.Kroot.{offerWaits, offerId, offerMessage, offerSignature}
 use Rattle.rules.specs.State.{State, shaped, prnValid}
 use Rattle.rules.specs.Words.{setIssue}
-use Rattle.core_reads.proofs.Lengths.{left-false, right-false}
 use Rattle.core_reads.specs.Reads.{setTold, offerTold}
 
 -- ---- a set
 
 module _ (s : State) (prn : ℕ) (out : List ℕ) where
-  set-misfit : (shaped s && eqb (length out) 69) ≡ false → setTold 1 out 0 0 ≡ setRead s prn out
-  unfolding setRead setReadChecks
-  set-misfit e = rw e
-
   pub set-unshaped : shaped s ≡ false → setTold 1 out 0 0 ≡ setRead s prn out
-  set-unshaped e = set-misfit (left-false (shaped s) (eqb (length out) 69) e)
+  unfolding setRead setReadChecks
+  set-unshaped e = rw e
 
-  pub out-misfit : (length out ≡ 69 → ⊥) → setTold 1 out 0 0 ≡ setRead s prn out
-  out-misfit h = set-misfit (right-false (shaped s) (eqb (length out) 69) (ne-eqb (length out) 69 h))
+  pub out-misfit : shaped s ≡ true → (length out ≡ 69 → ⊥) → setTold 1 out 0 0 ≡ setRead s prn out
+  unfolding setRead setReadChecks
+  out-misfit h q = rw (h, ne-eqb (length out) 69 q)
+
+  pub set-lengths : shaped s ≡ true → length out ≡ 69 → (shaped s && eqb (length out) 69) ≡ true
+  set-lengths h l = rw (h, eq-eqb (length out) 69 l)
 
   pub set-unheard : (shaped s && eqb (length out) 69) ≡ true → prnValid prn ≡ false → setTold 2 out 0 0 ≡ setRead s prn out
   unfolding setRead setReadChecks
@@ -46,32 +46,27 @@ module _ (s : State) (prn : ℕ) (out : List ℕ) where
 -- ---- what waits
 
 module _ (s : State) (message signature key : List ℕ) where
-  offer-misfit : (shaped s && (eqb (length message) 45 && (eqb (length signature) 132 && eqb (length key) 67))) ≡ false
-      → offerTold 1 message signature key 0 0 ≡ offerRead s message signature key
-  unfolding offerRead offerReadChecks
-  offer-misfit e = rw e
-
-  lent-misfit : (eqb (length message) 45 && (eqb (length signature) 132 && eqb (length key) 67)) ≡ false
-      → offerTold 1 message signature key 0 0 ≡ offerRead s message signature key
-  lent-misfit e = offer-misfit (right-false (shaped s) (eqb (length message) 45 && (eqb (length signature) 132 && eqb (length key) 67)) e)
-
   pub offer-unshaped : shaped s ≡ false → offerTold 1 message signature key 0 0 ≡ offerRead s message signature key
-  offer-unshaped e = offer-misfit (left-false (shaped s) (eqb (length message) 45 && (eqb (length signature) 132 && eqb (length key) 67)) e)
+  unfolding offerRead offerReadChecks
+  offer-unshaped e = rw e
 
-  pub message-misfit : (length message ≡ 45 → ⊥) → offerTold 1 message signature key 0 0 ≡ offerRead s message signature key
-  message-misfit h = lent-misfit (left-false (eqb (length message) 45) (eqb (length signature) 132 && eqb (length key) 67) (ne-eqb (length message) 45 h))
+  module _ (h : shaped s ≡ true) where
+    pub message-misfit : (length message ≡ 45 → ⊥) → offerTold 1 message signature key 0 0 ≡ offerRead s message signature key
+    unfolding offerRead offerReadChecks
+    message-misfit q = rw (h, ne-eqb (length message) 45 q)
 
-  pub signature-misfit : (length signature ≡ 132 → ⊥) → offerTold 1 message signature key 0 0 ≡ offerRead s message signature key
-  signature-misfit h =
-      lent-misfit
-      (right-false (eqb (length message) 45) (eqb (length signature) 132 && eqb (length key) 67)
-      (left-false (eqb (length signature) 132) (eqb (length key) 67) (ne-eqb (length signature) 132 h)))
+    pub signature-misfit : length message ≡ 45 → (length signature ≡ 132 → ⊥) → offerTold 1 message signature key 0 0 ≡ offerRead s message signature key
+    unfolding offerRead offerReadChecks
+    signature-misfit lm q = rw (h, eq-eqb (length message) 45 lm, ne-eqb (length signature) 132 q)
 
-  pub key-misfit : (length key ≡ 67 → ⊥) → offerTold 1 message signature key 0 0 ≡ offerRead s message signature key
-  key-misfit h =
-      lent-misfit
-      (right-false (eqb (length message) 45) (eqb (length signature) 132 && eqb (length key) 67)
-      (right-false (eqb (length signature) 132) (eqb (length key) 67) (ne-eqb (length key) 67 h)))
+    pub key-misfit : length message ≡ 45 → length signature ≡ 132 → (length key ≡ 67 → ⊥)
+        → offerTold 1 message signature key 0 0 ≡ offerRead s message signature key
+    unfolding offerRead offerReadChecks
+    key-misfit lm ls q = rw (h, eq-eqb (length message) 45 lm, eq-eqb (length signature) 132 ls, ne-eqb (length key) 67 q)
+
+    pub offer-lengths : length message ≡ 45 → length signature ≡ 132 → length key ≡ 67
+        → (shaped s && (eqb (length message) 45 && (eqb (length signature) 132 && eqb (length key) 67))) ≡ true
+    offer-lengths lm ls lk = rw (h, eq-eqb (length message) 45 lm, eq-eqb (length signature) 132 ls, eq-eqb (length key) 67 lk)
 
   -- past the check of lengths
   module _ (keys offer : List ℕ) (ek : s .keys ≡ keys) (eo : s .offer ≡ offer)

@@ -1,3 +1,2 @@
 -- Laws of the reads.
-mod Lengths
 mod Answers

@@ -1,4 +1,3 @@
 -- Laws of a verdict's effects.
-mod Lengths
 mod Regions
 mod Effects

@@ -7,7 +7,7 @@ use Rattle.rules.specs.State.{State, Tesla}
 abbrev pub tesla : List ℕ → List ℕ → List ℕ → Tesla
 tesla numbers key waiting = record { numbers = numbers; key = key; waiting = waiting }
 
--- the state s with these regions in their places
+-- the state s with these regions in their places: for any s a state that has them
 abbrev pub trusted : State → List ℕ → List ℕ → List ℕ → Tesla → State
 trusted s keys offer chain tesla =
     record {

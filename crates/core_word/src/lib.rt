@@ -59,7 +59,15 @@ pub fn word(
     if bytes.len() != 16 {
         return 1;
     }
-    take_word(config, clocks, words, stamps, wide(prn), time, bytes)
+    take_word(
+        config,
+        clocks,
+        words,
+        stamps,
+        bitfields::index(prn),
+        time,
+        bytes,
+    )
 }
 
 // A word whose lengths are right: the clock of its satellite, the word and its stamp are written, or nothing is.
@@ -89,11 +97,4 @@ fn take_word(
     clocks[36 + prn] = time + 1;
     navdata::store_word(words, stamps, prn, kind, bytes, time + 1);
     0
-}
-
-// A PRN as an index.
-fn wide(prn: u8) -> usize
-    ensures { λ r. ⌜ r ≡ prn ⌝ }
-{
-    prn as usize
 }

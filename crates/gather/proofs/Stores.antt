@@ -1,7 +1,7 @@
 -- What a coming block does to the store, case by case.
 -- Assumes nothing.
-use mathlib.Core.Path.{_≡_, refl}
-use mathlib.Core.Bool.{Bool, true, false, _&&_, _||_}
+use mathlib.Core.Path.{_≡_}
+use mathlib.Core.Bool.{Bool, true, false, _&&_}
 use mathlib.Core.List.{List}
 use Prim.Native.Nat.{ℕ, _*_}
 use native.Mathlib.Nat.{add-zero}
@@ -14,10 +14,6 @@ use Rattle.rules.specs.State.{Store}
 use Rattle.rules.specs.Gather as Rule
 use Rattle.gather.specs.Store.{told}
 use Rattle.gather.specs.declared.Gathered.the-variants.{Stored, Complete, Refused}
-
-pub or-false : (b : Bool) → b ≡ b || false
-or-false true = refl
-or-false false = refl
 
 -- an ID's block 0 stands first
 pub first-block : (blocks : List ℕ) (id : ℕ) → Rule.storedBlock blocks id 0 ≡ part blocks (id * 208) 13

@@ -76,24 +76,18 @@ pub fn cid_of(header: u8) -> u8
     header / 16 % 4
 }
 
-fn wide(x: u8) -> usize
-    ensures { λ r. ⌜ (r ≡ x) × (r < 256) ⌝ }
-{
-    x as usize
-}
-
 // The DSM ID.
 pub fn dsm_id_of(hk: &[u8; 15]) -> usize
     ensures { λ r. ⌜ (r ≡ Rule.dsmIdOf (now (hk .entry))) × (r < 16) ⌝ }
 {
-    wide(hk[1]) / 16
+    bitfields::index(hk[1]) / 16
 }
 
 // The block ID.
 pub fn block_id_of(hk: &[u8; 15]) -> usize
     ensures { λ r. ⌜ (r ≡ Rule.blockIdOf (now (hk .entry))) × (r < 16) ⌝ }
 {
-    wide(hk[1]) % 16
+    bitfields::index(hk[1]) % 16
 }
 
 // The blocks that an NB names, 7 to 16; 0 for a reserved one.

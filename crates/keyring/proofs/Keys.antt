@@ -1,59 +1,31 @@
 -- Laws of the public keys: tables by key type, keys held among the higher ones, a key's place written in two steps.
 -- Assumes nothing.
-use mathlib.Core.Path.{_≡_, refl, sym, ap, _∙_}
-use mathlib.Core.Bool.{Bool, true, false, _&&_, _||_}
-use mathlib.Core.List.{List, [], _∷_, _++_}
+use mathlib.Core.Path.{_≡_, _∙_}
+use mathlib.Core.Bool.{true, false}
+use mathlib.Core.List.{List, [], _∷_}
 use mathlib.Core.Logic.{⊎-elim}
-use Prim.Native.Nat.{ℕ, zero, suc, _+_, _-_, _*_, _≤_, _<_}
+use Prim.Native.Nat.{ℕ, zero, suc, _+_, _-_, _≤_, _<_}
 use native.Mathlib.Omega.{arith}
 use native.Mathlib.Numerals.{add-one}
-use lib.ListN.{length, getD, set, replicate, length-append, length-replicate}
+use lib.ListN.{length, set, length-append, length-replicate}
 use lib.Seq.{set-split, drop-drop}
-use lib.Dec.{T, leb}
-use borrow.Author.Tests.{leb-true, eq-eqb, ne-eqb}
-use Rattle.laws.specs.Lists.{part, splice, same}
+use borrow.Author.Tests.{eq-eqb, ne-eqb}
+use Rattle.laws.specs.Lists.{splice, same}
 use Rattle.laws.proofs.Splice.{below?, splice-append}
+use Rattle.laws.proofs.Table.{table-range}
+use Rattle.laws.proofs.Tests.{or-true}
 use Rattle.rules.specs.Bits.{filled}
 use Rattle.rules.specs.Keys as S
 
 -- ---- tables
 
--- the last entry stands for every number from its place on
-pub table-last : (l : List ℕ) (d k : ℕ) → length l ≤ k → getD (l ++ (d ∷ [])) k d ≡ d
-table-last [] d zero h = refl
-table-last [] d (suc k) h = refl
-table-last (x ∷ xs) d zero h = absurd (omega arith)
-table-last (x ∷ xs) d (suc k) h = table-last xs d k (omega arith)
-
--- a number that is at least n and not n
-pub past : (n k : ℕ) → n ≤ k → (k ≡ n → ⊥) → suc n ≤ k
-past n k h e = omega arith
-
--- no entry is above m: one test for the table
-abbrev pub below : List ℕ → ℕ → Bool
-below [] m = true
-below (x ∷ xs) m = leb x m && below xs m
-
-both : (a b : Bool) → T (a && b) → (T a) × (T b)
-both true b t = (tt, t)
-both false b t = absurd t
-
-is-true : (a : Bool) → T a → a ≡ true
-is-true true t = refl
-is-true false t = absurd t
-
-pub table-bound : (l : List ℕ) (m d : ℕ) → T (below l m) → d ≤ m → (k : ℕ) → getD l k d ≤ m
-table-bound [] m d t h k = h
-table-bound (x ∷ xs) m d t h zero = leb-true x m (is-true (leb x m) (both (leb x m) (below xs m) t .0))
-table-bound (x ∷ xs) m d t h (suc k) = table-bound xs m d (both (leb x m) (below xs m) t .1) h k
-
 pub key-bound : (type : ℕ) → S.keyLength type ≤ 67
 unfolding S.keyLength
-key-bound type = table-bound (29 ∷ 33 ∷ 49 ∷ 67 ∷ []) 67 67 tt (omega arith) type
+key-bound type = table-range 0 67 67 (29 ∷ 33 ∷ 49 ∷ 67 ∷ []) tt (omega arith) (omega arith) type .1
 
 pub signature-bound : (type : ℕ) → S.signatureLength type ≤ 132
 unfolding S.signatureLength
-signature-bound type = table-bound (56 ∷ 64 ∷ 96 ∷ 132 ∷ []) 132 132 tt (omega arith) type
+signature-bound type = table-range 0 132 132 (56 ∷ 64 ∷ 96 ∷ 132 ∷ []) tt (omega arith) (omega arith) type .1
 
 -- ---- keys
 
@@ -61,10 +33,6 @@ signature-bound type = table-bound (56 ∷ 64 ∷ 96 ∷ 132 ∷ []) 132 132 tt 
 pub length-filled : (n : ℕ) (l : List ℕ) → length l ≤ n → length (filled n l) ≡ n
 unfolding filled
 length-filled n l h = simp (length-append, length-replicate) (omega arith)
-
-or-true : (b : Bool) → b || true ≡ true
-or-true true = refl
-or-true false = refl
 
 -- a key that is held is among those held
 pub held-among : (keys : List ℕ) (id n m : ℕ) → n < m → S.keyHeld keys (id + n) ≡ true → S.heldAmong keys id m ≡ true

@@ -100,26 +100,26 @@ pub fn drop_lower(keys: &mut [u8], id: u8)
     buffer::fill(keys, 0, (id as usize) * 68, 0);
 }
 
+const KEY_LENGTHS: [usize; 4] = [29, 33, 49, 67];
+
+const SIGNATURE_LENGTHS: [usize; 4] = [56, 64, 96, 132];
+
 // Bytes of a key by its type.
 pub fn key_length(kind: u8) -> usize
     ensures { λ r. ⌜ r ≡ S.keyLength kind ⌝ }
 {
-    match kind {
-        0 => 29,
-        1 => 33,
-        2 => 49,
-        _ => 67,
+    if 3 < kind {
+        return 67;
     }
+    KEY_LENGTHS[kind as usize]
 }
 
 // Bytes of a signature by its key's type.
 pub fn signature_length(kind: u8) -> usize
     ensures { λ r. ⌜ r ≡ S.signatureLength kind ⌝ }
 {
-    match kind {
-        0 => 56,
-        1 => 64,
-        2 => 96,
-        _ => 132,
+    if 3 < kind {
+        return 132;
     }
+    SIGNATURE_LENGTHS[kind as usize]
 }

@@ -13,25 +13,12 @@ ghost use Rattle.rules.specs.Words as Words;
 ghost use Rattle.rules.specs.Tags as Tags;
 ghost use Rattle.rules.specs.Gather as Gather;
 ghost use Rattle.navdata.specs.Pieces.{nav};
-ghost use Rattle.rules.specs.Keys as Keys;
-ghost use Rattle.rules.specs.Kroot as Kroot;
-ghost use Rattle.rules.specs.Chain.{held, keyFits};
+ghost use Rattle.rules.specs.Chain.{held, keyOfSlot, keyFits};
 ghost use Rattle.rules.specs.Mack.{keysProved};
-ghost use Rattle.rules.specs.Pkr as Pkr;
-ghost use Rattle.rules.specs.Verdict.{staying, chainUnchanged};
+ghost use Rattle.rules.specs.Verdict.{staying};
 ghost use Rattle.gather.specs.Store.{Lent, store};
 ghost use Rattle.chain.specs.Sound.{Walks, Sound};
 ghost use Rattle.leaf_edge.specs.Edge.{gatherTold, gatheredNumber, chainOf, tagOf};
-
-// A test as a number: 1 where it holds.
-fn number(b: bool) -> u32
-    ensures { λ r. ⌜ r ≡ cond b 1 0 ⌝ }
-{
-    if b {
-        return 1;
-    }
-    0
-}
 
 // ---- times and slots
 
@@ -39,7 +26,7 @@ fn number(b: bool) -> u32
 pub extern "C" fn leaf_time_valid(g: u32) -> u32
     ensures { λ r. ⌜ r ≡ cond (Times.timeValid g) 1 0 ⌝ }
 {
-    number(gst::time_valid(g))
+    bools::number(gst::time_valid(g))
 }
 
 #[no_mangle]
@@ -96,7 +83,7 @@ pub extern "C" fn leaf_usable(words: &[u8], times: &[u32], prn: usize, t: u32) -
     requires { ⌜ ((length (now words) ≡ 2880) × (length (now times) ≡ 180)) × ((1 ≤ prn) × (prn ≤ 36)) ⌝ }
     ensures { λ r. ⌜ r ≡ cond (Words.usable (nav (now (words .entry)) (now (times .entry))) prn t) 1 0 ⌝ }
 {
-    number(navdata::usable(words, times, prn, t))
+    bools::number(navdata::usable(words, times, prn, t))
 }
 
 #[no_mangle]
@@ -179,72 +166,6 @@ pub extern "C" fn leaf_gather(
     gathered_number(answer)
 }
 
-// ---- public keys, and a DSM-KROOT
-
-#[no_mangle]
-pub extern "C" fn leaf_above_all(keys: &[u8], id: u8) -> u32
-    requires { ⌜ (length (now keys) ≡ 1088) × (id < 16) ⌝ }
-    ensures { λ r. ⌜ r ≡ cond (Keys.aboveAll (now (keys .entry)) id) 1 0 ⌝ }
-{
-    number(keyring::above_all(keys, id))
-}
-
-#[no_mangle]
-pub extern "C" fn leaf_same_key(keys: &[u8], id: u8, kind: u8, key: &[u8]) -> u32
-    requires { ⌜ (length (now keys) ≡ 1088) × ((id < 16) × (length (now key) ≤ 67)) ⌝ }
-    ensures { λ r. ⌜ r ≡ cond (Keys.sameKey (now (keys .entry)) id kind (now (key .entry))) 1 0 ⌝ }
-{
-    number(keyring::same_key(keys, id, kind, key))
-}
-
-#[no_mangle]
-pub extern "C" fn leaf_add_key(keys: &mut [u8], id: u8, kind: u8, key: &[u8])
-    requires { ⌜ ((length (now keys) ≡ 1088) × (id < 16)) × ((kind < 4) × (length (now key) ≤ 67)) ⌝ }
-    ensures { λ _. ⌜ now (keys .exit) ≡ Keys.withKey (now (keys .entry)) id kind (now (key .entry)) ⌝ }
-{
-    keyring::add_key(keys, id, kind, key);
-}
-
-#[no_mangle]
-pub extern "C" fn leaf_drop_lower(keys: &mut [u8], id: u8)
-    requires { ⌜ (length (now keys) ≡ 1088) × (id < 16) ⌝ }
-    ensures { λ _. ⌜ now (keys .exit) ≡ Keys.withoutLower (now (keys .entry)) id ⌝ }
-{
-    keyring::drop_lower(keys, id);
-}
-
-#[no_mangle]
-pub extern "C" fn leaf_kroot_judge(
-    keys: &[u8],
-    maclt: u8,
-    offer: &mut [u8],
-    header: u8,
-    d: &[u8],
-) -> u32
-    requires { ⌜ (length (now keys) ≡ 1088) × ((length (now offer) ≡ 179) × (91 ≤ length (now d))) ⌝ }
-    ensures { λ r. ⌜ (r ≡ (Kroot.krootJudged (now (keys .entry)) maclt (now (offer .entry)) header (now (d .entry))) .code) × (now (offer .exit) ≡ (Kroot.krootJudged (now (keys .entry)) maclt (now (offer .entry)) header (now (d .entry))) .offer) ⌝ }
-{
-    messages::kroot_judge(keys, maclt, offer, header, d)
-}
-
-#[no_mangle]
-pub extern "C" fn leaf_chain_unchanged(a: &[u8], b: &[u8]) -> u32
-    requires { ⌜ (44 ≤ length (now a)) × (44 ≤ length (now b)) ⌝ }
-    ensures { λ r. ⌜ r ≡ cond (chainUnchanged (now (a .entry)) (now (b .entry))) 1 0 ⌝ }
-{
-    number(messages::chain_unchanged(a, b))
-}
-
-// The number of a DSM-PKR; whether it stops the receiver is not told.
-#[no_mangle]
-pub extern "C" fn leaf_pkr_code(keys: &mut [u8], root: &[u8], d: &[u8]) -> u32
-    requires { ⌜ (length (now keys) ≡ 1088) × ((91 ≤ length (now d)) × (length (now d) ≤ 208)) ⌝ }
-    ensures { λ r. ⌜ (r ≡ (Pkr.pkrJudged (now (keys .entry)) (now (root .entry)) (now (d .entry))) .code) × (now (keys .exit) ≡ (Pkr.pkrJudged (now (keys .entry)) (now (root .entry)) (now (d .entry))) .keys) ⌝ }
-{
-    let r = tree::pkr_judge(keys, root, d);
-    r.code
-}
-
 // ---- keys of a chain
 
 #[no_mangle]
@@ -274,7 +195,35 @@ pub extern "C" fn leaf_key_fits(
     };
     let k = *known;
     let s = *key;
-    number(chain::key_fits(c, slot, k, sent, s))
+    bools::number(chain::key_fits(c, slot, k, sent, s))
+}
+
+// The key of slot m, from the key that is held of slot `slot`.
+#[no_mangle]
+pub extern "C" fn leaf_key_of_slot(
+    ns: u64,
+    nmack: u64,
+    root: u64,
+    alpha: &[u8; 6],
+    width: usize,
+    slot: u64,
+    m: u64,
+    key: &mut [u8; 32],
+)
+    requires { ⌜ Walks (chainOf ns nmack root (now alpha) width 0 0) × (slot ≤ 2 ^ 34) ⌝ }
+    ensures { λ _. ⌜ now (key .exit) ≡ splice (now (key .entry)) 0 (keyOfSlot (chainOf ns nmack root (now (alpha .entry)) width 0 0) (held slot (take width (now (key .entry)))) m) ⌝ }
+{
+    let a = *alpha;
+    let c = Chain {
+        ns: ns,
+        nmack: nmack,
+        root: root,
+        alpha: a,
+        width: width,
+        ms: 0,
+        fields: 0,
+    };
+    chain::key_of_slot(c, slot, m, key);
 }
 
 // The number of a section's keys.

@@ -1,9 +1,9 @@
 -- Fields of contents in their bytes and their ranges, tests on contents in groups, what waits as a verdict names it, least blocks.
 -- Assumes nothing.
-use mathlib.Core.Path.{_≡_, refl, sym, ap, _∙_}
+use mathlib.Core.Path.{_≡_, refl, sym, _∙_}
 use mathlib.Core.Bool.{Bool, true, false, cond, _&&_, _||_}
-use mathlib.Core.List.{List, [], _∷_, _++_}
-use Prim.Native.Nat.{ℕ, zero, suc, _+_, _-_, _*_, _/_, _%_, _^_, _≤_, _<_}
+use mathlib.Core.List.{List, [], _∷_}
+use Prim.Native.Nat.{ℕ, _+_, _-_, _*_, _/_, _%_, _^_, _≤_, _<_}
 use native.Mathlib.Omega.{arith}
 use lib.Dec.{leb, ltb, eqb}
 use lib.ListN.{length, getD}
@@ -14,7 +14,8 @@ use Rattle.laws.proofs.Splice.{length-part, getD-part}
 use Rattle.laws.proofs.Elements.{written-out}
 use Rattle.bitfields.proofs.Fields.{bits-lt, bits-split, bits-in-byte, bits-byte}
 use Rattle.rules.specs.Bits.{bits}
-use Rattle.keyring.proofs.Keys.{table-bound}
+use Rattle.laws.proofs.Table.{table-range}
+use Rattle.laws.proofs.Tests.{and-true}
 use Rattle.rules.specs.Kroot as S
 use Rattle.rules.specs.Verdict.{Verdict, namesOffer, chainUnchanged}
 use Rattle.messages.specs.Groups as G
@@ -54,11 +55,11 @@ six c a h =
 
 pub width-bound : (code : ℕ) → S.keyWidth code ≤ 32
 unfolding S.keyWidth
-width-bound code = table-bound (12 ∷ 13 ∷ 14 ∷ 15 ∷ 16 ∷ 20 ∷ 24 ∷ 28 ∷ 32 ∷ []) 32 32 tt (omega arith) code
+width-bound code = table-range 0 32 32 (12 ∷ 13 ∷ 14 ∷ 15 ∷ 16 ∷ 20 ∷ 24 ∷ 28 ∷ 32 ∷ []) tt (omega arith) (omega arith) code .1
 
 pub tag-bound : (code : ℕ) → S.tagWidth code ≤ 40
 unfolding S.tagWidth
-tag-bound code = table-bound (10 ∷ 12 ∷ 14 ∷ 16 ∷ 18 ∷ 20 ∷ 24 ∷ 28 ∷ 32 ∷ 40 ∷ []) 40 40 tt (omega arith) code
+tag-bound code = table-range 0 40 40 (10 ∷ 12 ∷ 14 ∷ 16 ∷ 18 ∷ 20 ∷ 24 ∷ 28 ∷ 32 ∷ 40 ∷ []) tt (omega arith) (omega arith) code .1
 
 -- ---- groups of tests
 
@@ -88,10 +89,6 @@ and-groups true true true true true true false h i = refl
 and-groups true true true true true true true false i = refl
 and-groups true true true true true true true true false = refl
 and-groups true true true true true true true true true = refl
-
-and-true : (b : Bool) → b ≡ b && true
-and-true true = refl
-and-true false = refl
 
 -- the tests on contents are three groups
 pub bad-is : (maclt : ℕ) (c : List ℕ) → G.functionsBad c || (G.widthsBad maclt c || G.rootTimeBad c) ≡ S.parametersBad maclt c
@@ -129,7 +126,7 @@ module _ (offer : List ℕ) (v : Verdict) where
 
       pub names-all : same (S.offerMessage offer) (v .message) ≡ true → same (S.offerSignature offer) (v .signature) ≡ namesOffer offer v
       unfolding namesOffer S.offerWaits S.offerId
-      names-all h = rw (eq-eqb (getD offer 0 0) 1 waits, eq-eqb (getD offer 1 0 % 16) (v .id) key, h) (and-true (same (S.offerSignature offer) (v .signature)))
+      names-all h = rw (eq-eqb (getD offer 0 0) 1 waits, eq-eqb (getD offer 1 0 % 16) (v .id) key, h) (sym (and-true (same (S.offerSignature offer) (v .signature))))
 
 -- as many blocks as are the least have room
 pub least-fits : (n : ℕ) → n ≤ 13 * S.leastBlocks n

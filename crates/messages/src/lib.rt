@@ -176,7 +176,8 @@ fn widths_bad(maclt: u8, c: &[u8]) -> bool
     let k = ks(c);
     let m = ms(c);
     let used = 8 * (key_width(k) as u64) + tag_width(m) + 16;
-    (8 < k) | ((9 < m) | ((maclt_field(c) != maclt) | (block_bits(nmack(c)) < used)))
+    let block = bitfields::block_bits(bitfields::wide(nmack(c)));
+    (8 < k) | ((9 < m) | ((maclt_field(c) != maclt) | (block < used)))
 }
 
 // Hour above 167; week 0 hour 0.
@@ -190,52 +191,28 @@ fn root_time_bad(c: &[u8]) -> bool
 
 // ---- widths
 
+const KEY_WIDTHS: [usize; 9] = [12, 13, 14, 15, 16, 20, 24, 28, 32];
+
+const TAG_WIDTHS: [u64; 10] = [10, 12, 14, 16, 18, 20, 24, 28, 32, 40];
+
 // Bytes of a key by its KS code (000, table 12).
 pub fn key_width(code: u8) -> usize
     ensures { λ r. ⌜ r ≡ S.keyWidth code ⌝ }
 {
-    match code {
-        0 => 12,
-        1 => 13,
-        2 => 14,
-        3 => 15,
-        4 => 16,
-        5 => 20,
-        6 => 24,
-        7 => 28,
-        _ => 32,
+    if 8 < code {
+        return 32;
     }
+    KEY_WIDTHS[code as usize]
 }
 
 // Bits of a tag by its MS code (000, table 13).
 pub fn tag_width(code: u8) -> u64
     ensures { λ r. ⌜ r ≡ S.tagWidth code ⌝ }
 {
-    match code {
-        0 => 10,
-        1 => 12,
-        2 => 14,
-        3 => 16,
-        4 => 18,
-        5 => 20,
-        6 => 24,
-        7 => 28,
-        8 => 32,
-        _ => 40,
+    if 9 < code {
+        return 40;
     }
-}
-
-// Bits of a MACK block.
-pub fn block_bits(nmack: u8) -> u64
-    ensures { λ r. ⌜ r ≡ S.blockBits nmack ⌝ }
-{
-    if nmack == 3 {
-        return 160;
-    }
-    if nmack == 2 {
-        return 240;
-    }
-    480
+    TAG_WIDTHS[code as usize]
 }
 
 // Fields of a MACK block, for a key of ks bits and tags of ms bits.
@@ -243,7 +220,7 @@ pub fn fields_for(nmack: u8, ks: u64, ms: u64) -> u64
     requires { ⌜ ms < 256 ⌝ }
     ensures { λ r. ⌜ r ≡ S.fieldsFor nmack ks ms ⌝ }
 {
-    let block = block_bits(nmack);
+    let block = bitfields::block_bits(bitfields::wide(nmack));
     if block < ks {
         return 0;
     }
@@ -312,7 +289,7 @@ pub fn root_week(c: &[u8]) -> u64
     requires { ⌜ 44 ≤ length (now c) ⌝ }
     ensures { λ r. ⌜ r ≡ S.rootWeekOf (now (c .entry)) ⌝ }
 {
-    wide(c[3]) % 16 * 256 + wide(c[4])
+    bitfields::wide(c[3]) % 16 * 256 + bitfields::wide(c[4])
 }
 
 pub fn root_hour(c: &[u8]) -> u8
@@ -322,18 +299,12 @@ pub fn root_hour(c: &[u8]) -> u8
     c[5]
 }
 
-fn wide(x: u8) -> u64
-    ensures { λ r. ⌜ (r ≡ x) × (r < 256) ⌝ }
-{
-    x as u64
-}
-
 // Seconds since week 0 of the root's sub-frame 0.
 pub fn root_seconds(c: &[u8]) -> u64
     requires { ⌜ 44 ≤ length (now c) ⌝ }
     ensures { λ r. ⌜ r ≡ S.rootSecondsOf (now (c .entry)) ⌝ }
 {
-    gst::hour_seconds(root_week(c), wide(root_hour(c)))
+    gst::hour_seconds(root_week(c), bitfields::wide(root_hour(c)))
 }
 
 // The chain's pattern α.

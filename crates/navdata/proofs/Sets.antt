@@ -2,7 +2,6 @@
 -- Assumes nothing.
 use mathlib.Core.Path.{_≡_, refl, ap, _∙_}
 use mathlib.Core.List.{List, [], _∷_, _++_, append-assoc}
-use mathlib.Core.Bool.{Bool, true, false, _&&_}
 use Prim.Native.Nat.{ℕ, _+_, _-_, _*_, _%_, _≤_}
 use native.Mathlib.Omega.{arith}
 use lib.ListN.{length, length-append}
@@ -188,9 +187,3 @@ pub status-spliced : (d : List ℕ) (to status : ℕ) (s : List ℕ) → to + 69
 status-spliced d to status s h =
     rw (status-and-set-is status s)
     (three-spliced d to ((status % 4 * 64 + bits s 0 6) ∷ []) (bytesAt s 6 67) (bits s 542 7 * 2 ∷ []) 1 67 1 refl (length-bytesAt s 6 67) refl h)
-
--- ---- tests
-
-pub and-true : (b : Bool) → (b && true) ≡ b
-and-true true = refl
-and-true false = refl

@@ -2,7 +2,6 @@
 // `words` holds words 1 to 5 of 36 satellites, 16 bytes each; `times` holds the stamp of each word's sub-frame, its time plus 1, or 0
 // where no word is held.
 ghost use mathlib.Core.Path.{_≡_};
-ghost use mathlib.Core.Bool.{_&&_};
 ghost use mathlib.Core.List.{List, [], _∷_};
 ghost use Prim.Native.Nat.{ℕ, _+_, _-_, _*_, _≤_, _<_};
 ghost use lib.ListN.{length};
@@ -67,13 +66,6 @@ pub fn word_issue(words: &[u8], prn: usize, kind: usize) -> u64
     bitfields::bits_at(words, (prn - 1) * 640 + ((kind - 1) * 128 + 6), 10)
 }
 
-// Both tests hold.
-fn both(a: bool, b: bool) -> bool
-    ensures { λ r. ⌜ r ≡ (a && b) ⌝ }
-{
-    if a { b } else { false }
-}
-
 // Words 1 to 4 have one IODnav.
 pub fn one_issue(words: &[u8], prn: usize) -> bool
     requires { ⌜ (length (now words) ≡ 2880) × ((1 ≤ prn) × (prn ≤ 36)) ⌝ }
@@ -83,7 +75,7 @@ pub fn one_issue(words: &[u8], prn: usize) -> bool
     let two = word_issue(words, prn, 2) == issue;
     let three = word_issue(words, prn, 3) == issue;
     let four = word_issue(words, prn, 4) == issue;
-    both(two, both(three, four))
+    bools::both(two, bools::both(three, four))
 }
 
 // A word of the type is held, and came in an earlier sub-frame than t.
@@ -93,7 +85,7 @@ pub fn came_before(times: &[u32], prn: usize, t: u32, kind: usize) -> bool
 {
     let place = word_place(prn, kind);
     let stamp = times[place];
-    both(1 <= stamp, stamp <= t)
+    bools::both(1 <= stamp, stamp <= t)
 }
 
 // A satellite's set can be used for a section of sub-frame t.
@@ -106,13 +98,8 @@ pub fn usable(words: &[u8], times: &[u32], prn: usize, t: u32) -> bool
     let three = came_before(times, prn, t, 3);
     let four = came_before(times, prn, t, 4);
     let five = came_before(times, prn, t, 5);
-    both(
-        one,
-        both(
-            two,
-            both(three, both(four, both(five, one_issue(words, prn)))),
-        ),
-    )
+    let last = bools::both(four, bools::both(five, one_issue(words, prn)));
+    bools::both(one, bools::both(two, bools::both(three, last)))
 }
 
 // ---- a set's bytes

@@ -5,8 +5,64 @@
 ghost use mathlib.Core.Path.{_≡_};
 ghost use Rattle.checks.specs.Told.{told};
 ghost use Rattle.core_reads.specs.Reads.{setTold, offerTold};
-ghost use Rattle.rules.specs.Calls.{wordCall, verdictCall, setRead, offerRead};
+ghost use Rattle.rules.specs.Calls.{startCall, wordCall, verdictCall, setRead, offerRead};
 ghost use Rattle.rules.specs.State.{state};
+
+// Begins: installs the settings and the first public key, and clears all else (01, start).
+#[no_mangle]
+pub extern "C" fn osnma_regions_start(
+    config: &mut [u8],
+    clocks: &mut [u32],
+    words: &mut [u8],
+    stamps: &mut [u32],
+    blocks: &mut [u8],
+    headers: &mut [u8],
+    marks: &mut [u16],
+    since: &mut [u32],
+    keys: &mut [u8],
+    offer: &mut [u8],
+    chain: &mut [u8],
+    numbers: &mut [u64],
+    key: &mut [u8],
+    waiting: &mut [u8],
+    sets: &mut [u8],
+    arrivals: &mut [u32],
+    ns: u8,
+    id: u8,
+    kind: u8,
+    maclt: u8,
+    adkds: &[u8],
+    root: &[u8],
+    public: &[u8],
+) -> u32
+    ensures { λ r. ⌜ told r (state (now (config .exit)) (now (clocks .exit)) (now (words .exit)) (now (stamps .exit)) (now (blocks .exit)) (now (headers .exit)) (now (marks .exit)) (now (since .exit)) (now (keys .exit)) (now (offer .exit)) (now (chain .exit)) (now (numbers .exit)) (now (key .exit)) (now (waiting .exit)) (now (sets .exit)) (now (arrivals .exit))) ≡ startCall (state (now (config .entry)) (now (clocks .entry)) (now (words .entry)) (now (stamps .entry)) (now (blocks .entry)) (now (headers .entry)) (now (marks .entry)) (now (since .entry)) (now (keys .entry)) (now (offer .entry)) (now (chain .entry)) (now (numbers .entry)) (now (key .entry)) (now (waiting .entry)) (now (sets .entry)) (now (arrivals .entry))) (record { ns = ns; id = id; type = kind; maclt = maclt; marks = now (adkds .entry); root = now (root .entry); key = now (public .entry) }) ⌝ }
+{
+    core_start::start(
+        config,
+        clocks,
+        words,
+        stamps,
+        blocks,
+        headers,
+        marks,
+        since,
+        keys,
+        offer,
+        chain,
+        numbers,
+        key,
+        waiting,
+        sets,
+        arrivals,
+        ns,
+        id,
+        kind,
+        maclt,
+        adkds,
+        root,
+        public,
+    )
+}
 
 // Lends an I/NAV word with the GST_SF of its sub-frame (01, word).
 #[no_mangle]

@@ -1,9 +1,9 @@
 // The keys of a MACK section (01, "MACK"; 000, 4 and 5.4): where each block's key stands, its bytes, the spare bits after it, and the
 // check of all keys block by block. What each function gives is its definition in rules/specs/Mack.antt.
 // Public calls:
-//   block_bits, block_at, key_at   places in the section
-//   block_key, spare_bits          a block's key and the bits after it
-//   keys_proved                    13, 12 or 0 for the whole section, and the highest key proved
+//   block_at, key_at         places in the section
+//   block_key, spare_bits    a block's key and the bits after it
+//   keys_proved              13, 12 or 0 for the whole section, and the highest key proved
 use rules::Chain;
 ghost use mathlib.Core.Path.{_≡_};
 ghost use Prim.Native.Nat.{_+_, _-_, _*_, _^_, _≤_, _<_};
@@ -11,7 +11,6 @@ ghost use lib.ListN.{length, take, replicate};
 ghost use Rattle.laws.specs.Lists.{splice};
 ghost use Rattle.laws.specs.Refusal.{unless};
 ghost use Rattle.rules.specs.Chain.{held};
-ghost use Rattle.rules.specs.Kroot as K;
 ghost use Rattle.rules.specs.Mack as S;
 ghost use Rattle.chain.specs.Sound.{Sound};
 ghost use Rattle.section.specs.Keys.{Hands};
@@ -111,25 +110,12 @@ fn block_proved(
     }
 }
 
-// Bits of a block: 60/NMACK bytes.
-pub fn block_bits(nmack: u64) -> u64
-    ensures { λ r. ⌜ r ≡ K.blockBits nmack ⌝ }
-{
-    if nmack == 3 {
-        return 160;
-    }
-    if nmack == 2 {
-        return 240;
-    }
-    480
-}
-
 // The bit at which block b begins.
 pub fn block_at(c: Chain, b: u64) -> u64
     requires { ⌜ (1 ≤ b) × (b ≤ 3) ⌝ }
     ensures { λ r. ⌜ r ≡ S.blockAt c b ⌝ }
 {
-    (b - 1) * block_bits(c.nmack)
+    (b - 1) * bitfields::block_bits(c.nmack)
 }
 
 // The bit at which block b's key begins.
@@ -156,6 +142,6 @@ pub fn spare_bits(c: Chain, m: &[u8], b: u64) -> u64
     ensures { λ r. ⌜ r ≡ S.spareBits c (now (m .entry)) b ⌝ }
 {
     let width = c.width;
-    let left = block_bits(c.nmack) - c.fields * (c.ms + 16) - 8 * (width as u64);
+    let left = bitfields::block_bits(c.nmack) - c.fields * (c.ms + 16) - 8 * (width as u64);
     bitfields::bits_at(m, key_at(c, b) as usize + 8 * width, left as usize)
 }

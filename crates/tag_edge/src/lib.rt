@@ -46,15 +46,5 @@ pub extern "C" fn leaf_tag_matches(
         bits: bits,
     };
     let kept = hmac::hmac_key(key);
-    number(macs::tag_matches(ms, kept, first == 1, t, set))
-}
-
-// A test as a number: 1 where it holds.
-fn number(b: bool) -> u32
-    ensures { λ r. ⌜ r ≡ cond b 1 0 ⌝ }
-{
-    if b {
-        return 1;
-    }
-    0
+    bools::number(macs::tag_matches(ms, kept, first == 1, t, set))
 }

@@ -1,7 +1,6 @@
 -- Where the fields of a section lie: every field ends inside the section.
 -- Assumes nothing.
-use mathlib.Core.Path.{_≡_, refl}
-use mathlib.Core.Bool.{Bool, true, false, _||_}
+use mathlib.Core.Path.{_≡_}
 use mathlib.Core.Logic.{⊎-elim}
 use Prim.Native.Nat.{ℕ, zero, suc, _+_, _-_, _*_, _/_, _%_, _≤_, _<_}
 use native.Mathlib.Omega.{arith}
@@ -54,10 +53,6 @@ module _ (c : Chain) (l : Laid c) (j : ℕ) (h : j < c .nmack * c .fields) where
   small =
       let k : j ≤ 13 = omega (arith, l .few) in
       (le-trans (div-le-self j (c .fields)) k, le-trans (mod-le j (c .fields)) k)
-
-pub or-false : (b : Bool) → (b || false) ≡ b
-or-false true = refl
-or-false false = refl
 
 -- ---- a chain of accepted parameters is laid out so
 

@@ -10,14 +10,13 @@ use rules::Chain;
 use rules::Outcome;
 use rules::Tag;
 ghost use mathlib.Core.Path.{_≡_};
-ghost use mathlib.Core.Bool.{true, cond, _&&_, _||_};
+ghost use mathlib.Core.Bool.{true, cond, _&&_};
 ghost use mathlib.Core.List.{[], _∷_};
 ghost use Prim.Native.Nat.{_+_, _*_, _≤_, _<_};
 ghost use lib.ListN.{length};
 ghost use Rattle.laws.specs.Lists.{splice};
 ghost use Rattle.laws.specs.Refusal.{refuse, firstOf};
 ghost use Rattle.rules.specs.Answers.{outcomeNumber};
-ghost use Rattle.rules.specs.Kroot.{blockBits};
 ghost use Rattle.rules.specs.Mack.{fieldAt, fieldTag, fieldInfo, macseqOf};
 ghost use Rattle.rules.specs.State.{markOf};
 ghost use Rattle.rules.specs.Tags.{ownTag, secondHalf, notAllowed, tagRecord, recordIssue};
@@ -26,25 +25,12 @@ ghost use Rattle.tags.specs.Layout.{Laid, section};
 
 // ---- fields
 
-// Bits of a block.
-fn block_bits(nmack: u64) -> usize
-    ensures { λ r. ⌜ r ≡ blockBits nmack ⌝ }
-{
-    if nmack == 3 {
-        return 160;
-    }
-    if nmack == 2 {
-        return 240;
-    }
-    480
-}
-
 // The bit at which field j of the section begins.
 fn field_place(c: Chain, j: usize) -> usize
     requires { ⌜ Laid c × (j < c .nmack * c .fields) ⌝ }
     ensures { λ r. ⌜ (r ≡ fieldAt c j) × (r + c .ms + 16 ≤ 480) ⌝ }
 {
-    let block = block_bits(c.nmack);
+    let block = bitfields::block_bits(c.nmack) as usize;
     let fields = c.fields as usize;
     let wide = c.ms as usize + 16;
     (j / fields) * block + (j % fields) * wide
@@ -134,20 +120,6 @@ pub fn flexible(config: &[u8], time: u32, j: usize) -> bool
     mark_of(config, second_half(time), j) == 255
 }
 
-// Both tests hold.
-fn both(a: bool, b: bool) -> bool
-    ensures { λ r. ⌜ r ≡ (a && b) ⌝ }
-{
-    if a { b } else { false }
-}
-
-// One of the tests holds.
-fn either(a: bool, b: bool) -> bool
-    ensures { λ r. ⌜ r ≡ (a || b) ⌝ }
-{
-    if a { true } else { b }
-}
-
 // "4 ADKD not 0, 11, 12, or not the fixed one, or PRN not 1 to 36"
 pub fn not_allowed(config: &[u8], j: usize, t: Tag) -> bool
     requires { ⌜ (length (now config) ≡ 63) × (j < 14) ⌝ }
@@ -156,10 +128,10 @@ pub fn not_allowed(config: &[u8], j: usize, t: Tag) -> bool
     let adkd = t.adkd;
     let prn = t.prn;
     let mark = mark_of(config, second_half(t.time), j);
-    let known = either(adkd == 0, either(adkd == 11, adkd == 12));
-    let other = both(!(mark == 255), !(adkd == mark));
-    let heard = both(1 <= prn, prn <= 36);
-    either(!known, either(other, !heard))
+    let known = bools::either(adkd == 0, bools::either(adkd == 11, adkd == 12));
+    let other = bools::both(!(mark == 255), !(adkd == mark));
+    let heard = bools::both(1 <= prn, prn <= 36);
+    bools::either(!known, bools::either(other, !heard))
 }
 
 // ---- outcomes

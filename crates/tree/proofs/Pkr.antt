@@ -1,9 +1,9 @@
 -- DSM-PKR: the new key's head, sizes, one node more, and a complete message by its checks.
 -- Assumes nothing.
-use mathlib.Core.Path.{_≡_, refl, sym, ap, _∙_}
-use mathlib.Core.Bool.{Bool, true, false, cond, not, _&&_, _||_}
+use mathlib.Core.Path.{_≡_, refl, sym, _∙_}
+use mathlib.Core.Bool.{Bool, true, false, cond, _||_}
 use mathlib.Core.List.{List}
-use Prim.Native.Nat.{ℕ, suc, _+_, _*_, _/_, _%_, _^_, _≤_, _<_}
+use Prim.Native.Nat.{ℕ, _+_, _*_, _/_, _%_, _^_, _≤_, _<_}
 use native.Mathlib.Omega.{arith}
 use native.Mathlib.Numerals.{add-one}
 use lib.Dec.{ltb, eqb}
@@ -12,6 +12,7 @@ use borrow.Author.Tests.{ltb-false, eqb-true, eqb-false, eq-eqb, ne-eqb}
 use Rattle.laws.specs.Lists.{part}
 use Rattle.laws.specs.Refusal.{neb}
 use Rattle.laws.proofs.Refusal.{neb-false}
+use Rattle.laws.proofs.Tests.{neither}
 use Rattle.bitfields.proofs.Fields.{bits-lt, bits-in-byte}
 use Rattle.messages.proofs.Parameters.{low-bits, least-fits}
 use Rattle.rules.specs.Keys as K
@@ -38,10 +39,6 @@ id-bound d = bits-lt d 1036 4
 
 -- ---- sizes
 
-or-false : (a b : Bool) → a || b ≡ false → (a ≡ false) × (b ≡ false)
-or-false true b e = (e, cc)
-or-false false b e = (refl, e)
-
 module _ (d : List ℕ) where
   pub bad-emergency : S.newTypeOf d ≡ 4 → (ltb (length d) 143 || neb (S.newIdOf d) 0) ≡ S.pkrSizeBad d
   unfolding S.pkrSizeBad S.emergency
@@ -53,12 +50,12 @@ module _ (d : List ℕ) where
 
   module _ (fits : S.pkrSizeBad d ≡ false) where
     pub emergency-size : S.newTypeOf d ≡ 4 → 143 ≤ length d
-    emergency-size h = ltb-false (length d) 143 (or-false (ltb (length d) 143) (neb (S.newIdOf d) 0) (bad-emergency h ∙ fits) .0)
+    emergency-size h = ltb-false (length d) 143 (neither (ltb (length d) 143) (neb (S.newIdOf d) 0) (bad-emergency h ∙ fits) .0)
 
     pub key-size : (S.newTypeOf d ≡ 4 → ⊥) → (S.newTypeOf d < 4) × (130 + K.keyLength (S.newTypeOf d) ≤ length d)
     key-size h =
         let n : ℕ = 130 + K.keyLength (S.newTypeOf d) in
-        let p = or-false (ltb 4 (S.newTypeOf d)) (neb (length d) (13 * leastBlocks n)) (bad-other h ∙ fits) in
+        let p = neither (ltb 4 (S.newTypeOf d)) (neb (length d) (13 * leastBlocks n)) (bad-other h ∙ fits) in
         let t : S.newTypeOf d ≤ 4 = ltb-false 4 (S.newTypeOf d) (p .0) in
         let l : length d ≡ 13 * leastBlocks n = neb-false (length d) (13 * leastBlocks n) (p .1) in
         let q = least-fits n in

@@ -34,7 +34,7 @@ fn tag_in(e: &[u8]) -> Tag
     ensures { λ r. ⌜ r ≡ entryTag (now (e .entry)) ⌝ }
 {
     let time = buffer::get_u32(e, 5);
-    let bits = wide(e[10]) * 4294967296 + low(buffer::get_u32(e, 11));
+    let bits = bitfields::wide(e[10]) * 4294967296 + bitfields::low(buffer::get_u32(e, 11));
     Tag {
         sender: e[0],
         prn: e[1],
@@ -45,18 +45,6 @@ fn tag_in(e: &[u8]) -> Tag
         status: e[9] % 4,
         bits: bits,
     }
-}
-
-fn wide(x: u8) -> u64
-    ensures { λ r. ⌜ (r ≡ x) × (r < 256) ⌝ }
-{
-    x as u64
-}
-
-fn low(x: u32) -> u64
-    ensures { λ r. ⌜ (r ≡ x) × (r < 4294967296) ⌝ }
-{
-    x as u64
 }
 
 // The set of entry k, copied to `out`.

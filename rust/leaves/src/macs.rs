@@ -1,10 +1,10 @@
-//! The codes of tags and of MACSEQ (crates/macs).
+//! The codes of tags (crates/macs).
 
 use crate::raw;
 use crate::tags::Tag;
 
 /// The longest key that the proved HMAC takes, and one byte more.
-const KEY_LIMIT: usize = 1 << 61;
+pub(crate) const KEY_LIMIT: usize = 1 << 61;
 
 /// The first n bits of the code of a message under a key.
 pub fn mac_bits(n: usize, key: &[u8], message: &[u8]) -> Option<u64> {

@@ -1,11 +1,12 @@
-//! The exports of crates/leaf_edge as they are. A slice is a pointer and a count of elements, an array
-//! a pointer alone.
+//! The exports of the boundary crates as they are. A slice is a pointer and a count of elements, an
+//! array a pointer alone.
 //!
 //! Safety, for all: each pointer is aligned and good for what it stands for, to read, and where it is
 //! `*mut` also to write; what is written overlaps nothing else that is lent; and what the function's
-//! `requires` in crates/leaf_edge/src/lib.rt asks holds.
+//! `requires` asks holds. It stands in src/lib.rt of the crate that is named over the functions.
 
 extern "C" {
+    // crates/leaf_edge
     pub fn leaf_time_valid(g: u32) -> u32;
     pub fn leaf_seconds_of(g: u32) -> u64;
     pub fn leaf_slot_of(ns: u64, nmack: u64, s: u64, b: u64, p: u64) -> u64;
@@ -65,56 +66,6 @@ extern "C" {
         hk: *const [u8; 15],
     ) -> usize;
 
-    pub fn leaf_above_all(keys: *const u8, keys_len: usize, id: u8) -> u32;
-    pub fn leaf_same_key(
-        keys: *const u8,
-        keys_len: usize,
-        id: u8,
-        kind: u8,
-        key: *const u8,
-        key_len: usize,
-    ) -> u32;
-    pub fn leaf_add_key(
-        keys: *mut u8,
-        keys_len: usize,
-        id: u8,
-        kind: u8,
-        key: *const u8,
-        key_len: usize,
-    );
-    pub fn leaf_drop_lower(keys: *mut u8, keys_len: usize, id: u8);
-    pub fn leaf_kroot_judge(
-        keys: *const u8,
-        keys_len: usize,
-        maclt: u8,
-        offer: *mut u8,
-        offer_len: usize,
-        header: u8,
-        d: *const u8,
-        d_len: usize,
-    ) -> u32;
-    pub fn leaf_chain_unchanged(a: *const u8, a_len: usize, b: *const u8, b_len: usize) -> u32;
-
-    pub fn leaf_pkr_code(
-        keys: *mut u8,
-        keys_len: usize,
-        root: *const u8,
-        root_len: usize,
-        d: *const u8,
-        d_len: usize,
-    ) -> u32;
-
-    /// Of crates/chain_edge: total, 1 where a number is out of range.
-    pub fn osnma_walk(
-        ns: u64,
-        nmack: u64,
-        root: u64,
-        alpha: *const [u8; 6],
-        width: usize,
-        n: u64,
-        m: u64,
-        key: *mut [u8; 32],
-    ) -> u32;
     pub fn leaf_key_fits(
         ns: u64,
         nmack: u64,
@@ -126,6 +77,17 @@ extern "C" {
         sent: u64,
         key: *const [u8; 32],
     ) -> u32;
+
+    pub fn leaf_key_of_slot(
+        ns: u64,
+        nmack: u64,
+        root: u64,
+        alpha: *const [u8; 6],
+        width: usize,
+        slot: u64,
+        m: u64,
+        key: *mut [u8; 32],
+    );
 
     pub fn leaf_keys_code(
         ns: u64,
@@ -185,6 +147,82 @@ extern "C" {
         set_len: usize,
     );
 
+    // crates/message_edge
+    pub fn leaf_above_all(keys: *const u8, keys_len: usize, id: u8) -> u32;
+    pub fn leaf_same_key(
+        keys: *const u8,
+        keys_len: usize,
+        id: u8,
+        kind: u8,
+        key: *const u8,
+        key_len: usize,
+    ) -> u32;
+    pub fn leaf_add_key(
+        keys: *mut u8,
+        keys_len: usize,
+        id: u8,
+        kind: u8,
+        key: *const u8,
+        key_len: usize,
+    );
+    pub fn leaf_drop_lower(keys: *mut u8, keys_len: usize, id: u8);
+    pub fn leaf_kroot_judge(
+        keys: *const u8,
+        keys_len: usize,
+        maclt: u8,
+        offer: *mut u8,
+        offer_len: usize,
+        header: u8,
+        d: *const u8,
+        d_len: usize,
+    ) -> u32;
+    pub fn leaf_chain_unchanged(a: *const u8, a_len: usize, b: *const u8, b_len: usize) -> u32;
+    pub fn leaf_pkr_code(
+        keys: *mut u8,
+        keys_len: usize,
+        root: *const u8,
+        root_len: usize,
+        d: *const u8,
+        d_len: usize,
+    ) -> u32;
+    pub fn leaf_pkr_stops(
+        keys: *mut u8,
+        keys_len: usize,
+        root: *const u8,
+        root_len: usize,
+        d: *const u8,
+        d_len: usize,
+    ) -> u32;
+    pub fn leaf_names_offer(
+        offer: *const u8,
+        offer_len: usize,
+        id: u8,
+        message: *const u8,
+        message_len: usize,
+        signature: *const u8,
+        signature_len: usize,
+    ) -> u32;
+    pub fn leaf_in_force(maclt: u8, chain: *const u8, chain_len: usize) -> u32;
+    pub fn leaf_chain_with(
+        ns: u64,
+        c: *const u8,
+        c_len: usize,
+        numbers: *mut [u64; 6],
+        alpha: *mut [u8; 6],
+    );
+
+    // crates/chain_edge: total, 1 where a number is out of range
+    pub fn osnma_walk(
+        ns: u64,
+        nmack: u64,
+        root: u64,
+        alpha: *const [u8; 6],
+        width: usize,
+        n: u64,
+        m: u64,
+        key: *mut [u8; 32],
+    ) -> u32;
+
     // crates/tag_edge
     pub fn leaf_mac_bits(
         n: usize,
@@ -206,5 +244,89 @@ extern "C" {
         bits: u64,
         set: *const u8,
         set_len: usize,
+    ) -> u32;
+
+    // crates/field_edge
+    pub fn leaf_field_tag(
+        nmack: u64,
+        ms: u64,
+        fields: u64,
+        mack: *const u8,
+        mack_len: usize,
+        j: usize,
+    ) -> u64;
+    pub fn leaf_field_info(
+        nmack: u64,
+        ms: u64,
+        fields: u64,
+        mack: *const u8,
+        mack_len: usize,
+        j: usize,
+    ) -> u16;
+    pub fn leaf_macseq_of(ms: u64, mack: *const u8, mack_len: usize) -> u64;
+    pub fn leaf_own_tag(
+        nmack: u64,
+        ms: u64,
+        fields: u64,
+        prn: u8,
+        time: u32,
+        status: u8,
+        mack: *const u8,
+        mack_len: usize,
+        j: usize,
+        out: *mut [u64; 8],
+    );
+    pub fn leaf_flexible(config: *const u8, config_len: usize, time: u32, j: usize) -> u32;
+    pub fn leaf_not_allowed(
+        config: *const u8,
+        config_len: usize,
+        j: usize,
+        prn: u8,
+        adkd: u8,
+        time: u32,
+    ) -> u32;
+    pub fn leaf_macseq_fits(
+        config: *const u8,
+        config_len: usize,
+        nmack: u64,
+        ms: u64,
+        fields: u64,
+        prn: u8,
+        time: u32,
+        mack: *const u8,
+        mack_len: usize,
+        key: *const u8,
+        key_len: usize,
+    ) -> u32;
+    pub fn leaf_own_outcome(
+        refused: u32,
+        unfit: u32,
+        unusable: u32,
+        prompt: u32,
+        matches: u32,
+        free: u32,
+    ) -> u8;
+    pub fn leaf_record_issue(outcome: u8, set: *const u8, set_len: usize) -> u16;
+    pub fn leaf_put_record(
+        area: *mut u8,
+        area_len: usize,
+        at: usize,
+        outcome: u8,
+        sender: u8,
+        prn: u8,
+        adkd: u8,
+        block: u8,
+        position: u8,
+        time: u32,
+        issue: u16,
+    );
+    pub fn leaf_is_due(
+        ns: u64,
+        nmack: u64,
+        root: u64,
+        slot: u64,
+        adkd: u8,
+        block: u8,
+        time: u32,
     ) -> u32;
 }

@@ -2,8 +2,8 @@
 
 use crate::raw;
 
-/// A tag as an entry of the waiting ones keeps it.
-#[derive(Clone, Copy, Debug)]
+/// A tag with what its message needs beside the set.
+#[derive(Clone, Copy, Debug, PartialEq, Eq)]
 pub struct Tag {
     pub sender: u8,
     pub prn: u8,

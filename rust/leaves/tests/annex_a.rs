@@ -6,8 +6,9 @@ mod common;
 use common::annex::*;
 use common::{hex, upper};
 use leaves::chain::Chain;
-use leaves::keys::{kroot_judge, pkr_judge, Keys};
+use leaves::keys::Keys;
 use leaves::macs::{mac_bits, tag_matches};
+use leaves::messages::{kroot_judge, pkr_judge};
 use leaves::tags::Tag;
 use leaves::times::Slots;
 use leaves::words::{set_issue, status_and_set, Nav};
@@ -129,9 +130,9 @@ fn a_1_7_leaves_and_root() {
         let mut expected = keys.clone();
         let number = if id == 15 { 6 } else { 0 };
         let wrong = if id == 15 { 6 } else { 10 };
-        assert_eq!(pkr_judge(&mut keys, &root, &other), Some(wrong));
+        assert_eq!(pkr_judge(&mut keys, &root, &other), Some((wrong, false)));
         assert_eq!(keys, expected);
-        assert_eq!(pkr_judge(&mut keys, &root, &dsm), Some(number));
+        assert_eq!(pkr_judge(&mut keys, &root, &dsm), Some((number, false)));
         if number == 0 {
             expected
                 .add(leaf[0] & 15, leaf[0] >> 4, &leaf[1..])

@@ -1,5 +1,8 @@
 //! The key chain and the keys of a section beside the second receiver.
 
+mod chains;
+
+use chains::any_chain;
 use leaves::chain::Chain;
 use leaves::times::Slots;
 use second_receiver::bits::BitString;
@@ -15,34 +18,22 @@ struct Pair {
     layout: Layout,
 }
 
-/// Any chain whose blocks hold a field.
 fn any_pair(rng: &mut Rng) -> Pair {
-    loop {
-        let mut contents = rng.array::<44>();
-        contents[0] = (rng.below(4) << 6 | rng.range(1, 3) << 4) as u8;
-        contents[1] = (rng.below(9) << 4 | rng.below(10)) as u8;
-        contents[3] &= 0x0F;
-        contents[5] = rng.range(1, 167) as u8;
-        let second = chain::Chain::new(&contents, rng.range(1, 36) as u8);
-        let layout = Layout::of(&second.parameters);
-        let Some(layout) = layout.filter(|layout| layout.fields > 0) else {
-            continue;
-        };
-        let leaf = Chain {
-            slots: Slots {
-                ns: second.slots.ns.into(),
-                nmack: second.slots.nmack.into(),
-                root: second.slots.start,
-            },
-            alpha: second.parameters.alpha,
-            width: layout.key_bits / 8,
-            ms: layout.tag_bits as u64,
-        };
-        return Pair {
-            leaf,
-            second,
-            layout,
-        };
+    let (second, layout) = any_chain(rng);
+    let leaf = Chain {
+        slots: Slots {
+            ns: second.slots.ns.into(),
+            nmack: second.slots.nmack.into(),
+            root: second.slots.start,
+        },
+        alpha: second.parameters.alpha,
+        width: layout.key_bits / 8,
+        ms: layout.tag_bits as u64,
+    };
+    Pair {
+        leaf,
+        second,
+        layout,
     }
 }
 
@@ -103,6 +94,7 @@ fn what_is_out_of_range_is_refused() {
         assert_eq!(chain.walk(1, 1, &mut key), None);
         assert_eq!(key, [7; 32]);
         assert_eq!(chain.key_fits(1, &key, 1, &key), None);
+        assert_eq!(chain.key_of_slot(1, 1, &mut key), None);
     }
     assert_eq!(leaf.walk(1, 1 << 34, &mut [7; 32]), None);
 }
@@ -134,6 +126,41 @@ fn keys_fit_alike() {
     assert!((900..1_900).contains(&fits), "{fits} fit");
 }
 
+// The key of a slot at or below the held one; above it both give the held key.
+#[test]
+fn keys_of_slots_are_alike() {
+    let mut rng = Rng::new(546);
+    let mut above = 0;
+    for round in 0..5_000 {
+        let Pair { leaf, second, .. } = any_pair(&mut rng);
+        let slot = match round % 4 {
+            0 => rng.below(3),
+            1 => rng.below(1_000_000_000),
+            _ => rng.below(80),
+        };
+        let m = match round % 6 {
+            0 => slot,
+            1 => slot + 1,
+            2 => slot + rng.below(1 << 40),
+            3 => u64::MAX,
+            _ => slot.saturating_sub(rng.below(60)),
+        };
+        // Times past the last week are no one's.
+        if second.slots.time(slot).seconds() < second.slots.start && slot > 0 {
+            continue;
+        }
+        let rest = rng.array::<32>();
+        let right = second.hash_down(&TeslaKey::new(&rest[..leaf.width]), slot, m);
+        let mut key = rest;
+        assert_eq!(leaf.key_of_slot(slot, m, &mut key), Some(()));
+        assert_eq!(key, whole(&right, &rest), "{m} from {slot}");
+        above += u32::from(m > slot);
+    }
+    assert!(above > 1_000, "{above} above");
+    let Pair { leaf, .. } = any_pair(&mut rng);
+    assert_eq!(leaf.key_of_slot((1 << 34) + 1, 1, &mut [7; 32]), None);
+}
+
 /// A section with these keys, any fields, and spare bits that are mostly zero.
 fn section(rng: &mut Rng, layout: &Layout, keys: &[TeslaKey]) -> [u8; 60] {
     let mut bits = BitString::default();
@@ -150,6 +177,17 @@ fn section(rng: &mut Rng, layout: &Layout, keys: &[TeslaKey]) -> [u8; 60] {
         bits.push_bits(&last, 0, spare);
     }
     bits.into_bytes().try_into().unwrap()
+}
+
+/// What the leaf leaves: the highest key of the blocks before the one that fails.
+fn up_to_failure(before: &chain::Chain, mut read: Section, prn: u8, time: Gst) -> chain::Chain {
+    loop {
+        let mut proved = before.clone();
+        if prove_keys(&mut proved, &read, prn, time).is_ok() {
+            return proved;
+        }
+        read.keys.pop();
+    }
 }
 
 #[test]
@@ -193,18 +231,10 @@ fn keys_of_sections_are_judged_alike() {
             })
             .collect();
         let bytes = section(&mut rng, &layout, &keys);
-        let mut read = Section::read(&bytes, &layout);
+        let read = Section::read(&bytes, &layout);
         let before = second.clone();
         let right = prove_keys(&mut second, &read, prn, time).err().unwrap_or(0);
-        // The leaf leaves the highest key of the blocks before the one that fails.
-        let mut proved = second.clone();
-        while right != 0 {
-            read.keys.pop();
-            proved = before.clone();
-            if prove_keys(&mut proved, &read, prn, time).is_ok() {
-                break;
-            }
-        }
+        let proved = up_to_failure(&before, read, prn, time);
         let rest = rng.array::<32>();
         let mut key = whole(&before.held, &rest);
         let given = leaf.keys_proved(time.0, prn, &bytes, before.held_slot, &mut key);

@@ -1,8 +1,9 @@
-//! Public keys and DSM-KROOT beside the second receiver.
+//! Public keys, DSM-KROOT and DSM-PKR beside the second receiver.
 
-use leaves::keys::{chain_unchanged, kroot_judge, pkr_judge, Keys};
+use leaves::keys::Keys;
+use leaves::messages::{kroot_judge, pkr_judge};
 use second_receiver::keys::{key_len, PublicKey, PublicKeys};
-use second_receiver::kroot::{self, RootFields};
+use second_receiver::kroot;
 use second_receiver::pkr::{self, tree_root, Proved};
 use second_receiver::verdict::{filled, WaitingMessage};
 use signal::rng::Rng;
@@ -159,23 +160,6 @@ fn a_dsm_kroot_is_judged_alike() {
     }
 }
 
-#[test]
-fn chains_are_compared_alike() {
-    let mut rng = Rng::new(533);
-    let mut same = 0;
-    for _ in 0..20_000 {
-        let a = rng.array::<44>();
-        let mut b = a;
-        for _ in 0..rng.below(3) {
-            b[rng.below(14) as usize] ^= 1 << rng.below(8);
-        }
-        let right = RootFields::read(&a).parameters == RootFields::read(&b).parameters;
-        assert_eq!(chain_unchanged(&a, &b), Some(right));
-        same += u32::from(right && a != b);
-    }
-    assert!(same > 500, "{same} with other contents");
-}
-
 /// A DSM-PKR that mostly fits the root beside it.
 fn any_pkr(rng: &mut Rng, held: &[PublicKey]) -> (Vec<u8>, [u8; 32]) {
     let mut dsm = rng.bytes(208);
@@ -216,16 +200,16 @@ fn a_dsm_pkr_is_judged_alike() {
         let mut second = any_keys(&mut rng);
         let mut keys = region(second.all());
         let (dsm, root) = any_pkr(&mut rng, second.all());
-        let right = match pkr::judge(&dsm, &root) {
+        let judged = pkr::judge(&dsm, &root);
+        let stops = judged == Ok(Proved::Emergency);
+        let right = match judged {
             Err(number) => number,
-            Ok(Proved::Emergency) => {
-                emergencies += 1;
-                0
-            }
+            Ok(Proved::Emergency) => 0,
             Ok(Proved::Key(key)) => second.add(key).err().unwrap_or(0),
         };
         let given = pkr_judge(&mut keys, &root, &dsm);
-        assert_eq!(given, Some(right.into()));
+        assert_eq!(given, Some((right.into(), stops)));
+        emergencies += u32::from(stops);
         assert_eq!(keys, region(second.all()));
         counts[usize::from(right)] += 1;
     }

@@ -83,7 +83,7 @@ impl RootFields {
     }
 
     /// Row 8. The bytes of a key if all is taken.
-    fn check(&self, maclt: u8) -> Result<usize, Number> {
+    pub fn check(&self, maclt: u8) -> Result<usize, Number> {
         let p = &self.parameters;
         let (Some(key_bits), Some(tag_bits)) = (p.key_bits(), p.tag_bits()) else {
             return Err(WRONG_PARAMETER);

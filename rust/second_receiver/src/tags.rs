@@ -46,7 +46,7 @@ impl Marks {
     }
 
     /// The list for a section.
-    fn at(&self, time: Gst) -> &[u8; MARKS] {
+    pub fn at(&self, time: Gst) -> &[u8; MARKS] {
         if time.second_of_week().is_multiple_of(60) {
             &self.second_0
         } else {
@@ -138,7 +138,7 @@ impl WaitingTag {
     }
 
     /// Due once the held slot reaches its key's slot, counted from the root in force (A71).
-    fn is_due(&self, chain: &Chain) -> bool {
+    pub fn is_due(&self, chain: &Chain) -> bool {
         chain.held_slot >= self.tag.key_slot(&chain.slots)
     }
 }
@@ -213,7 +213,7 @@ pub struct ProvedSection<'a> {
 
 impl ProvedSection<'_> {
     /// The tag of a field.
-    fn tag(&self, field: &Field) -> Tag {
+    pub fn tag(&self, field: &Field) -> Tag {
         let mut tag = Tag {
             sender: self.sender,
             prn: (field.info >> 8) as u8,
@@ -244,7 +244,7 @@ impl ProvedSection<'_> {
     }
 
     /// MACSEQ is the first 12 bits of its message's MAC under the key of block 1's tags.
-    fn macseq_holds(&self, marks: &[u8; MARKS], key: &HmacKey) -> bool {
+    pub fn macseq_holds(&self, marks: &[u8; MARKS], key: &HmacKey) -> bool {
         let macseq = u64::from(self.section.fields[0].info >> 4);
         macseq == take(&key.mac(&self.macseq_message(marks)), 0, MACSEQ_BITS)
     }

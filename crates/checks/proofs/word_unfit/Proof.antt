@@ -8,7 +8,8 @@ use borrow.Author.Tests.{eq-eqb, ne-eqb, not-true, not-false}
 use native.Mathlib.Omega.{arith}
 use Rattle.rules.specs.Calls.{wordUnfit}
 use Rattle.rules.specs.Times.{timeValid}
-use Rattle.checks.proofs.Faults.{true-false, or-false, prn-low, prn-high, prn-in, time-small}
+use Rattle.laws.proofs.Tests.{true-false, or-false}
+use Rattle.checks.proofs.Faults.{prn-low, prn-high, prn-in, time-small}
 use Rattle.checks.proofs.word_unfit.Statement.{statement}
 use Rattle.checks.proofs.word_unfit.Tie as tie
 

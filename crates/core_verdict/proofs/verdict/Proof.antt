@@ -6,7 +6,7 @@ use denote.Ref.{now}
 use borrow.Author.Tests.{not-true, not-false}
 use Rattle.rules.specs.State.{State, state, shaped}
 use Rattle.rules.specs.Verdict as S
-use Rattle.core_verdict.proofs.Lengths.{config-long, keys-long, offer-long, chain-long, numbers-long, key-long, waiting-long}
+use Rattle.checks.proofs.Shapes.{lengths}
 use Rattle.core_verdict.proofs.Effects.{not-shaped, other-message, other-signature, lengths-right}
 use borrow.Author.Needs.{needs}
 use Rattle.core_verdict.proofs.verdict.Statement.{statement}
@@ -50,9 +50,8 @@ returns-3 c =
 judge-verdict-requires : tie.Need-judge-verdict-requires
 judge-verdict-requires c κs =
     let i = c .before .before .before .before .before .before .before .before in
-    let s = whole (start (i .before)) in
-    let h = fits i in
-    (((config-long s h, keys-long s h), (offer-long s h, chain-long s h)), ((numbers-long s h, key-long s h), (waiting-long s h, c .before .before .before .before .before .before .before .if2 .left)))
+    let h = lengths (whole (start (i .before))) (fits i) in
+    (((h .config, h .keys), (h .offer, h .chain)), ((h .numbers, h .key), (h .waiting, c .before .before .before .before .before .before .before .if2 .left)))
 
 returns-4 : tie.Need-returns-4
 returns-4 c =

@@ -4,7 +4,7 @@ use mathlib.Core.Path.{refl, sym, _∙_}
 use denote.Ref.{now}
 use borrow.Author.Needs.{needs}
 use borrow.Author.Tests.{eq-eqb, ne-eqb, not-true, not-false}
-use Rattle.checks.proofs.Faults.{both-true}
+use Rattle.laws.proofs.Tests.{both-true}
 use Rattle.checks.proofs.Shapes.{lengths}
 use Rattle.rules.specs.State.{state}
 use Rattle.core_word.proofs.Words.{lengths-unfit, bytes-unfit}
@@ -23,7 +23,7 @@ take-word-requires c κs = let k = lengths _ (sym (c .before .before .before .be
 
 returns-3 : tie.Need-returns-3
 returns-3 c = let g = c .before .before .before .before .before .before .before .before .before .before .before .before .before .before .before .before .before .before .before .before .before .before .before .before .before .before .before .before .before .before .before .before .before .before .args in
-    rw (← (c .before .before .before .before .before .before .before .wide .ensures))
+    rw (← (c .before .before .before .before .before .before .before .index .ensures .0))
     (c .before .before .before .before .before .before .take-word .ensures
     (state (now (g .config)) (now (g .clocks)) (now (g .words)) (now (g .stamps)) (now (g .blocks)) (now (g .headers)) (now (g .marks)) (now (g .since)) (now (g .keys)) (now (g .offer)) (now (g .chain)) (now (g .numbers)) (now (g .key)) (now (g .waiting)) (now (g .sets)) (now (g .arrivals)))
     refl

@@ -8,7 +8,7 @@ use Rattle.gather.proofs.block_id_of.Tie as tie
 
 returns : tie.Need-returns
 unfolding Rule.blockIdOf
-returns c = (rw (c .wide .ensures .0), omega (arith, c .wide .ensures .1))
+returns c = (rw (c .index .ensures .0), omega (arith, c .index .ensures .1))
 
 pub block-id-of-spec : {M : Type 1} → statement M
 block-id-of-spec = tie.close (tie.spec (λ c. search needs) (λ c κs. search needs) returns)

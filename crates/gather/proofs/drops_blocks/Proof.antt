@@ -3,7 +3,7 @@
 use Rattle.rules.specs.Gather as Rule
 use mathlib.Core.Path.{sym, _∙_}
 use borrow.Author.Tests.{eq-eqb, ne-eqb}
-use Rattle.gather.proofs.Stores.{or-false}
+use Rattle.laws.proofs.Tests.{or-false}
 use borrow.Author.Needs.{needs}
 use Rattle.gather.proofs.drops_blocks.Statement.{statement}
 use Rattle.gather.proofs.drops_blocks.Tie as tie
@@ -28,7 +28,7 @@ unfolding Rule.dropsBlocks
 returns-4 c =
     rw
     (sym (c .before .before .before .before .before .before .before .too-old .ensures) ∙ c .before .before .before .before .before .before .if1 .left, ← (c .before .before .before .before .header-of .ensures), eq-eqb _ _ (c .before .before .before .if2 .left), ← (c .before .before .before .before .before .before .before .before .before .block-id-of .ensures .0), ← (c .before .before .other-bytes .ensures), c .before .if3 .left, ← (c .count-too-low .ensures))
-    (or-false _)
+    (sym (or-false _))
 
 pub drops-blocks-spec : {M : Type 1} → statement M
 drops-blocks-spec =

@@ -1,29 +1,21 @@
--- `keyring::key_length` meets its contract: each return is an entry of the table.
+-- `keyring::key_length` meets its contract: a place of the table, or its last entry.
 -- Assumes nothing.
 use mathlib.Core.Path.{sym}
 use mathlib.Core.List.{[], _∷_}
 use native.Mathlib.Omega.{arith}
 use borrow.Author.Needs.{needs}
+use Rattle.laws.proofs.Table.{table-last, table-entry}
 use Rattle.rules.specs.Keys as S
-use Rattle.keyring.proofs.Keys.{table-last}
 use Rattle.keyring.proofs.key_length.Statement.{statement}
 use Rattle.keyring.proofs.key_length.Tie as tie
 
 returns : tie.Need-returns
 unfolding S.keyLength
-returns c = search needs
+returns c = sym (table-last (29 ∷ 33 ∷ 49 ∷ []) 67 (c .before .args .kind) (omega arith))
 
 returns-2 : tie.Need-returns-2
 unfolding S.keyLength
-returns-2 c = search needs
-
-returns-3 : tie.Need-returns-3
-unfolding S.keyLength
-returns-3 c = search needs
-
-returns-4 : tie.Need-returns-4
-unfolding S.keyLength
-returns-4 c = sym (table-last (29 ∷ 33 ∷ 49 ∷ []) 67 (c .before .args .kind) (omega arith))
+returns-2 c = table-entry (29 ∷ 33 ∷ 49 ∷ 67 ∷ []) 0 67 (c .before .args .kind) (omega arith)
 
 pub key-length-spec : {M : Type 1} → statement M
-key-length-spec = tie.close (tie.spec returns returns-2 returns-3 returns-4)
+key-length-spec = tie.close (tie.spec returns (λ c. search needs) (λ c. search needs) returns-2)

@@ -12,13 +12,13 @@ use Rattle.messages.proofs.fields_for.Tie as tie
 returns : tie.Need-returns
 unfolding S.fieldsFor
 returns c =
-    let g = c .before .before .args in
-    let e : S.blockBits (g .nmack) - g .ks ≡ 0 = omega (arith, c .before .block-bits .ensures) in
+    let g = c .before .before .before .args in
+    let e : S.blockBits (g .nmack) - g .ks ≡ 0 = rw (← (c .before .before .wide .ensures .0)) (omega (arith, c .before .block-bits .ensures)) in
     rw e (sym (zero-div (g .ms + 16)))
 
 returns-2 : tie.Need-returns-2
 unfolding S.fieldsFor
-returns-2 c = rw (c .before .block-bits .ensures)
+returns-2 c = rw (c .before .block-bits .ensures, c .before .before .wide .ensures .0)
 
 pub fields-for-spec : {M : Type 1} → statement M
-fields-for-spec = tie.close (tie.spec (λ c κs. search needs) returns (λ c. search needs) (λ c. search needs) returns-2)
+fields-for-spec = tie.close (tie.spec (λ c κs. search needs) (λ c κs. search needs) returns (λ c. search needs) (λ c. search needs) returns-2)

@@ -1,7 +1,7 @@
 -- `navdata::one_issue` meets its contract: each test is the definition's own.
 -- Assumes nothing.
 use Rattle.rules.specs.Words.{oneIssue, wordCame}
-use Rattle.navdata.proofs.Sets.{and-true}
+use Rattle.laws.proofs.Tests.{and-true}
 use borrow.Author.Needs.{needs}
 use Rattle.navdata.proofs.one_issue.Statement.{statement}
 use Rattle.navdata.proofs.one_issue.Tie as tie

@@ -2,7 +2,7 @@
 -- Assumes nothing.
 use denote.Ref.{now}
 use Rattle.rules.specs.Words.{usable, setUsable}
-use Rattle.navdata.proofs.Sets.{and-true}
+use Rattle.laws.proofs.Tests.{and-true}
 use borrow.Author.Needs.{needs}
 use Rattle.navdata.proofs.usable.Statement.{statement}
 use Rattle.navdata.proofs.usable.Tie as tie

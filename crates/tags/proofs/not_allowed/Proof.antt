@@ -3,7 +3,7 @@
 use borrow.Author.Needs.{needs}
 use Rattle.rules.specs.State.{prnValid}
 use Rattle.rules.specs.Tags as rules
-use Rattle.tags.proofs.Places.{or-false}
+use Rattle.laws.proofs.Tests.{or-false}
 use Rattle.tags.proofs.not_allowed.Statement.{statement}
 use Rattle.tags.proofs.not_allowed.Tie as tie
 

@@ -1,0 +1,3 @@
+-- Laws of the start.
+mod Cleared
+mod Answers

@@ -1,0 +1,47 @@
+-- `core_start::set_config` meets its contract: the parts stand one after the other and fill the region.
+-- Assumes nothing.
+use mathlib.Core.Path.{_≡_, sym, ap, _∙_}
+use denote.Ref.{now}
+use lib.ListN.{length, set, length-set}
+use borrow.Author.Needs.{needs}
+use native.Mathlib.Omega.{arith}
+use Rattle.core_start.proofs.Cleared.{length-two, config-set}
+use Rattle.core_start.proofs.set_config.Statement.{statement}
+use Rattle.core_start.proofs.set_config.Tie as tie
+
+-- the region is as long as it was
+long : (c : tie.After-slice-known3) → length (c .before .before .copy-at2 .last .0) ≡ length (now (c .before .before .before .before .before .before .before .before .before .before .before .args .config))
+long c =
+    let g = c .before .before .before .before .before .before .before .before .before .before .before .args in
+    c .before .before .copy-at2 .kept .0 ∙ c .before .before .before .before .before .before .copy-at .kept .0 ∙ length-two (now (g .config)) (g .ns) (g .maclt)
+
+copy-at-requires : tie.Need-copy-at-requires
+copy-at-requires c κs = simp length-set (omega arith)
+
+copy-at-requires-2 : tie.Need-copy-at-requires-2
+copy-at-requires-2 c κs =
+    let g = c .before .before .before .before .before .before .before .before .args in
+    omega (arith, c .before .before .before .copy-at .kept .0, length-two (now (g .config)) (g .ns) (g .maclt))
+
+slice-write-config-3 : tie.Need-slice-write-config-3
+slice-write-config-3 c = omega (arith, long c)
+
+same-length : tie.Need-same-length
+same-length c = length-set (c .before .before .copy-at2 .last .0) 62 0 ∙ long c
+
+returns : tie.Need-returns
+returns c =
+    let p = c .before .before .before .before .before .before .before .before .before .before .before in
+    let a = c .before .before .before .before .before .before .copy-at in
+    let b = c .before .before .copy-at2 in
+    config-set (now (p .args .config)) (a .last .0) (b .last .0) (p .args .ns) (p .args .maclt) (now (p .args .adkds)) (now (p .args .root)) (p .pre .0) (p .pre .1 .0) (p .pre .1 .1) (a .ensures) (b .ensures)
+
+pub set-config-spec : {M : Type 1} → statement M
+set-config-spec =
+    tie.close
+    (tie.spec (λ c. search needs) (λ c. search needs)
+    copy-at-requires
+    copy-at-requires-2
+    slice-write-config-3
+    same-length
+    returns)

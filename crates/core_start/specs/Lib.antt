@@ -1,0 +1,2 @@
+-- what an accepted start writes
+pub mod Blank

@@ -1,0 +1,3 @@
+-- Laws of the sweep.
+pub mod Arrival
+pub mod Judged

@@ -1,0 +1,2 @@
+-- Laws of the way down the chain.
+pub mod Falling

@@ -1,0 +1,2 @@
+-- What the contracts of `field_edge` cite.
+pub mod Edge

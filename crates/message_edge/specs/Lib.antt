@@ -1,0 +1,2 @@
+-- What the contracts of `message_edge` cite.
+pub mod Edge

@@ -1,0 +1,121 @@
+//! DSM-KROOT, DSM-PKR, the message that waits and the chain (crates/messages, crates/tree).
+
+use crate::keys::Keys;
+use crate::raw;
+
+/// A complete DSM-KROOT that came under `header` is judged: 01's number. What then waits for a verdict
+/// is in `offer`.
+pub fn kroot_judge(
+    keys: &Keys,
+    maclt: u8,
+    offer: &mut [u8; 179],
+    header: u8,
+    dsm: &[u8],
+) -> Option<u32> {
+    let (offer, offer_len) = (offer.as_mut_ptr(), offer.len());
+    // SAFETY: each region is lent with its length; lengths are as required.
+    (91 <= dsm.len()).then(|| unsafe {
+        raw::leaf_kroot_judge(
+            keys.0.as_ptr(),
+            keys.0.len(),
+            maclt,
+            offer,
+            offer_len,
+            header,
+            dsm.as_ptr(),
+            dsm.len(),
+        )
+    })
+}
+
+/// A complete DSM-PKR is judged by the installed root: 01's number, and whether it stops the receiver. A
+/// key that it brings is then in `keys`.
+pub fn pkr_judge(keys: &mut Keys, root: &[u8], dsm: &[u8]) -> Option<(u32, bool)> {
+    if !(91..=208).contains(&dsm.len()) {
+        return None;
+    }
+    let (root, root_len) = (root.as_ptr(), root.len());
+    let (dsm, dsm_len) = (dsm.as_ptr(), dsm.len());
+    let mut again = keys.clone();
+    // SAFETY: as above.
+    let (code, stops) = unsafe {
+        let (one, other) = (keys.0.as_mut_ptr(), again.0.as_mut_ptr());
+        (
+            raw::leaf_pkr_code(one, 1088, root, root_len, dsm, dsm_len),
+            raw::leaf_pkr_stops(other, 1088, root, root_len, dsm, dsm_len),
+        )
+    };
+    assert_eq!(*keys, again);
+    Some((code, stops == 1))
+}
+
+/// Whether a verdict names what waits in `offer`.
+pub fn names_offer(offer: &[u8; 179], id: u8, message: &[u8], signature: &[u8]) -> bool {
+    // SAFETY: each is lent with its length; the offer's is as required.
+    unsafe {
+        raw::leaf_names_offer(
+            offer.as_ptr(),
+            offer.len(),
+            id,
+            message.as_ptr(),
+            message.len(),
+            signature.as_ptr(),
+            signature.len(),
+        ) == 1
+    }
+}
+
+/// Whether the region of the chain holds one in force.
+pub fn in_force(maclt: u8, chain: &[u8; 45]) -> bool {
+    // SAFETY: the region is lent with its length, which is as required.
+    unsafe { raw::leaf_in_force(maclt, chain.as_ptr(), chain.len()) == 1 }
+}
+
+/// The numbers of a chain.
+#[derive(Clone, Copy, Debug, PartialEq, Eq)]
+pub struct Numbers {
+    pub ns: u64,
+    pub nmack: u64,
+    /// Seconds of the root's sub-frame 0.
+    pub root: u64,
+    pub alpha: [u8; 6],
+    /// Bytes of a key.
+    pub width: u64,
+    /// Bits of a tag.
+    pub ms: u64,
+    /// Fields of a MACK block.
+    pub fields: u64,
+}
+
+/// The numbers of the chain with these contents.
+pub fn chain_with(ns: u64, contents: &[u8]) -> Option<Numbers> {
+    let (mut numbers, mut alpha) = ([0; 6], [0; 6]);
+    // SAFETY: the contents are lent with their length, which is as required; the arrays are lent.
+    (44 <= contents.len()).then(|| unsafe {
+        raw::leaf_chain_with(
+            ns,
+            contents.as_ptr(),
+            contents.len(),
+            &mut numbers,
+            &mut alpha,
+        )
+    })?;
+    let [ns, nmack, root, width, ms, fields] = numbers;
+    Some(Numbers {
+        ns,
+        nmack,
+        root,
+        alpha,
+        width,
+        ms,
+        fields,
+    })
+}
+
+/// Whether two chains' contents have equal CID, parameters and alpha.
+pub fn chain_unchanged(a: &[u8], b: &[u8]) -> Option<bool> {
+    // SAFETY: as above.
+    (44 <= a.len() && 44 <= b.len()).then(|| unsafe {
+        raw::leaf_chain_unchanged(a.as_ptr(), a.len(), b.as_ptr(), b.len()) == 1
+    })
+}
