@@ -16,13 +16,6 @@ ghost use Rattle.rules.specs.Calls.{wordUnfit, wordChecks};
 
 // ---- lengths of the lent regions
 
-// Both hold.
-pub fn both(a: bool, b: bool) -> bool
-    ensures { λ r. ⌜ r ≡ (a && b) ⌝ }
-{
-    bools::both(a, b)
-}
-
 fn four(a: bool, b: bool, c: bool, d: bool) -> bool
     ensures { λ r. ⌜ r ≡ (a && (b && (c && d))) ⌝ }
 {

@@ -12,7 +12,7 @@ use Rattle.rules.specs.Calls.{Start, startChecks, startLengths, startUnfit, sta
 use Rattle.rules.specs.Keys.{keyLength, withKey}
 use Rattle.rules.specs.Kroot.{noOffer}
 use Rattle.rules.specs.State.{State, Nav, Store, Tesla, Auth, shaped}
-use Rattle.core_start.specs.Blank.{settings, noWords, noBlocks, noTags, noSets}
+use Rattle.start_parts.specs.Blank.{settings, noWords, noBlocks, noTags, noSets}
 
 module _ (s : State) (x : Start) where
   -- ---- the number

@@ -1,3 +1,2 @@
 -- Laws of the start.
-mod Cleared
 mod Answers

@@ -1,12 +1,12 @@
--- `core_start::start_unfit` meets its contract: each test is the rule's, and a start that is fit has key ID and type in range.
+-- `start_parts::start_unfit` meets its contract: each test is the rule's, and a start that is fit has key ID and type in range.
 -- Assumes nothing.
 use borrow.Author.Needs.{needs}
 use borrow.Author.Tests.{lt-ltb, le-ltb, le-leb, lt-leb}
 use native.Mathlib.Omega.{arith}
 use Rattle.laws.proofs.Tests.{true-false}
 use Rattle.rules.specs.Calls.{startUnfit}
-use Rattle.core_start.proofs.start_unfit.Statement.{statement}
-use Rattle.core_start.proofs.start_unfit.Tie as tie
+use Rattle.start_parts.proofs.start_unfit.Statement.{statement}
+use Rattle.start_parts.proofs.start_unfit.Tie as tie
 
 returns : tie.Need-returns
 unfolding startUnfit

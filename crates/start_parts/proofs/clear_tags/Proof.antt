@@ -1,9 +1,9 @@
--- `core_start::clear_tags` meets its contract. Assumes nothing.
+-- `start_parts::clear_tags` meets its contract. Assumes nothing.
 use denote.Ref.{now}
 use borrow.Author.Needs.{needs}
-use Rattle.core_start.proofs.Cleared.{tags-clear}
-use Rattle.core_start.proofs.clear_tags.Statement.{statement}
-use Rattle.core_start.proofs.clear_tags.Tie as tie
+use Rattle.start_parts.proofs.Cleared.{tags-clear}
+use Rattle.start_parts.proofs.clear_tags.Statement.{statement}
+use Rattle.start_parts.proofs.clear_tags.Tie as tie
 
 returns : tie.Need-returns
 returns c =

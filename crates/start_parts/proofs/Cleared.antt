@@ -14,7 +14,7 @@ use Rattle.keyring.proofs.Keys.{splice-one}
 use Rattle.navdata.specs.Pieces.{nav}
 use Rattle.rules.specs.Calls.{markValid, marksValid}
 use Rattle.rules.specs.Keys.{keyLength, withKey}
-use Rattle.core_start.specs.Blank.{settings, tesla, noWords, noBlocks, noTags, noSets}
+use Rattle.start_parts.specs.Blank.{settings, tesla, noWords, noBlocks, noTags, noSets}
 
 -- a loop that clears: one more number is 0
 pub clear-more : (d : List ℕ) (n i : ℕ) → n ≤ length d → i < n → set (splice d 0 (take i (replicate n 0))) i 0 ≡ splice d 0 (take (i + 1) (replicate n 0))

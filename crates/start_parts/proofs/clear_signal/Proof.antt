@@ -1,9 +1,9 @@
--- `core_start::clear_signal` meets its contract. Assumes nothing.
+-- `start_parts::clear_signal` meets its contract. Assumes nothing.
 use denote.Ref.{now}
 use borrow.Author.Needs.{needs}
-use Rattle.core_start.proofs.Cleared.{cleared, words-clear}
-use Rattle.core_start.proofs.clear_signal.Statement.{statement}
-use Rattle.core_start.proofs.clear_signal.Tie as tie
+use Rattle.start_parts.proofs.Cleared.{cleared, words-clear}
+use Rattle.start_parts.proofs.clear_signal.Statement.{statement}
+use Rattle.start_parts.proofs.clear_signal.Tie as tie
 
 returns : tie.Need-returns
 returns c =

@@ -1,4 +1,4 @@
--- `core_start::clear_u32` meets its contract: after i turns the first i numbers are 0.
+-- `start_parts::clear_u16` meets its contract: after i turns the first i numbers are 0.
 -- Assumes nothing.
 use mathlib.Core.Path.{_≡_, ap, _∙_}
 use Prim.Native.Nat.{ℕ, _-_, _≤_}
@@ -7,9 +7,9 @@ use denote.Ref.{now}
 use Rattle.laws.specs.Lists.{splice}
 use Rattle.laws.proofs.Splice.{length-splice, splice-none, splice-all}
 use native.Mathlib.Omega.{arith}
-use Rattle.core_start.proofs.Cleared.{clear-more}
-use Rattle.core_start.proofs.clear_u32.Statement.{statement}
-use Rattle.core_start.proofs.clear_u32.Tie as tie
+use Rattle.start_parts.proofs.Cleared.{clear-more}
+use Rattle.start_parts.proofs.clear_u16.Statement.{statement}
+use Rattle.start_parts.proofs.clear_u16.Tie as tie
 
 abbrev Inv-loop : tie.InvT-loop
 Inv-loop dst₀ n i₀ dst i = (i ≤ n) × (dst ≡ splice dst₀ 0 (take i (replicate n 0)))
@@ -45,8 +45,8 @@ returns c =
     let l = c .before .loop in
     l .inv .1 ∙ splice-all (now (g .dst)) 0 (replicate (g .n) 0) (l .i) (omega (arith, length-replicate {A = ℕ} (g .n) 0))
 
-pub clear-u32-spec : {M : Type 1} → statement M
-clear-u32-spec =
+pub clear-u16-spec : {M : Type 1} → statement M
+clear-u16-spec =
     tie.close
     (tie.spec
     Inv-loop

@@ -1,9 +1,9 @@
--- `core_start::marks_unfit` meets its contract. Assumes nothing.
+-- `start_parts::marks_unfit` meets its contract. Assumes nothing.
 use borrow.Author.Needs.{needs}
 use borrow.Author.Tests.{eq-eqb, ne-eqb}
 use Rattle.laws.proofs.Tests.{or-false}
-use Rattle.core_start.proofs.marks_unfit.Statement.{statement}
-use Rattle.core_start.proofs.marks_unfit.Tie as tie
+use Rattle.start_parts.proofs.marks_unfit.Statement.{statement}
+use Rattle.start_parts.proofs.marks_unfit.Tie as tie
 
 returns : tie.Need-returns
 returns c = rw (← (c .before .marks-valid .ensures), c .if1 .taken)

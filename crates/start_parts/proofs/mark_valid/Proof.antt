@@ -1,8 +1,8 @@
--- `core_start::mark_valid` meets its contract. Assumes nothing.
+-- `start_parts::mark_valid` meets its contract. Assumes nothing.
 use borrow.Author.Tests.{le-leb, lt-leb}
 use Rattle.rules.specs.Calls.{markValid}
-use Rattle.core_start.proofs.mark_valid.Statement.{statement}
-use Rattle.core_start.proofs.mark_valid.Tie as tie
+use Rattle.start_parts.proofs.mark_valid.Statement.{statement}
+use Rattle.start_parts.proofs.mark_valid.Tie as tie
 
 returns : tie.Need-returns
 unfolding markValid

@@ -1,13 +1,13 @@
--- `core_start::set_config` meets its contract: the parts stand one after the other and fill the region.
+-- `start_parts::set_config` meets its contract: the parts stand one after the other and fill the region.
 -- Assumes nothing.
 use mathlib.Core.Path.{_≡_, sym, ap, _∙_}
 use denote.Ref.{now}
 use lib.ListN.{length, set, length-set}
 use borrow.Author.Needs.{needs}
 use native.Mathlib.Omega.{arith}
-use Rattle.core_start.proofs.Cleared.{length-two, config-set}
-use Rattle.core_start.proofs.set_config.Statement.{statement}
-use Rattle.core_start.proofs.set_config.Tie as tie
+use Rattle.start_parts.proofs.Cleared.{length-two, config-set}
+use Rattle.start_parts.proofs.set_config.Statement.{statement}
+use Rattle.start_parts.proofs.set_config.Tie as tie
 
 -- the region is as long as it was
 long : (c : tie.After-slice-known3) → length (c .before .before .copy-at2 .last .0) ≡ length (now (c .before .before .before .before .before .before .before .before .before .before .before .args .config))

@@ -1,11 +1,11 @@
--- `core_start::clear_message` meets its contract. Assumes nothing.
+-- `start_parts::clear_message` meets its contract. Assumes nothing.
 use denote.Ref.{now}
 use borrow.Author.Needs.{needs}
 use native.Mathlib.Omega.{arith}
 use Rattle.rules.specs.Kroot.{noOffer}
-use Rattle.core_start.proofs.Cleared.{cleared}
-use Rattle.core_start.proofs.clear_message.Statement.{statement}
-use Rattle.core_start.proofs.clear_message.Tie as tie
+use Rattle.start_parts.proofs.Cleared.{cleared}
+use Rattle.start_parts.proofs.clear_message.Statement.{statement}
+use Rattle.start_parts.proofs.clear_message.Tie as tie
 
 returns : tie.Need-returns
 unfolding noOffer

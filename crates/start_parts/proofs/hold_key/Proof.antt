@@ -1,4 +1,4 @@
--- `core_start::hold_key` meets its contract: all places are cleared, then the key takes its own.
+-- `start_parts::hold_key` meets its contract: all places are cleared, then the key takes its own.
 -- Assumes nothing.
 use mathlib.Core.Path.{_≡_, sym, ap, _∙_}
 use Prim.Native.Nat.{_≤_}
@@ -7,9 +7,9 @@ use denote.Ref.{now}
 use borrow.Author.Needs.{needs}
 use native.Mathlib.Omega.{arith}
 use Rattle.keyring.proofs.Keys.{key-bound}
-use Rattle.core_start.proofs.Cleared.{cleared, key-held}
-use Rattle.core_start.proofs.hold_key.Statement.{statement}
-use Rattle.core_start.proofs.hold_key.Tie as tie
+use Rattle.start_parts.proofs.Cleared.{cleared, key-held}
+use Rattle.start_parts.proofs.hold_key.Statement.{statement}
+use Rattle.start_parts.proofs.hold_key.Tie as tie
 
 part-add-key-end : tie.Need-part-add-key-end
 part-add-key-end c =

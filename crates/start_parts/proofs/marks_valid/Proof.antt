@@ -1,4 +1,4 @@
--- `core_start::marks_valid` meets its contract: after i turns the first i marks are looked at.
+-- `start_parts::marks_valid` meets its contract: after i turns the first i marks are looked at.
 -- Assumes nothing.
 use mathlib.Core.Path.{_≡_, refl, ap, _∙_}
 use Prim.Native.Nat.{_-_, _+_, _≤_}
@@ -6,9 +6,9 @@ use denote.Ref.{now}
 use borrow.Author.Needs.{needs}
 use native.Mathlib.Omega.{arith}
 use Rattle.rules.specs.Calls.{marksValid}
-use Rattle.core_start.proofs.Cleared.{marks-more}
-use Rattle.core_start.proofs.marks_valid.Statement.{statement}
-use Rattle.core_start.proofs.marks_valid.Tie as tie
+use Rattle.start_parts.proofs.Cleared.{marks-more}
+use Rattle.start_parts.proofs.marks_valid.Statement.{statement}
+use Rattle.start_parts.proofs.marks_valid.Tie as tie
 
 abbrev Inv-loop : tie.InvT-loop
 Inv-loop adkds ok₀ i₀ ok i = (i ≤ 28) × (ok ≡ marksValid adkds i)
