@@ -5,7 +5,7 @@ use mathlib.Core.Bool.{Bool, _&&_}
 use Prim.Native.Nat.{ℕ, _+_, _-_, _≤_, _<_}
 use native.Mathlib.Numerals.{add-one}
 use native.Mathlib.Omega.{arith}
-use lib.ListN.{length, getD, take, replicate, set, length-set, length-append, length-replicate, getD-replicate}
+use lib.ListN.{length, getD, take, replicate, set, length-append, length-replicate, getD-replicate}
 use Rattle.authentic.specs.Regions.{auth}
 use Rattle.gather.specs.Store.{store}
 use Rattle.laws.specs.Lists.{splice}
@@ -35,9 +35,6 @@ unfolding marksValid
 marks-more m i a b r p q e = rw (add-one i) (e ∙ rw (p, q))
 
 -- ---- settings
-
-pub length-two : (d : List ℕ) (x y : ℕ) → length (set (set d 0 x) 1 y) ≡ length d
-length-two d x y = simp length-set
 
 -- the first two elements of a list
 first-two : (d : List ℕ) (x y : ℕ) → 2 ≤ length d → set (set d 0 x) 1 y ≡ splice d 0 (x ∷ y ∷ [])

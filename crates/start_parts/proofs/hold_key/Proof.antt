@@ -20,7 +20,7 @@ add-key-requires : tie.Need-add-key-requires
 add-key-requires c κs =
     let p = c .before .before .before .before .before .before .before .before .before in
     let n = c .before .before .key-length in
-    ((c .before .before .before .before .before .fill .kept .0 ∙ p .pre .0 .0, p .pre .1 .0), (p .pre .1 .1, simp length-take (omega (arith, n .ensures, key-bound (p .args .kind)))))
+    ((c .before .before .before .before .before .fill .kept .0 ∙ p .pre .0 .0, omega arith), (omega arith, simp length-take (omega (arith, n .ensures, key-bound (p .args .kind)))))
 
 returns : tie.Need-returns
 returns c =

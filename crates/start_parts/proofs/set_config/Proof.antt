@@ -5,29 +5,27 @@ use denote.Ref.{now}
 use lib.ListN.{length, set, length-set}
 use borrow.Author.Needs.{needs}
 use native.Mathlib.Omega.{arith}
-use Rattle.start_parts.proofs.Cleared.{length-two, config-set}
+use Rattle.start_parts.proofs.Cleared.{config-set}
 use Rattle.start_parts.proofs.set_config.Statement.{statement}
 use Rattle.start_parts.proofs.set_config.Tie as tie
 
 -- the region is as long as it was
 long : (c : tie.After-slice-known3) → length (c .before .before .copy-at2 .last .0) ≡ length (now (c .before .before .before .before .before .before .before .before .before .before .before .args .config))
-long c =
-    let g = c .before .before .before .before .before .before .before .before .before .before .before .args in
-    c .before .before .copy-at2 .kept .0 ∙ c .before .before .before .before .before .before .copy-at .kept .0 ∙ length-two (now (g .config)) (g .ns) (g .maclt)
+long c = c .before .before .copy-at2 .kept .0 ∙ c .before .before .before .before .before .before .copy-at .kept .0 ∙ (simp length-set)
 
 copy-at-requires : tie.Need-copy-at-requires
 copy-at-requires c κs = simp length-set (omega arith)
 
 copy-at-requires-2 : tie.Need-copy-at-requires-2
 copy-at-requires-2 c κs =
-    let g = c .before .before .before .before .before .before .before .before .args in
-    omega (arith, c .before .before .before .copy-at .kept .0, length-two (now (g .config)) (g .ns) (g .maclt))
+    let k : length (c .before .before .before .copy-at .last .0) ≡ length (now (c .before .before .before .before .before .before .before .before .args .config)) = c .before .before .before .copy-at .kept .0 ∙ (simp length-set) in
+    omega (arith, k)
 
 slice-write-config-3 : tie.Need-slice-write-config-3
 slice-write-config-3 c = omega (arith, long c)
 
 same-length : tie.Need-same-length
-same-length c = length-set (c .before .before .copy-at2 .last .0) 62 0 ∙ long c
+same-length c = length-set (c .before .before .copy-at2 .last .0) 62 _ ∙ long c
 
 returns : tie.Need-returns
 returns c =
