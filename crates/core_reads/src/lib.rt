@@ -62,7 +62,7 @@ pub fn read_set(
     if out.len() != 69 {
         return 1;
     }
-    take_set(sets, arrivals, wide(prn), out, issue, time)
+    take_set(sets, arrivals, bitfields::index(prn), out, issue, time)
 }
 
 // A read of a set whose lengths are right.
@@ -92,13 +92,6 @@ fn take_set(
     *issue = navdata::set_issue(out);
     *time = stamp - 1;
     0
-}
-
-// A PRN as an index.
-fn wide(prn: u8) -> usize
-    ensures { λ r. ⌜ r ≡ prn ⌝ }
-{
-    prn as usize
 }
 
 // What waits for a verdict: the message into 45 lent bytes, its signature into 132, its key into 67.

@@ -8,6 +8,7 @@ use native.Mathlib.Omega.{arith}
 use lib.Dec.{leb, ltb, eqb}
 use lib.ListN.{getD}
 use borrow.Author.Tests.{eq-eqb, ne-eqb, le-leb}
+use Rattle.laws.proofs.Tests.{or-false}
 use Rattle.laws.specs.Lists.{same}
 use Rattle.laws.specs.Refusal.{neb, firstOf}
 use Rattle.rules.specs.Bits.{within}
@@ -15,10 +16,6 @@ use Rattle.rules.specs.Gather.{statusOf, cidOf}
 use Rattle.rules.specs.Kroot.{cidkrOf, rootSecondsOf, chainContents, inForce, everForced}
 use Rattle.rules.specs.State.{State, macltOf}
 use Rattle.rules.specs.Verdict as S
-
-or-false : (a : Bool) → (a || false) ≡ a
-or-false true = refl
-or-false false = refl
 
 -- status 1 or 2, where it is neither 0 nor 3
 within-low : (n : ℕ) → n ≡ 0 → within 1 2 n ≡ false

@@ -46,7 +46,7 @@ returns-3 : tie.Need-returns-3
 returns-3 c =
     let k = c .before .before .before .before .before .before .before in
     let g = start (k .before .before) in
-    rw (← (c .before .before .before .before .before .before .wide .ensures))
+    rw (← (c .before .before .before .before .before .before .index .ensures .0))
     (c .before .before .take-set .ensures (whole g) refl (set-lengths (whole g) (g .args .prn) (now (g .args .out)) (fits (k .before)) (k .if2 .left)))
 
 pub read-set-spec : {M : Type 1} → statement M
