@@ -1,0 +1,3 @@
+-- Laws of a section's own tags.
+pub mod Keys
+pub mod Fields
