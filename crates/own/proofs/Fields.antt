@@ -4,7 +4,7 @@ use mathlib.Core.Path.{_≡_, refl, sym, ap, _∙_}
 use mathlib.Core.Bool.{Bool, true, false, cond, not, _&&_, _||_}
 use mathlib.Core.Logic.{⊎-elim}
 use mathlib.Core.List.{List, [], _∷_, _++_, append-nil}
-use Prim.Native.Nat.{ℕ, zero, suc, _+_, _-_, _*_, _≤_, _<_}
+use Prim.Native.Nat.{ℕ, _+_, _*_, _≤_, _<_}
 use native.Mathlib.Omega.{arith}
 use native.Mathlib.Nat.{sub-self}
 use native.Mathlib.Numerals.{add-one}
@@ -18,7 +18,7 @@ use Rattle.laws.specs.Refusal.{neb}
 use Rattle.rules.specs.Bits.{anyOf}
 use Rattle.rules.specs.Chain.{Held}
 use Rattle.rules.specs.State.{Nav, markOf, prnValid}
-use Rattle.rules.specs.Tags.{Work, Section, told, kept, tagRecord, recordIssue, tagEntry, tagMatches, ownTag, notAllowed, secondHalf, flexible, macseqFits, ownOutcome, ownJudged, ownsJudged}
+use Rattle.rules.specs.Tags.{Work, Section, told, kept, recordIssue, tagEntry, tagMatches, ownTag, notAllowed, secondHalf, flexible, macseqFits, ownOutcome, ownJudged, ownsJudged}
 use Rattle.rules.specs.Times.{delayOf}
 use Rattle.rules.specs.Words.{usable, setOf}
 use Rattle.rules.specs.declared.Chain.{Chain}
@@ -93,12 +93,10 @@ one-judged config n c h x j fits w p o set t e f s v q =
 -- ---- a tag's work adds to what was there
 
 -- a part right after another
-right-after : (d s t : List ℕ) (a b : ℕ) → a + length s ≡ b → b + length t ≤ length d → splice (splice d a s) b t ≡ splice d a (s ++ t)
+pub right-after : (d s t : List ℕ) (a b : ℕ) → a + length s ≡ b → b + length t ≤ length d → splice (splice d a s) b t ≡ splice d a (s ++ t)
 right-after d s t a b e h = rw (← e) (splice-append d a s t (omega arith))
 
-abbrev alone : ℕ → Tag → List ℕ → Work → Work
-alone o t s w = settled o t s (start (w .count) (w .sets) (w .times))
-
+-- `settled` by whether the tag waits
 abbrev by-wait : Bool → ℕ → Tag → List ℕ → Work → Work
 by-wait b o t s w = cond b (kept (tagEntry t s) (told o t s w)) (told o t s w)
 
@@ -154,7 +152,7 @@ module _ (o : ℕ) (t : Tag) (s : List ℕ) (w : Work) where
 
 -- the same of a field
 module _ (config : List ℕ) (n : Nav) (c : Chain) (h : Held) (x : Section) (j : ℕ) (w : Work) where
-  abbrev one : Work
+  abbrev pub one : Work
   one = ownJudged config n c h x j (start (w .count) (w .sets) (w .times))
 
   abbrev all : Work
@@ -169,23 +167,23 @@ module _ (config : List ℕ) (n : Nav) (c : Chain) (h : Held) (x : Section) (j :
   abbrev s : List ℕ
   s = setOf (n .words) ((ownTag c x j) .prn)
 
-  field-kept : all .kept ≡ w .kept ++ one .kept
+  pub field-kept : all .kept ≡ w .kept ++ one .kept
   unfolding ownJudged
   field-kept = kept-by o t s w (eqb o 5)
 
-  field-records : all .records ≡ w .records ++ one .records
+  pub field-records : all .records ≡ w .records ++ one .records
   unfolding ownJudged
   field-records = records-by o t s w (eqb o 5)
 
-  field-sets : all .sets ≡ one .sets
+  pub field-sets : all .sets ≡ one .sets
   unfolding ownJudged
   field-sets = sets-by o t s w (eqb o 5)
 
-  field-times : all .times ≡ one .times
+  pub field-times : all .times ≡ one .times
   unfolding ownJudged
   field-times = times-by o t s w (eqb o 5)
 
-  field-count : all .count ≡ one .count
+  pub field-count : all .count ≡ one .count
   unfolding ownJudged
   field-count = count-by o t s w (eqb o 5)
 

@@ -1,3 +1,4 @@
 -- Laws of a section's own tags.
 pub mod Keys
 pub mod Fields
+pub mod Joined

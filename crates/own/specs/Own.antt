@@ -3,7 +3,7 @@
 use Prim.Native.Nat.{ℕ, _+_, _-_, _*_, _≤_}
 use mathlib.Core.Path.{_≡_}
 use mathlib.Core.Bool.{Bool, true, cond}
-use mathlib.Core.List.{List, [], _∷_}
+use mathlib.Core.List.{List, [], _∷_, _++_}
 use lib.Dec.{eqb}
 use lib.ListN.{length}
 use Rattle.laws.specs.Refusal.{refuse, firstOf}
@@ -42,3 +42,11 @@ pub record Grows (w : Work) (count n r : ℕ) : Type 0 where
   pub more : count ≤ r
   pub kept-long : length (w .kept) ≡ (r - count) * 84
   pub records-long : length (w .records) ≡ n * 12
+
+-- the work of tags after work w is that of the same tags alone, behind what w has: u is v after w
+pub record Behind (w v u : Work) : Type 0 where
+  pub kept-is : u .kept ≡ w .kept ++ v .kept
+  pub records-are : u .records ≡ w .records ++ v .records
+  pub sets-are : u .sets ≡ v .sets
+  pub times-are : u .times ≡ v .times
+  pub count-is : u .count ≡ v .count

@@ -13,7 +13,6 @@ use Rattle.due.specs.Swept.{start, Leaves}
 use Rattle.own.specs.Own.{blockKey, Grows}
 use Rattle.own.proofs.Keys.{next-block, macseq-is}
 use Rattle.own.proofs.Fields.{none-judged, next-judged}
-use borrow.Author.Needs.{needs}
 use Rattle.own.proofs.judge_own.Statement.{statement}
 use Rattle.own.proofs.judge_own.Tie as tie
 
