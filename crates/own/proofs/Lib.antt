@@ -2,3 +2,4 @@
 pub mod Keys
 pub mod Fields
 pub mod Joined
+pub mod Forced
