@@ -1,0 +1,5 @@
+-- Laws of a section's own tags.
+pub mod Keys
+pub mod Fields
+pub mod Joined
+pub mod Forced

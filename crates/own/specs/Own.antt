@@ -1,0 +1,52 @@
+-- A section's own tags, step by step: the key of a block's tags without delay, and what a tag of a known outcome leaves.
+-- proofs/Fields.antt shows that a field judged by these steps is `ownJudged` (rules, Tags.antt).
+use Prim.Native.Nat.{ℕ, _+_, _-_, _*_, _≤_}
+use mathlib.Core.Path.{_≡_}
+use mathlib.Core.Bool.{Bool, true, cond}
+use mathlib.Core.List.{List, [], _∷_, _++_}
+use lib.Dec.{eqb}
+use lib.ListN.{length}
+use Rattle.laws.specs.Refusal.{refuse, firstOf}
+use Rattle.hmac.specs.Hmac.{keyOf}
+use Rattle.hmac.specs.declared.HmacKey.{HmacKey}
+use Rattle.rules.specs.Chain.{Held, keyOfSlot, keySlot}
+use Rattle.rules.specs.Tags.{Work, told, kept, tagEntry}
+use Rattle.rules.specs.declared.Chain.{Chain}
+use Rattle.rules.specs.declared.Tag.{Tag}
+
+-- what HMAC keeps of the key of the tags without delay of block b + 1
+unfoldable pub blockKey : Chain → Held → ℕ → ℕ → HmacKey
+blockKey c h time b = keyOf (keyOfSlot c h (keySlot c time (b + 1) 0))
+
+-- the tests of `ownOutcome` in their order: not allowed, flexible and MACSEQ fails, no usable set, authentic, without delay, a place is free
+abbrev pub outcomeBy : Bool → Bool → Bool → Bool → Bool → Bool → ℕ
+outcomeBy refused unfit unusable right prompt free =
+    firstOf
+    (refuse refused 4
+    ∷ refuse unfit 6
+    ∷ refuse unusable 3
+    ∷ refuse right 1
+    ∷ refuse prompt 2
+    ∷ refuse free 5
+    ∷ refuse true 7
+    ∷ [])
+
+-- a tag of this outcome: its record and its set, and a tag that waits keeps a copy of its set
+unfoldable pub settled : ℕ → Tag → List ℕ → Work → Work
+settled outcome t navdata w =
+    cond (eqb outcome 5) (kept (tagEntry t navdata) (told outcome t navdata w)) (told outcome t navdata w)
+
+-- after n fields, r tags wait where `count` did, with 84 bytes each, and each field has a record of 12 bytes
+pub record Grows (w : Work) (count n r : ℕ) : Type 0 where
+  pub places : r ≤ 256
+  pub more : count ≤ r
+  pub kept-long : length (w .kept) ≡ (r - count) * 84
+  pub records-long : length (w .records) ≡ n * 12
+
+-- the work of tags after work w is that of the same tags alone, behind what w has: u is v after w
+pub record Behind (w v u : Work) : Type 0 where
+  pub kept-is : u .kept ≡ w .kept ++ v .kept
+  pub records-are : u .records ≡ w .records ++ v .records
+  pub sets-are : u .sets ≡ v .sets
+  pub times-are : u .times ≡ v .times
+  pub count-is : u .count ≡ v .count
