@@ -12,12 +12,12 @@ use Rattle.laws.specs.Bytes as Bytes
 use Rattle.laws.specs.Lists as Lists
 use Rattle.rules.specs.Bits as Bits
 use Rattle.rules.specs.Chain as Chain
-use Rattle.rules.specs.Keys as Keys
+use Rattle.rules.specs.PublicKeys as Keys
 use Rattle.rules.specs.Kroot as Kroot
 use Rattle.rules.specs.Pkr as Pkr
 use Rattle.rules.specs.Tags as Tags
 use Rattle.rules.specs.Times as Times
-use Rattle.rules.specs.Words as Words
+use Rattle.rules.specs.Navdata as Words
 use Rattle.sha256.specs.Sha256 as Sha256
 
 -- ---- A.1.4: the DSM-KROOT of table 25, and its message under NMA header 0x82

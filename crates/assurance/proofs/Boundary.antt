@@ -7,8 +7,8 @@ use contract.Lifetimes.{Lfts}
 use borrow.Fn.Kinds.{Dens, endedOf}
 use denote.Triple.Clauses.{AtExit}
 use denote.Ref.{now}
-use Rattle.checks.specs.Told.{told}
-use Rattle.core_reads.specs.Reads.{setTold, offerTold}
+use Rattle.regions.specs.Told.{told}
+use Rattle.call_reads.specs.Reads.{setTold, offerTold}
 use Rattle.rules.specs.Calls.{startCall, wordCall, verdictCall, setRead, offerRead}
 use Rattle.rules.specs.State.{state}
 use Rattle.osnma.proofs.osnma_regions_start.Reads as start-reads

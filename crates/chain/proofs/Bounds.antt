@@ -12,7 +12,7 @@ use Rattle.laws.specs.Refusal.{neb}
 use Rattle.laws.proofs.Table.{table-range}
 use Rattle.laws.proofs.Tests.{neither}
 use Rattle.bitfields.proofs.Fields.{bits-lt}
-use Rattle.gst.proofs.Times.{seconds-bound, delay-bound, hour-bound}
+use Rattle.times.proofs.Times.{seconds-bound, delay-bound, hour-bound}
 use Rattle.rules.specs.Bits.{bits}
 use Rattle.rules.specs.Times as T
 use Rattle.rules.specs.Chain as S

@@ -14,7 +14,7 @@ use Rattle.laws.specs.Lists.{part, splice, same}
 use Rattle.laws.specs.Bytes.{be4, be8}
 use Rattle.laws.proofs.Numbers.{length-be4}
 use Rattle.laws.proofs.Splice.{splice-start, splice-end, length-splice, below?}
-use Rattle.gst.proofs.Times.{be4-low}
+use Rattle.times.proofs.Times.{be4-low}
 use Rattle.sha256.specs.Sha256 as H
 use Rattle.sha256.proofs.Continued.{one-block, length-sha256}
 use Rattle.rules.specs.Chain as S

@@ -35,7 +35,7 @@ fn slot_time(c: Chain, m: u64) -> u32
     requires { ⌜ Walks c × (m < 2 ^ 34) ⌝ }
     ensures { λ r. ⌜ r ≡ S.slotTime c m % 2 ^ 32 ⌝ }
 {
-    gst::gst_of(gst::slot_seconds(c.ns, c.nmack, c.root, m))
+    times::gst_of(times::slot_seconds(c.ns, c.nmack, c.root, m))
 }
 
 // The block of a step from this key: its time is still to be set.
@@ -96,8 +96,8 @@ pub fn sent_slot(c: Chain, g: u32, b: u64, prn: u8) -> u64
     requires { ⌜ Walks c × (b < 256) ⌝ }
     ensures { λ r. ⌜ r ≡ S.sentSlot c g b prn ⌝ }
 {
-    let s = gst::subframe_at(c.root, gst::seconds_of(g));
-    gst::slot_of(c.ns, c.nmack, s, b, prn as u64)
+    let s = times::subframe_at(c.root, times::seconds_of(g));
+    times::slot_of(c.ns, c.nmack, s, b, prn as u64)
 }
 
 // The slot of the key of a tag of block b that came at g.
@@ -105,5 +105,5 @@ pub fn key_slot(c: Chain, g: u32, b: u8, adkd: u8) -> u64
     requires { ⌜ Walks c ⌝ }
     ensures { λ r. ⌜ r ≡ S.keySlot c g b adkd ⌝ }
 {
-    gst::tag_slot(c.ns, c.nmack, c.root, g, b, adkd)
+    times::tag_slot(c.ns, c.nmack, c.root, g, b, adkd)
 }

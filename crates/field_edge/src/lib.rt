@@ -149,7 +149,7 @@ pub extern "C" fn leaf_macseq_fits(
         fields: fields,
     };
     let kept = hmac::hmac_key(key);
-    bools::number(macs::macseq_fits(config, c, prn, time, mack, kept))
+    bools::number(tag_codes::macseq_fits(config, c, prn, time, mack, kept))
 }
 
 // ---- outcomes and records
@@ -249,5 +249,5 @@ pub extern "C" fn leaf_is_due(
         status: 0,
         bits: 0,
     };
-    bools::number(waiting::is_due(c, slot, t))
+    bools::number(waiting_tags::is_due(c, slot, t))
 }

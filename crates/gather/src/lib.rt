@@ -147,7 +147,7 @@ fn with_mark(marks: u16, k: usize) -> u16
 fn too_old(first: u32, t: u32) -> bool
     ensures { λ r. ⌜ r ≡ ltb 3600 (secondsOf t - secondsOf first) ⌝ }
 {
-    gst::seconds_of(first) + 3600 < gst::seconds_of(t)
+    times::seconds_of(first) + 3600 < times::seconds_of(t)
 }
 
 // Whether the block at a place has the bytes of the coming one.

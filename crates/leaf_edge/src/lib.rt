@@ -9,7 +9,7 @@ ghost use Prim.Native.Nat.{_+_, _*_, _^_, _≤_, _<_};
 ghost use lib.ListN.{length, take};
 ghost use Rattle.laws.specs.Lists.{splice};
 ghost use Rattle.rules.specs.Times as Times;
-ghost use Rattle.rules.specs.Words as Words;
+ghost use Rattle.rules.specs.Navdata as Words;
 ghost use Rattle.rules.specs.Tags as Tags;
 ghost use Rattle.rules.specs.Gather as Gather;
 ghost use Rattle.navdata.specs.Pieces.{nav};
@@ -26,14 +26,14 @@ ghost use Rattle.leaf_edge.specs.Edge.{gatherTold, gatheredNumber, chain
 pub extern "C" fn leaf_time_valid(g: u32) -> u32
     ensures { λ r. ⌜ r ≡ cond (Times.timeValid g) 1 0 ⌝ }
 {
-    bools::number(gst::time_valid(g))
+    bools::number(times::time_valid(g))
 }
 
 #[no_mangle]
 pub extern "C" fn leaf_seconds_of(g: u32) -> u64
     ensures { λ r. ⌜ r ≡ Times.secondsOf g ⌝ }
 {
-    gst::seconds_of(g)
+    times::seconds_of(g)
 }
 
 #[no_mangle]
@@ -41,7 +41,7 @@ pub extern "C" fn leaf_slot_of(ns: u64, nmack: u64, s: u64, b: u64, p: u64) -> u
     requires { ⌜ ((1 ≤ ns) × (ns ≤ 36)) × ((nmack ≤ 3) × ((s < 2 ^ 33) × (b < 256))) ⌝ }
     ensures { λ r. ⌜ r ≡ Times.slotOf ns nmack s b p ⌝ }
 {
-    gst::slot_of(ns, nmack, s, b, p)
+    times::slot_of(ns, nmack, s, b, p)
 }
 
 #[no_mangle]
@@ -49,7 +49,7 @@ pub extern "C" fn leaf_slot_seconds(ns: u64, nmack: u64, root: u64, m: u64) -> u
     requires { ⌜ ((1 ≤ ns) × (ns ≤ 36)) × (((1 ≤ nmack) × (nmack ≤ 3)) × ((root < 2 ^ 33) × (m < 2 ^ 35))) ⌝ }
     ensures { λ r. ⌜ r ≡ Times.slotSeconds ns nmack root m ⌝ }
 {
-    gst::slot_seconds(ns, nmack, root, m)
+    times::slot_seconds(ns, nmack, root, m)
 }
 
 #[no_mangle]
@@ -57,7 +57,7 @@ pub extern "C" fn leaf_tag_slot(ns: u64, nmack: u64, root: u64, g: u32, b: u8, a
     requires { ⌜ ((1 ≤ ns) × (ns ≤ 36)) × (nmack ≤ 3) ⌝ }
     ensures { λ r. ⌜ r ≡ Times.tagSlot ns nmack root g b adkd ⌝ }
 {
-    gst::tag_slot(ns, nmack, root, g, b, adkd)
+    times::tag_slot(ns, nmack, root, g, b, adkd)
 }
 
 // ---- words and sets
@@ -255,7 +255,7 @@ pub extern "C" fn leaf_keys_code(
         ms: ms,
         fields: fields,
     };
-    let p = section::keys_proved(c, g, prn, m, slot, key);
+    let p = mack_keys::keys_proved(c, g, prn, m, slot, key);
     p.code
 }
 
@@ -288,7 +288,7 @@ pub extern "C" fn leaf_keys_slot(
         ms: ms,
         fields: fields,
     };
-    let p = section::keys_proved(c, g, prn, m, slot, key);
+    let p = mack_keys::keys_proved(c, g, prn, m, slot, key);
     p.slot
 }
 
@@ -321,7 +321,7 @@ pub extern "C" fn leaf_put_entry(
         status: status,
         bits: bits,
     };
-    waiting::put_entry(waiting, k, t, set);
+    waiting_tags::put_entry(waiting, k, t, set);
 }
 
 #[no_mangle]
@@ -329,7 +329,7 @@ pub extern "C" fn leaf_keep_staying(waiting: &mut [u8], root: u64, n: usize) -> 
     requires { ⌜ (length (now waiting) ≡ 21504) × (n ≤ 256) ⌝ }
     ensures { λ r. ⌜ (now (waiting .exit) ≡ splice (now (waiting .entry)) 0 (staying root (now (waiting .entry)) n)) × ((length (staying root (now (waiting .entry)) n) ≡ r * 84) × (r ≤ n)) ⌝ }
 {
-    waiting::keep_staying(waiting, root, n)
+    waiting_tags::keep_staying(waiting, root, n)
 }
 
 #[no_mangle]
@@ -348,5 +348,5 @@ pub extern "C" fn leaf_enter_set(sets: &mut [u8], times: &mut [u32], prn: u8, ti
         status: 0,
         bits: 0,
     };
-    authentic::enter_set(sets, times, t, set);
+    authentic_sets::enter_set(sets, times, t, set);
 }

@@ -5,7 +5,7 @@ ghost use mathlib.Core.Path.{_≡_};
 ghost use mathlib.Core.Bool.{cond};
 ghost use Prim.Native.Nat.{ℕ, _≤_, _<_};
 ghost use lib.ListN.{length};
-ghost use Rattle.rules.specs.Keys as Keys;
+ghost use Rattle.rules.specs.PublicKeys as Keys;
 ghost use Rattle.rules.specs.Kroot as Kroot;
 ghost use Rattle.rules.specs.Pkr as Pkr;
 ghost use Rattle.rules.specs.Verdict.{namesOffer, chainUnchanged};
@@ -18,7 +18,7 @@ pub extern "C" fn leaf_above_all(keys: &[u8], id: u8) -> u32
     requires { ⌜ (length (now keys) ≡ 1088) × (id < 16) ⌝ }
     ensures { λ r. ⌜ r ≡ cond (Keys.aboveAll (now (keys .entry)) id) 1 0 ⌝ }
 {
-    bools::number(keyring::above_all(keys, id))
+    bools::number(public_keys::above_all(keys, id))
 }
 
 #[no_mangle]
@@ -26,7 +26,7 @@ pub extern "C" fn leaf_same_key(keys: &[u8], id: u8, kind: u8, key: &[u8]) -> u3
     requires { ⌜ (length (now keys) ≡ 1088) × ((id < 16) × (length (now key) ≤ 67)) ⌝ }
     ensures { λ r. ⌜ r ≡ cond (Keys.sameKey (now (keys .entry)) id kind (now (key .entry))) 1 0 ⌝ }
 {
-    bools::number(keyring::same_key(keys, id, kind, key))
+    bools::number(public_keys::same_key(keys, id, kind, key))
 }
 
 #[no_mangle]
@@ -34,7 +34,7 @@ pub extern "C" fn leaf_add_key(keys: &mut [u8], id: u8, kind: u8, key: &[u8])
     requires { ⌜ ((length (now keys) ≡ 1088) × (id < 16)) × ((kind < 4) × (length (now key) ≤ 67)) ⌝ }
     ensures { λ _. ⌜ now (keys .exit) ≡ Keys.withKey (now (keys .entry)) id kind (now (key .entry)) ⌝ }
 {
-    keyring::add_key(keys, id, kind, key);
+    public_keys::add_key(keys, id, kind, key);
 }
 
 #[no_mangle]
@@ -42,7 +42,7 @@ pub extern "C" fn leaf_drop_lower(keys: &mut [u8], id: u8)
     requires { ⌜ (length (now keys) ≡ 1088) × (id < 16) ⌝ }
     ensures { λ _. ⌜ now (keys .exit) ≡ Keys.withoutLower (now (keys .entry)) id ⌝ }
 {
-    keyring::drop_lower(keys, id);
+    public_keys::drop_lower(keys, id);
 }
 
 // ---- DSM-KROOT and DSM-PKR
@@ -58,7 +58,7 @@ pub extern "C" fn leaf_kroot_judge(
     requires { ⌜ (length (now keys) ≡ 1088) × ((length (now offer) ≡ 179) × (91 ≤ length (now d))) ⌝ }
     ensures { λ r. ⌜ (r ≡ (Kroot.krootJudged (now (keys .entry)) maclt (now (offer .entry)) header (now (d .entry))) .code) × (now (offer .exit) ≡ (Kroot.krootJudged (now (keys .entry)) maclt (now (offer .entry)) header (now (d .entry))) .offer) ⌝ }
 {
-    messages::kroot_judge(keys, maclt, offer, header, d)
+    kroot::kroot_judge(keys, maclt, offer, header, d)
 }
 
 // The number of a DSM-PKR.
@@ -67,7 +67,7 @@ pub extern "C" fn leaf_pkr_code(keys: &mut [u8], root: &[u8], d: &[u8]) -> u32
     requires { ⌜ (length (now keys) ≡ 1088) × ((91 ≤ length (now d)) × (length (now d) ≤ 208)) ⌝ }
     ensures { λ r. ⌜ (r ≡ (Pkr.pkrJudged (now (keys .entry)) (now (root .entry)) (now (d .entry))) .code) × (now (keys .exit) ≡ (Pkr.pkrJudged (now (keys .entry)) (now (root .entry)) (now (d .entry))) .keys) ⌝ }
 {
-    let r = tree::pkr_judge(keys, root, d);
+    let r = pkr::pkr_judge(keys, root, d);
     r.code
 }
 
@@ -77,7 +77,7 @@ pub extern "C" fn leaf_pkr_stops(keys: &mut [u8], root: &[u8], d: &[u8]) -> u32
     requires { ⌜ (length (now keys) ≡ 1088) × ((91 ≤ length (now d)) × (length (now d) ≤ 208)) ⌝ }
     ensures { λ r. ⌜ (r ≡ cond ((Pkr.pkrJudged (now (keys .entry)) (now (root .entry)) (now (d .entry))) .stops) 1 0) × (now (keys .exit) ≡ (Pkr.pkrJudged (now (keys .entry)) (now (root .entry)) (now (d .entry))) .keys) ⌝ }
 {
-    let r = tree::pkr_judge(keys, root, d);
+    let r = pkr::pkr_judge(keys, root, d);
     bools::number(r.stops)
 }
 
@@ -89,7 +89,7 @@ pub extern "C" fn leaf_names_offer(offer: &[u8], id: u8, message: &[u8], signatu
     requires { ⌜ length (now offer) ≡ 179 ⌝ }
     ensures { λ r. ⌜ ((good : ℕ) → r ≡ cond (namesOffer (now (offer .entry)) (record { good = good; id = id; message = now (message .entry); signature = now (signature .entry) })) 1 0) ⌝ }
 {
-    bools::number(messages::names_offer(offer, id, message, signature))
+    bools::number(kroot::names_offer(offer, id, message, signature))
 }
 
 #[no_mangle]
@@ -97,7 +97,7 @@ pub extern "C" fn leaf_in_force(maclt: u8, chain: &[u8]) -> u32
     requires { ⌜ length (now chain) ≡ 45 ⌝ }
     ensures { λ r. ⌜ r ≡ cond (Kroot.inForce maclt (now (chain .entry))) 1 0 ⌝ }
 {
-    bools::number(messages::in_force(maclt, chain))
+    bools::number(kroot::in_force(maclt, chain))
 }
 
 #[no_mangle]
@@ -105,7 +105,7 @@ pub extern "C" fn leaf_chain_with(ns: u64, c: &[u8], numbers: &mut [u64; 6], alp
     requires { ⌜ 44 ≤ length (now c) ⌝ }
     ensures { λ _. ⌜ (now (numbers .exit) ≡ chainNumbers (Kroot.chainWith ns (now (c .entry)))) × (now (alpha .exit) ≡ (Kroot.chainWith ns (now (c .entry))) .alpha) ⌝ }
 {
-    let p = messages::chain_with(ns, c);
+    let p = kroot::chain_with(ns, c);
     *numbers = [p.ns, p.nmack, p.root, p.width as u64, p.ms, p.fields];
     let a = p.alpha;
     *alpha = a;
@@ -116,5 +116,5 @@ pub extern "C" fn leaf_chain_unchanged(a: &[u8], b: &[u8]) -> u32
     requires { ⌜ (44 ≤ length (now a)) × (44 ≤ length (now b)) ⌝ }
     ensures { λ r. ⌜ r ≡ cond (chainUnchanged (now (a .entry)) (now (b .entry))) 1 0 ⌝ }
 {
-    bools::number(messages::chain_unchanged(a, b))
+    bools::number(kroot::chain_unchanged(a, b))
 }

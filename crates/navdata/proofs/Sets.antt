@@ -7,7 +7,7 @@ use native.Mathlib.Omega.{arith}
 use lib.ListN.{length, length-append}
 use Rattle.laws.specs.Lists.{splice}
 use Rattle.rules.specs.Bits.{bit, bits, bitList, bytesAt, packed}
-use Rattle.rules.specs.Words.{wordPlace, wordAt, setBits, setBytes, setOf}
+use Rattle.rules.specs.Navdata.{wordPlace, wordAt, setBits, setBytes, setOf}
 use Rattle.navdata.specs.Pieces.{seamOf, frontOf, backOf}
 use Rattle.rules.specs.Tags.{statusAndSet}
 use Rattle.bitfields.proofs.Fields.{bits-part, bytesAt-part, length-bytesAt, splice-next}

@@ -7,8 +7,8 @@ ghost use Prim.Native.Nat.{ℕ, _+_, _-_, _*_, _≤_, _<_};
 ghost use lib.ListN.{length};
 ghost use Rattle.laws.specs.Lists.{splice};
 ghost use Rattle.rules.specs.Tags.{statusAndSet};
-ghost use Rattle.rules.specs.Words.{wordType, svidOf, wordIssue, wordPlace, wordAt, wordStored, setOf, setIssue, wordCame, cameBefore, oneIssue};
-ghost use Rattle.rules.specs.Words as rules;
+ghost use Rattle.rules.specs.Navdata.{wordType, svidOf, wordIssue, wordPlace, wordAt, wordStored, setOf, setIssue, wordCame, cameBefore, oneIssue};
+ghost use Rattle.rules.specs.Navdata as rules;
 ghost use Rattle.navdata.specs.Pieces.{nav, seamOf, frontOf, backOf};
 
 // ---- words

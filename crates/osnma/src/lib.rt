@@ -3,8 +3,8 @@
 // call, and the regions do not overlap.
 // No function asks anything of its caller: any lengths, bytes, numbers and times. Each is one call of the core, with the same contract.
 ghost use mathlib.Core.Path.{_≡_};
-ghost use Rattle.checks.specs.Told.{told};
-ghost use Rattle.core_reads.specs.Reads.{setTold, offerTold};
+ghost use Rattle.regions.specs.Told.{told};
+ghost use Rattle.call_reads.specs.Reads.{setTold, offerTold};
 ghost use Rattle.rules.specs.Calls.{startCall, wordCall, verdictCall, setRead, offerRead};
 ghost use Rattle.rules.specs.State.{state};
 
@@ -37,7 +37,7 @@ pub extern "C" fn osnma_regions_start(
 ) -> u32
     ensures { λ r. ⌜ told r (state (now (config .exit)) (now (clocks .exit)) (now (words .exit)) (now (stamps .exit)) (now (blocks .exit)) (now (headers .exit)) (now (marks .exit)) (now (since .exit)) (now (keys .exit)) (now (offer .exit)) (now (chain .exit)) (now (numbers .exit)) (now (key .exit)) (now (waiting .exit)) (now (sets .exit)) (now (arrivals .exit))) ≡ startCall (state (now (config .entry)) (now (clocks .entry)) (now (words .entry)) (now (stamps .entry)) (now (blocks .entry)) (now (headers .entry)) (now (marks .entry)) (now (since .entry)) (now (keys .entry)) (now (offer .entry)) (now (chain .entry)) (now (numbers .entry)) (now (key .entry)) (now (waiting .entry)) (now (sets .entry)) (now (arrivals .entry))) (record { ns = ns; id = id; type = kind; maclt = maclt; marks = now (adkds .entry); root = now (root .entry); key = now (public .entry) }) ⌝ }
 {
-    core_start::start(
+    call_start::start(
         config,
         clocks,
         words,
@@ -89,7 +89,7 @@ pub extern "C" fn osnma_regions_word(
 ) -> u32
     ensures { λ r. ⌜ told r (state (now (config .entry)) (now (clocks .exit)) (now (words .exit)) (now (stamps .exit)) (now (blocks .entry)) (now (headers .entry)) (now (marks .entry)) (now (since .entry)) (now (keys .entry)) (now (offer .entry)) (now (chain .entry)) (now (numbers .entry)) (now (key .entry)) (now (waiting .entry)) (now (sets .entry)) (now (arrivals .entry))) ≡ wordCall (state (now (config .entry)) (now (clocks .entry)) (now (words .entry)) (now (stamps .entry)) (now (blocks .entry)) (now (headers .entry)) (now (marks .entry)) (now (since .entry)) (now (keys .entry)) (now (offer .entry)) (now (chain .entry)) (now (numbers .entry)) (now (key .entry)) (now (waiting .entry)) (now (sets .entry)) (now (arrivals .entry))) (record { prn = prn; time = time; bytes = now (bytes .entry) }) ⌝ }
 {
-    core_word::word(
+    call_word::word(
         config,
         clocks,
         words,
@@ -138,7 +138,7 @@ pub extern "C" fn osnma_regions_verdict(
 ) -> u32
     ensures { λ r. ⌜ told r (state (now (config .entry)) (now (clocks .entry)) (now (words .entry)) (now (stamps .entry)) (now (blocks .entry)) (now (headers .entry)) (now (marks .entry)) (now (since .entry)) (now (keys .exit)) (now (offer .exit)) (now (chain .exit)) (now (numbers .exit)) (now (key .exit)) (now (waiting .exit)) (now (sets .entry)) (now (arrivals .entry))) ≡ verdictCall (state (now (config .entry)) (now (clocks .entry)) (now (words .entry)) (now (stamps .entry)) (now (blocks .entry)) (now (headers .entry)) (now (marks .entry)) (now (since .entry)) (now (keys .entry)) (now (offer .entry)) (now (chain .entry)) (now (numbers .entry)) (now (key .entry)) (now (waiting .entry)) (now (sets .entry)) (now (arrivals .entry))) (record { good = good; id = id; message = now (message .entry); signature = now (signature .entry) }) ⌝ }
 {
-    core_verdict::verdict(
+    call_verdict::verdict(
         config,
         clocks,
         words,
@@ -188,7 +188,7 @@ pub extern "C" fn osnma_regions_read_set(
 ) -> u32
     ensures { λ r. ⌜ setTold r (now (out .exit)) (now (issue .exit)) (now (time .exit)) ≡ setRead (state (now (config .entry)) (now (clocks .entry)) (now (words .entry)) (now (stamps .entry)) (now (blocks .entry)) (now (headers .entry)) (now (marks .entry)) (now (since .entry)) (now (keys .entry)) (now (offer .entry)) (now (chain .entry)) (now (numbers .entry)) (now (key .entry)) (now (waiting .entry)) (now (sets .entry)) (now (arrivals .entry))) prn (now (out .entry)) ⌝ }
 {
-    core_reads::read_set(
+    call_reads::read_set(
         config,
         clocks,
         words,
@@ -239,7 +239,7 @@ pub extern "C" fn osnma_regions_read_message(
 ) -> u32
     ensures { λ r. ⌜ offerTold r (now (message .exit)) (now (signature .exit)) (now (public .exit)) (now (id .exit)) (now (kind .exit)) ≡ offerRead (state (now (config .entry)) (now (clocks .entry)) (now (words .entry)) (now (stamps .entry)) (now (blocks .entry)) (now (headers .entry)) (now (marks .entry)) (now (since .entry)) (now (keys .entry)) (now (offer .entry)) (now (chain .entry)) (now (numbers .entry)) (now (key .entry)) (now (waiting .entry)) (now (sets .entry)) (now (arrivals .entry))) (now (message .entry)) (now (signature .entry)) (now (public .entry)) ⌝ }
 {
-    core_reads::read_message(
+    call_reads::read_message(
         config,
         clocks,
         words,

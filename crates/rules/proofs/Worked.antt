@@ -17,7 +17,7 @@ use Rattle.rules.specs.Bits as Bits
 use Rattle.rules.specs.Calls as Calls
 use Rattle.rules.specs.Chain as Chain
 use Rattle.rules.specs.Gather as Gather
-use Rattle.rules.specs.Keys as Keys
+use Rattle.rules.specs.PublicKeys as Keys
 use Rattle.rules.specs.Kroot as Kroot
 use Rattle.rules.specs.Log as Log
 use Rattle.rules.specs.Mack as Mack
@@ -26,7 +26,7 @@ use Rattle.rules.specs.State as State
 use Rattle.rules.specs.Tags as Tags
 use Rattle.rules.specs.Times as Times
 use Rattle.rules.specs.Verdict as Verdict
-use Rattle.rules.specs.Words as Words
+use Rattle.rules.specs.Navdata as Words
 use Rattle.sha256.specs.Sha256 as Sha256
 
 -- ---- the signal

@@ -10,7 +10,7 @@ use Rattle.laws.specs.Refusal.{Check, refuse, firstOf, unless, neb}
 use Rattle.rules.specs.Bits.{filled, same, anyOf, within}
 use Rattle.rules.specs.Chain.{Held, held}
 use Rattle.rules.specs.Gather.{hkrootOf, mackOf, headerOf, statusOf, cidOf, dsmIdOf, gathered, Gathered}
-use Rattle.rules.specs.Keys.{keyLength, keyType, keyBytes, withKey, keyHeld}
+use Rattle.rules.specs.PublicKeys.{keyLength, keyType, keyBytes, withKey, keyHeld}
 use Rattle.rules.specs.Kroot.{krootJudged, Offer, noOffer, chainWith, chainContents, inForce, offerWaits, offerId, offerMessage, offerSignature}
 use Rattle.rules.specs.Mack.{keysProved, Proved}
 use Rattle.rules.specs.Pkr.{pkrJudged, Renewed}
@@ -18,7 +18,7 @@ use Rattle.rules.specs.State.{State, Nav, Store, Tesla, Auth, shaped, ns
 use Rattle.rules.specs.Tags.{Section, Work, duesJudged, ownsJudged}
 use Rattle.rules.specs.Times.{timeValid, stampOf, secondsOf}
 use Rattle.rules.specs.Verdict.{Verdict, vouchChecks, judgedVerdict, cidInForce}
-use Rattle.rules.specs.Words.{wordType, svidOf, heldType, wordStored, setIssue}
+use Rattle.rules.specs.Navdata.{wordType, svidOf, heldType, wordStored, setIssue}
 use Rattle.rules.specs.declared.Chain.{Chain}
 
 -- what start, word and verdict give: the answer's number and the state

@@ -18,7 +18,7 @@ use Rattle.rules.specs.Bits.{filled, within}
 use Rattle.rules.specs.Calls.{Start, Word, Subframe, startCall, fresh}
 use Rattle.rules.specs.Chain.{walk, sentSlot, keySlot}
 use Rattle.rules.specs.Gather.{hkrootOf, mackOf, headerOf, statusOf, dsmIdOf, blockIdOf, blockOf}
-use Rattle.rules.specs.Keys.{keyLength, keyHeld, keyType, keyBytes}
+use Rattle.rules.specs.PublicKeys.{keyLength, keyHeld, keyType, keyBytes}
 use Rattle.rules.specs.Kroot.{chainWith, krootOf}
 use Rattle.rules.specs.Log.{Call, start, word, subframe, verdict, readSet, readOffer, Reply, Entry, Log, Once, Always, History, Ran, ran, ranFrom, stateAt, step, lastWord, chainIn}
 use Rattle.rules.specs.Mack.{blockKey}
@@ -26,7 +26,7 @@ use Rattle.rules.specs.Pkr.{newIdOf, newTypeOf, newKeyOf, emergency, pkr
 use Rattle.rules.specs.State.{State}
 use Rattle.rules.specs.Tags.{Section, ownTag, macBits, firstMessage, tagMessage, tagRecord}
 use Rattle.rules.specs.Verdict.{Verdict, messageHeader, messageContents}
-use Rattle.rules.specs.Words.{setUsable, setBytes, setIssue}
+use Rattle.rules.specs.Navdata.{setUsable, setBytes, setIssue}
 use Rattle.rules.specs.declared.Chain.{Chain}
 use Rattle.rules.specs.declared.Tag.{Tag}
 

@@ -9,7 +9,7 @@ use lib.ListN.{length, getD, replicate}
 use Rattle.laws.specs.Lists.{part}
 use Rattle.laws.specs.Refusal.{Check, refuse, firstOf, unless, neb}
 use Rattle.rules.specs.Bits.{bits, filled, same, anyOf, within}
-use Rattle.rules.specs.Keys.{keyHeld, keyType, signatureLength}
+use Rattle.rules.specs.PublicKeys.{keyHeld, keyType, signatureLength}
 use Rattle.rules.specs.Times.{hourSeconds}
 use Rattle.rules.specs.declared.Chain.{Chain}
 

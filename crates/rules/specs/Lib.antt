@@ -3,9 +3,9 @@
 pub mod Times
 pub mod Bits
 pub mod State
-pub mod Words
+pub mod Navdata
 pub mod Gather
-pub mod Keys
+pub mod PublicKeys
 pub mod Kroot
 pub mod Pkr
 pub mod Chain

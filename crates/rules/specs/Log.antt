@@ -14,7 +14,7 @@ use Rattle.rules.specs.Gather.{statusOf}
 use Rattle.rules.specs.State.{State}
 use Rattle.rules.specs.Times.{stampOf}
 use Rattle.rules.specs.Verdict.{Verdict, messageHeader, messageContents}
-use Rattle.rules.specs.Words.{Came, wordType}
+use Rattle.rules.specs.Navdata.{Came, wordType}
 
 -- a call with all that is lent to it
 pub data Call : Type 0 where

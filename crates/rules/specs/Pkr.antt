@@ -9,7 +9,7 @@ use Rattle.laws.specs.Lists.{part}
 use Rattle.laws.specs.Refusal.{Check, refuse, firstOf, unless, neb}
 use Rattle.sha256.specs.Sha256.{sha256}
 use Rattle.rules.specs.Bits.{bits, same}
-use Rattle.rules.specs.Keys.{keyLength, sameKey, aboveAll, withKey}
+use Rattle.rules.specs.PublicKeys.{keyLength, sameKey, aboveAll, withKey}
 use Rattle.rules.specs.Kroot.{leastBlocks}
 
 unfoldable pub messageIdOf : List ℕ → ℕ

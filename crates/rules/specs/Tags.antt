@@ -13,7 +13,7 @@ use Rattle.rules.specs.Chain.{Held, keyOfSlot, keySlot}
 use Rattle.rules.specs.Mack.{fieldTag, fieldInfo, macseqOf}
 use Rattle.rules.specs.State.{Nav, markOf, prnValid}
 use Rattle.rules.specs.Times.{delayOf, stampOf, secondOf, timeValid}
-use Rattle.rules.specs.Words.{usable, setOf, setIssue}
+use Rattle.rules.specs.Navdata.{usable, setOf, setIssue}
 use Rattle.rules.specs.declared.Chain.{Chain}
 use Rattle.rules.specs.declared.Tag.{Tag}
 

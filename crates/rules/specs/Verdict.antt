@@ -8,7 +8,7 @@ use Rattle.laws.specs.Lists.{part, splice}
 use Rattle.laws.specs.Refusal.{Check, refuse, firstOf, unless, neb}
 use Rattle.rules.specs.Bits.{filled, same, anyOf, allOf, within}
 use Rattle.rules.specs.Gather.{statusOf, cidOf}
-use Rattle.rules.specs.Keys.{withoutLower}
+use Rattle.rules.specs.PublicKeys.{withoutLower}
 use Rattle.rules.specs.Kroot.{cidkrOf, nmackOf, hfOf, mfOf, ksOf, msOf, macltFieldOf, moOf, alphaOf, krootOf, rootSecondsOf, rootWeekOf, rootHourOf}
 use Rattle.rules.specs.Kroot.{offerWaits, offerId, offerMessage, offerSignature, noOffer, chainContents, inForce, everForced}
 use Rattle.rules.specs.State.{State, Tesla, macltOf, waitingCount}

@@ -15,7 +15,7 @@ pub extern "C" fn leaf_mac_bits(n: usize, key: &[u8], message: &[u8]) -> u64
     ensures { λ r. ⌜ r ≡ macBits n (now (key .entry)) (now (message .entry)) ⌝ }
 {
     let kept = hmac::hmac_key(key);
-    macs::mac_bits(n, kept, message)
+    tag_codes::mac_bits(n, kept, message)
 }
 
 // Whether a tag of ms bits matches a set under a key: 1 where it does. `first` is 1 for tag0, whose message has no PRN_N.
@@ -46,5 +46,5 @@ pub extern "C" fn leaf_tag_matches(
         bits: bits,
     };
     let kept = hmac::hmac_key(key);
-    bools::number(macs::tag_matches(ms, kept, first == 1, t, set))
+    bools::number(tag_codes::tag_matches(ms, kept, first == 1, t, set))
 }

@@ -98,7 +98,7 @@ pub fn own_tag(c: Chain, prn: u8, time: u32, status: u8, mack: &[u8], j: usize) 
 fn second_half(time: u32) -> bool
     ensures { λ r. ⌜ r ≡ secondHalf time ⌝ }
 {
-    gst::second_of(time) % 60 == 30
+    times::second_of(time) % 60 == 30
 }
 
 // The mark of field j.

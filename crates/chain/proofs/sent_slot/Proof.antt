@@ -3,7 +3,7 @@
 use Prim.Native.Nat.{_<_, _^_}
 use native.Mathlib.Omega.{arith}
 use borrow.Author.Needs.{needs}
-use Rattle.gst.proofs.Times.{seconds-bound, subframe-bound}
+use Rattle.times.proofs.Times.{seconds-bound, subframe-bound}
 use Rattle.rules.specs.Chain as S
 use Rattle.chain.proofs.sent_slot.Statement.{statement}
 use Rattle.chain.proofs.sent_slot.Tie as tie

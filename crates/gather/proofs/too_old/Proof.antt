@@ -2,7 +2,7 @@
 -- Assumes nothing.
 use native.Mathlib.Omega.{arith}
 use Rattle.rules.specs.Times.{secondsOf}
-use Rattle.gst.proofs.Times.{seconds-bound}
+use Rattle.times.proofs.Times.{seconds-bound}
 use Rattle.gather.proofs.Counts.{age}
 use borrow.Author.Needs.{needs}
 use Rattle.gather.proofs.too_old.Statement.{statement}

@@ -1,6 +1,6 @@
 -- `navdata::came_before` meets its contract: each test is the definition's own.
 -- Assumes nothing.
-use Rattle.rules.specs.Words.{cameBefore, wordCame}
+use Rattle.rules.specs.Navdata.{cameBefore, wordCame}
 use borrow.Author.Needs.{needs}
 use Rattle.navdata.proofs.came_before.Statement.{statement}
 use Rattle.navdata.proofs.came_before.Tie as tie

@@ -1,6 +1,6 @@
 -- `navdata::one_issue` meets its contract: each test is the definition's own.
 -- Assumes nothing.
-use Rattle.rules.specs.Words.{oneIssue, wordCame}
+use Rattle.rules.specs.Navdata.{oneIssue, wordCame}
 use Rattle.laws.proofs.Tests.{and-true}
 use borrow.Author.Needs.{needs}
 use Rattle.navdata.proofs.one_issue.Statement.{statement}

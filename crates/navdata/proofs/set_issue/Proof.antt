@@ -2,7 +2,7 @@
 -- Assumes nothing.
 use Prim.Native.Nat.{_<_, _^_}
 use native.Mathlib.Omega.{arith}
-use Rattle.rules.specs.Words.{setIssue}
+use Rattle.rules.specs.Navdata.{setIssue}
 use Rattle.bitfields.proofs.Fields.{bits-lt}
 use borrow.Author.Needs.{needs}
 use Rattle.navdata.proofs.set_issue.Statement.{statement}

@@ -1,7 +1,7 @@
 -- `navdata::set_of` meets its contract: all of the array is replaced.
 -- Assumes nothing.
 use denote.Ref.{now}
-use Rattle.rules.specs.Words.{setOf}
+use Rattle.rules.specs.Navdata.{setOf}
 use Rattle.laws.proofs.Splice.{splice-whole}
 use Rattle.navdata.proofs.Sets.{length-set-of}
 use borrow.Author.Needs.{needs}

@@ -1,6 +1,6 @@
 -- `navdata::store_word` meets its contract: the word is spliced in and the stamp is set.
 -- Assumes nothing.
-use Rattle.rules.specs.Words.{wordStored}
+use Rattle.rules.specs.Navdata.{wordStored}
 use borrow.Author.Needs.{needs}
 use Rattle.navdata.proofs.store_word.Statement.{statement}
 use Rattle.navdata.proofs.store_word.Tie as tie

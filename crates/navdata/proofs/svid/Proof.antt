@@ -1,6 +1,6 @@
 -- `navdata::svid` meets its contract: the field is the definition's own.
 -- Assumes nothing.
-use Rattle.rules.specs.Words.{svidOf}
+use Rattle.rules.specs.Navdata.{svidOf}
 use borrow.Author.Needs.{needs}
 use Rattle.navdata.proofs.svid.Statement.{statement}
 use Rattle.navdata.proofs.svid.Tie as tie

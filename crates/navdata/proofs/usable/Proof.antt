@@ -1,7 +1,7 @@
 -- `navdata::usable` meets its contract: each test is the definition's own.
 -- Assumes nothing.
 use denote.Ref.{now}
-use Rattle.rules.specs.Words.{usable, setUsable}
+use Rattle.rules.specs.Navdata.{usable, setUsable}
 use Rattle.laws.proofs.Tests.{and-true}
 use borrow.Author.Needs.{needs}
 use Rattle.navdata.proofs.usable.Statement.{statement}

@@ -3,7 +3,7 @@
 use mathlib.Core.Path.{sym, _∙_}
 use native.Mathlib.Omega.{arith}
 use denote.Ref.{now}
-use Rattle.rules.specs.Words.{wordIssue}
+use Rattle.rules.specs.Navdata.{wordIssue}
 use Rattle.navdata.proofs.Sets.{bits-of-word}
 use borrow.Author.Needs.{needs}
 use Rattle.navdata.proofs.word_issue.Statement.{statement}

@@ -1,6 +1,6 @@
 -- `navdata::word_place` meets its contract: the sum is the definition's own.
 -- Assumes nothing.
-use Rattle.rules.specs.Words.{wordPlace}
+use Rattle.rules.specs.Navdata.{wordPlace}
 use borrow.Author.Needs.{needs}
 use Rattle.navdata.proofs.word_place.Statement.{statement}
 use Rattle.navdata.proofs.word_place.Tie as tie

@@ -1,6 +1,6 @@
 -- `navdata::word_type` meets its contract: the field is the definition's own.
 -- Assumes nothing.
-use Rattle.rules.specs.Words.{wordType}
+use Rattle.rules.specs.Navdata.{wordType}
 use borrow.Author.Needs.{needs}
 use Rattle.navdata.proofs.word_type.Statement.{statement}
 use Rattle.navdata.proofs.word_type.Tie as tie

@@ -1,0 +1,146 @@
+-- What a verdict changes, by its cases: the tags that stay, the root held, status 3, and the numbers.
+-- Assumes nothing.
+use mathlib.Core.Path.{_≡_, refl, sym, ap}
+use mathlib.Core.Bool.{Bool, true, false, cond, not, _&&_}
+use mathlib.Core.List.{List, [], _∷_}
+use Prim.Native.Nat.{ℕ, zero, suc, _*_, _/_, _≤_, _<_}
+use native.Mathlib.Omega.{arith}
+use borrow.Author.Tests.{ne-eqb, lt-ltb, le-ltb}
+use lib.Dec.{eqb}
+use lib.ListN.{length, set}
+use Rattle.regions.specs.Told.{told}
+use Rattle.laws.specs.Lists.{splice}
+use Rattle.laws.specs.Refusal.{firstOf, neb}
+use Rattle.laws.proofs.Splice.{splice-nil}
+use Rattle.rules.specs.Bits.{filled, anyOf, within}
+use Rattle.rules.specs.Calls.{verdictCall, verdictChecks}
+use Rattle.rules.specs.Gather.{statusOf}
+use Rattle.rules.specs.PublicKeys.{withoutLower}
+use Rattle.rules.specs.Kroot.{krootOf, rootSecondsOf, chainContents, inForce}
+use Rattle.rules.specs.State.{State, Tesla, shaped, stopped, macltOf, waitingCount}
+use Rattle.rules.specs.Verdict as S
+use Rattle.call_verdict.specs.Trusted.{tesla}
+
+-- ---- the tags that stay
+
+module _ (s : State) (maclt : ℕ) (chain c : List ℕ) (m : macltOf (s .config) ≡ maclt) (e : s .chain ≡ chain) where
+  pub none-in-force : inForce maclt chain ≡ false → S.stayingAt s c ≡ []
+  unfolding S.stayingAt
+  none-in-force f = rw (m, e, f)
+
+  pub chain-changed : inForce maclt chain ≡ true → S.chainUnchanged (chainContents chain) c ≡ false → S.stayingAt s c ≡ []
+  unfolding S.stayingAt
+  chain-changed f u = rw (m, e, f, u)
+
+  pub same-chain : inForce maclt chain ≡ true → S.chainUnchanged (chainContents chain) c ≡ true
+      → S.stayingAt s c ≡ S.staying (rootSecondsOf c) (s .tesla .waiting) (waitingCount (s .tesla .numbers))
+  unfolding S.stayingAt
+  same-chain f u = rw (m, e, f, u)
+
+-- no tag stays: the region is as it was
+pub none-stay : (waiting stay : List ℕ) → stay ≡ [] → (waiting ≡ splice waiting 0 stay) × (length stay ≡ 0 * 84)
+none-stay waiting stay e = rw e (sym (splice-nil waiting 0), refl)
+
+pub some-stay : (waiting out stay : List ℕ) (r : ℕ) (kept : List ℕ) → stay ≡ kept → out ≡ splice waiting 0 kept → length kept ≡ r * 84
+    → (out ≡ splice waiting 0 stay) × (length stay ≡ r * 84)
+some-stay waiting out stay r kept e a b = rw e (a, b)
+
+-- ---- the root held
+
+pub root-held : (s : State) (c numbers key waiting numbers′ key′ waiting′ : List ℕ) (n : ℕ) → s .tesla ≡ tesla numbers key waiting
+    → numbers′ ≡ 0 ∷ n ∷ [] → key′ ≡ filled 32 (krootOf c) → waiting′ ≡ splice waiting 0 (S.stayingAt s c) → length (S.stayingAt s c) ≡ n * 84
+    → tesla numbers′ key′ waiting′ ≡ S.rootHeld s c
+unfolding S.rootHeld
+root-held s c numbers key waiting numbers′ key′ waiting′ n t a b d l =
+    let q : n ≡ length (S.stayingAt s c) / 84 = omega arith in
+    let w : s .tesla .waiting ≡ waiting = ap (λ (x : Tesla). x .waiting) t in
+    rw (a, b, d, q, ← w)
+
+-- ---- answered 0
+
+module _ (s : State) (v : S.Verdict) (keys chain : List ℕ) (ts : Tesla) (k : s .keys ≡ keys) (e : s .chain ≡ chain) (t : s .tesla ≡ ts) where
+  pub dropped : statusOf (S.messageHeader (v .message)) ≡ 3
+      → S.trusting s keys (set chain 0 2) (tesla (set (ts .numbers) 1 0) (ts .key) (ts .waiting)) ≡ S.vouched s v
+  unfolding S.vouched S.tagsDropped
+  dropped h = rw (h, k, e, t)
+
+  pub renewed : (keys′ chain′ : List ℕ) (ts′ : Tesla) → (statusOf (S.messageHeader (v .message)) ≡ 3 → ⊥) → keys′ ≡ withoutLower keys (v .id)
+      → chain′ ≡ cond (S.sameContents s (S.messageContents (v .message))) (s .chain) (1 ∷ S.messageContents (v .message))
+      → ts′ ≡ cond (S.sameContents s (S.messageContents (v .message))) (s .tesla) (S.rootHeld s (S.messageContents (v .message)))
+      → S.trusting s keys′ chain′ ts′ ≡ S.vouched s v
+  unfolding S.vouched
+  renewed keys′ chain′ ts′ h a b d = rw (ne-eqb (statusOf (S.messageHeader (v .message))) 3 h, a, b, d, ← k) (go (S.sameContents s (S.messageContents (v .message))))
+    where
+      go : (same : Bool)
+          → S.trusting s (withoutLower (s .keys) (v .id)) (cond same (s .chain) (1 ∷ S.messageContents (v .message))) (cond same (s .tesla) (S.rootHeld s (S.messageContents (v .message))))
+          ≡ cond same (S.trusting s (withoutLower (s .keys) (v .id)) (s .chain) (s .tesla)) (S.trusting s (withoutLower (s .keys) (v .id)) (1 ∷ S.messageContents (v .message)) (S.rootHeld s (S.messageContents (v .message))))
+      go true = refl
+      go false = refl
+
+-- ---- a verdict against what waits
+
+pub kept : (s : State) (v : S.Verdict) → s ≡ S.judgedVerdict s v 14
+unfolding S.judgedVerdict
+kept s v = refl
+
+pub wait-ended : (s : State) (v : S.Verdict) (code : ℕ) → (code ≡ 0 → ⊥) → (code ≡ 14 → ⊥) → S.trusting s (s .keys) (s .chain) (s .tesla) ≡ S.judgedVerdict s v code
+unfolding S.judgedVerdict
+wait-ended s v zero z f = absurd (z refl)
+wait-ended s v (suc n) z f = rw (ne-eqb (suc n) 14 f)
+
+pub taken : (s : State) (v : S.Verdict) → S.vouched s v ≡ S.judgedVerdict s v 0
+unfolding S.judgedVerdict
+taken s v = refl
+
+-- ---- the whole call
+
+-- 14, 15, 11, 9 and 0 are not 1, 2 or 4
+other-number : (A : Type 0) (a b c d : Bool) (s : A) (f : ℕ → A)
+    → let n : ℕ = cond a 14 (cond b 15 (cond c 11 (cond d 9 0))) in cond (anyOf (eqb n 1 ∷ eqb n 2 ∷ eqb n 4 ∷ [])) s (f n) ≡ f n
+other-number A true b c d s f = refl
+other-number A false true c d s f = refl
+other-number A false false true d s f = refl
+other-number A false false false true s f = refl
+other-number A false false false false s f = refl
+
+module _ (s : State) (v : S.Verdict) where
+  pub not-shaped : shaped s ≡ false → told 1 s ≡ verdictCall s v
+  unfolding verdictCall verdictChecks
+  not-shaped h = rw h
+
+  module _ (h : shaped s ≡ true) where
+    pub other-message : (length (v .message) ≡ 45 → ⊥) → told 1 s ≡ verdictCall s v
+    unfolding verdictCall verdictChecks
+    other-message m = rw (h, ne-eqb (length (v .message)) 45 m)
+
+    pub other-signature : length (v .message) ≡ 45 → (length (v .signature) ≡ 132 → ⊥) → told 1 s ≡ verdictCall s v
+    unfolding verdictCall verdictChecks
+    other-signature m n = rw (h, m, ne-eqb (length (v .signature)) 132 n)
+
+    pub lengths-right : length (v .message) ≡ 45 → length (v .signature) ≡ 132 → shaped s && (eqb (length (v .message)) 45 && eqb (length (v .signature)) 132) ≡ true
+    lengths-right m n = rw (h, m, n)
+
+  module _ (l : shaped s && (eqb (length (v .message)) 45 && eqb (length (v .signature)) 132) ≡ true) where
+    pub not-a-verdict : 1 < v .good → told 2 s ≡ verdictCall s v
+    unfolding verdictCall verdictChecks
+    not-a-verdict h = rw (l, lt-ltb 1 (v .good) h)
+
+    pub not-an-id : v .good ≤ 1 → 15 < v .id → told 2 s ≡ verdictCall s v
+    unfolding verdictCall verdictChecks
+    not-an-id g h = rw (l, le-ltb 1 (v .good) g, lt-ltb 15 (v .id) h)
+
+    module _ (g : v .good ≤ 1) (i : v .id ≤ 15) where
+      pub is-stopped : stopped (s .config) ≡ true → told 4 s ≡ verdictCall s v
+      unfolding verdictCall verdictChecks
+      is-stopped h = rw (l, le-ltb 1 (v .good) g, le-ltb 15 (v .id) i, h)
+
+      pub judged : (r : ℕ) (s′ : State) → stopped (s .config) ≡ false → r ≡ firstOf (S.vouchChecks s v) → s′ ≡ S.judgedVerdict s v r → told r s′ ≡ verdictCall s v
+      unfolding verdictCall verdictChecks S.vouchChecks
+      judged r s′ h e f =
+          rw (f, e, l, le-ltb 1 (v .good) g, le-ltb 15 (v .id) i, h)
+          (ap (λ (x : State). told (firstOf (S.vouchChecks s v)) x)
+          (sym
+          (other-number State (not (S.namesOffer (s .offer) v)) (neb (v .good) 1) (S.statusUnfit s (S.messageHeader (v .message)) (S.messageContents (v .message)))
+          (within 1 2 (statusOf (S.messageHeader (v .message))) && S.rootUnfit s (S.messageContents (v .message)))
+          s
+          (λ (n : ℕ). S.judgedVerdict s v n))))

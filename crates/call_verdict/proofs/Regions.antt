@@ -1,0 +1,53 @@
+-- Regions that a verdict writes whole: the message that waits, the chain, the numbers, the held key.
+-- Assumes nothing.
+use mathlib.Core.Path.{_≡_, sym, ap, _∙_}
+use mathlib.Core.List.{List, [], _∷_, _++_}
+use Prim.Native.Nat.{ℕ, _-_, _≤_, _<_}
+use native.Mathlib.Nat.{zero-add}
+use native.Mathlib.Omega.{arith}
+use borrow.Author.Tests.{lt-leb, le-leb}
+use lib.ListN.{length, getD, set, replicate, length-append, length-replicate}
+use Rattle.laws.specs.Lists.{part, splice}
+use Rattle.laws.proofs.Splice.{splice-two, splice-whole, splice-append, length-part}
+use Rattle.public_keys.proofs.Keys.{splice-cons}
+use Rattle.kroot.proofs.Parameters.{width-bound}
+use Rattle.rules.specs.Bits.{filled}
+use Rattle.rules.specs.Kroot.{noOffer, krootOf, keyWidth, ksOf}
+use Rattle.rules.specs.State.{waitingCount}
+
+-- no message waits
+pub wiped : (offer : List ℕ) → length offer ≡ 179 → splice offer 0 (replicate 179 0) ≡ noOffer
+unfolding noOffer
+wiped offer h = splice-whole offer (replicate 179 0) (length-replicate {A = ℕ} 179 0 ∙ sym h)
+
+-- the first byte, and the contents after it
+pub put : (chain c : List ℕ) → length chain ≡ 45 → length c ≡ 44 → splice (set chain 0 1) 1 c ≡ 1 ∷ c
+put chain c h k = splice-cons chain 0 1 c (omega arith) ∙ splice-whole chain (1 ∷ c) (omega arith)
+
+pub two-numbers : (numbers : List ℕ) (n : ℕ) → length numbers ≡ 2 → set (set numbers 0 0) 1 n ≡ 0 ∷ n ∷ []
+two-numbers numbers n h = splice-two numbers 0 0 n (omega arith) ∙ splice-whole numbers (0 ∷ n ∷ []) (omega arith)
+
+pub count-past : (numbers : List ℕ) → 256 < getD numbers 1 0 → 0 ≡ waitingCount numbers
+unfolding waitingCount
+count-past numbers h = rw (lt-leb (getD numbers 1 0) 256 h)
+
+pub count-in : (numbers : List ℕ) → getD numbers 1 0 ≤ 256 → getD numbers 1 0 ≡ waitingCount numbers
+unfolding waitingCount
+count-in numbers h = rw (le-leb (getD numbers 1 0) 256 h)
+
+-- the root key in 32 bytes, written in two steps
+pub root-written : (key c : List ℕ) (w : ℕ) → length key ≡ 32 → length c ≡ 44 → w ≡ keyWidth (ksOf c)
+    → splice (splice key 0 (part c 12 w)) w (replicate (32 - w) 0) ≡ filled 32 (krootOf c)
+unfolding krootOf filled
+root-written key c w h k e =
+    let b : w ≤ 32 = omega (arith, width-bound (ksOf c)) in
+    let p : List ℕ = part c 12 w in
+    let z : List ℕ = replicate (32 - w) 0 in
+    let lp : length p ≡ w = length-part c 12 w (omega arith) in
+    let lz : length z ≡ 32 - w = length-replicate (32 - w) 0 in
+    let lw : length (p ++ z) ≡ 32 = simp length-append (omega arith) in
+    ap (λ (i : ℕ). splice (splice key 0 p) i z) (sym lp ∙ sym (zero-add (length p)))
+    ∙ splice-append key 0 p z (omega arith)
+    ∙ splice-whole key (p ++ z) (omega arith)
+    ∙ ap (λ (i : ℕ). p ++ replicate (32 - i) 0) (sym lp)
+    ∙ ap (λ (i : ℕ). part c 12 i ++ replicate (32 - length (part c 12 i)) 0) e

@@ -1,0 +1,280 @@
+// The call that lends a verdict of the signature chip (01, "Verdicts"), over the sixteen lent regions.
+//   verdict          the call: any lengths, bytes and numbers
+//   judge_verdict    the same where every length is right, over the regions that it reads or writes
+//   judge_named      the same for a verdict in range, of a core that is not stopped
+//   vouch            what a verdict that is answered 0 changes
+// `maclt` is the MACLT number of the start, `c` the contents of a message (its bytes after the NMA header).
+ghost use mathlib.Core.Path.{_≡_};
+ghost use mathlib.Core.Bool.{true, cond, _&&_};
+ghost use mathlib.Core.List.{List, [], _∷_};
+ghost use Prim.Native.Nat.{ℕ, _*_, _≤_, _<_};
+ghost use lib.Dec.{eqb};
+ghost use lib.ListN.{length};
+ghost use Rattle.regions.specs.Told.{told};
+ghost use Rattle.laws.specs.Lists.{splice};
+ghost use Rattle.laws.specs.Refusal.{firstOf};
+ghost use Rattle.rules.specs.Bits.{filled};
+ghost use Rattle.rules.specs.Calls.{verdictCall};
+ghost use Rattle.rules.specs.Kroot.{krootOf, noOffer};
+ghost use Rattle.rules.specs.State.{State, state, shaped, macltOf, waitingCount};
+ghost use Rattle.rules.specs.Verdict as S;
+ghost use Rattle.call_verdict.specs.Trusted.{tesla, trusted};
+
+// A verdict: 1 (good) or 0, key ID, message (45 bytes) and signature (132).
+pub fn verdict(
+    config: &[u8],
+    clocks: &[u32],
+    words: &[u8],
+    stamps: &[u32],
+    blocks: &[u8],
+    headers: &[u8],
+    marks: &[u16],
+    since: &[u32],
+    keys: &mut [u8],
+    offer: &mut [u8],
+    chain: &mut [u8],
+    numbers: &mut [u64],
+    key: &mut [u8],
+    waiting: &mut [u8],
+    sets: &[u8],
+    arrivals: &[u32],
+    good: u8,
+    id: u8,
+    message: &[u8],
+    signature: &[u8],
+) -> u32
+    ensures { λ r. ⌜ told r (state (now (config .entry)) (now (clocks .entry)) (now (words .entry)) (now (stamps .entry)) (now (blocks .entry)) (now (headers .entry)) (now (marks .entry)) (now (since .entry)) (now (keys .exit)) (now (offer .exit)) (now (chain .exit)) (now (numbers .exit)) (now (key .exit)) (now (waiting .exit)) (now (sets .entry)) (now (arrivals .entry))) ≡ verdictCall (state (now (config .entry)) (now (clocks .entry)) (now (words .entry)) (now (stamps .entry)) (now (blocks .entry)) (now (headers .entry)) (now (marks .entry)) (now (since .entry)) (now (keys .entry)) (now (offer .entry)) (now (chain .entry)) (now (numbers .entry)) (now (key .entry)) (now (waiting .entry)) (now (sets .entry)) (now (arrivals .entry))) (record { good = good; id = id; message = now (message .entry); signature = now (signature .entry) }) ⌝ }
+{
+    if !regions::shaped(
+        config,
+        clocks,
+        words,
+        stamps,
+        blocks,
+        headers,
+        marks,
+        since,
+        keys,
+        offer,
+        chain,
+        numbers,
+        key,
+        waiting,
+        sets,
+        arrivals,
+    ) {
+        return 1;
+    }
+    if message.len() != 45 {
+        return 1;
+    }
+    if signature.len() != 132 {
+        return 1;
+    }
+    judge_verdict(
+        config,
+        keys,
+        offer,
+        chain,
+        numbers,
+        key,
+        waiting,
+        good,
+        id,
+        message,
+        signature,
+    )
+}
+
+// A verdict whose lengths are right: out of range, or of a stopped core, it changes nothing.
+fn judge_verdict(
+    config: &[u8],
+    keys: &mut [u8],
+    offer: &mut [u8],
+    chain: &mut [u8],
+    numbers: &mut [u64],
+    key: &mut [u8],
+    waiting: &mut [u8],
+    good: u8,
+    id: u8,
+    message: &[u8],
+    signature: &[u8],
+) -> u32
+    requires { ⌜ (((length (now config) ≡ 63) × (length (now keys) ≡ 1088)) × ((length (now offer) ≡ 179) × (length (now chain) ≡ 45))) × (((length (now numbers) ≡ 2) × (length (now key) ≡ 32)) × ((length (now waiting) ≡ 21504) × (length (now message) ≡ 45))) ⌝ }
+    ensures { λ r. ⌜ ((s : State) → s .config ≡ now (config .entry) → (shaped (trusted s (now (keys .entry)) (now (offer .entry)) (now (chain .entry)) (tesla (now (numbers .entry)) (now (key .entry)) (now (waiting .entry)))) && (eqb (length (now (message .entry))) 45 && eqb (length (now (signature .entry))) 132)) ≡ true → told r (trusted s (now (keys .exit)) (now (offer .exit)) (now (chain .exit)) (tesla (now (numbers .exit)) (now (key .exit)) (now (waiting .exit)))) ≡ verdictCall (trusted s (now (keys .entry)) (now (offer .entry)) (now (chain .entry)) (tesla (now (numbers .entry)) (now (key .entry)) (now (waiting .entry)))) (record { good = good; id = id; message = now (message .entry); signature = now (signature .entry) })) ⌝ }
+{
+    if 1 < good {
+        return 2;
+    }
+    if 15 < id {
+        return 2;
+    }
+    if config[62] != 0 {
+        return 4;
+    }
+    judge_named(
+        config[1],
+        keys,
+        offer,
+        chain,
+        numbers,
+        key,
+        waiting,
+        good,
+        id,
+        message,
+        signature,
+    )
+}
+
+// A verdict in range: 14 leaves all as before, 15, 11 and 9 drop the waiting message, and 0 does what the message says.
+fn judge_named(
+    maclt: u8,
+    keys: &mut [u8],
+    offer: &mut [u8],
+    chain: &mut [u8],
+    numbers: &mut [u64],
+    key: &mut [u8],
+    waiting: &mut [u8],
+    good: u8,
+    id: u8,
+    message: &[u8],
+    signature: &[u8],
+) -> u32
+    requires { ⌜ (((id < 16) × (length (now keys) ≡ 1088)) × ((length (now offer) ≡ 179) × (length (now chain) ≡ 45))) × (((length (now numbers) ≡ 2) × (length (now key) ≡ 32)) × ((length (now waiting) ≡ 21504) × (length (now message) ≡ 45))) ⌝ }
+    ensures { λ r. ⌜ ((s : State) → macltOf (s .config) ≡ maclt → (r ≡ firstOf (S.vouchChecks (trusted s (now (keys .entry)) (now (offer .entry)) (now (chain .entry)) (tesla (now (numbers .entry)) (now (key .entry)) (now (waiting .entry)))) (record { good = good; id = id; message = now (message .entry); signature = now (signature .entry) }))) × (trusted s (now (keys .exit)) (now (offer .exit)) (now (chain .exit)) (tesla (now (numbers .exit)) (now (key .exit)) (now (waiting .exit))) ≡ S.judgedVerdict (trusted s (now (keys .entry)) (now (offer .entry)) (now (chain .entry)) (tesla (now (numbers .entry)) (now (key .entry)) (now (waiting .entry)))) (record { good = good; id = id; message = now (message .entry); signature = now (signature .entry) }) r)) ⌝ }
+{
+    let code = call_verdict_checks::vouch_refusal(maclt, chain, offer, good, id, message, signature);
+    if code == 14 {
+        return 14;
+    }
+    end_wait(offer);
+    if code != 0 {
+        return code;
+    }
+    vouch(maclt, keys, chain, numbers, key, waiting, id, message);
+    0
+}
+
+// No message waits.
+fn end_wait(offer: &mut [u8])
+    requires { ⌜ length (now offer) ≡ 179 ⌝ }
+    ensures { λ _. ⌜ now (offer .exit) ≡ noOffer ⌝ }
+{
+    buffer::fill(offer, 0, 179, 0);
+}
+
+// Status 3 drops the chain and the waiting tags. Any other drops keys of lower ID and puts the root in force.
+fn vouch(
+    maclt: u8,
+    keys: &mut [u8],
+    chain: &mut [u8],
+    numbers: &mut [u64],
+    key: &mut [u8],
+    waiting: &mut [u8],
+    id: u8,
+    message: &[u8],
+)
+    requires { ⌜ (((id < 16) × (length (now keys) ≡ 1088)) × ((length (now chain) ≡ 45) × (length (now numbers) ≡ 2))) × ((length (now key) ≡ 32) × ((length (now waiting) ≡ 21504) × (length (now message) ≡ 45))) ⌝ }
+    ensures { λ _. ⌜ ((s : State) (good : ℕ) (signature : List ℕ) → macltOf (s .config) ≡ maclt → s .keys ≡ now (keys .entry) → s .chain ≡ now (chain .entry) → s .tesla ≡ tesla (now (numbers .entry)) (now (key .entry)) (now (waiting .entry)) → S.trusting s (now (keys .exit)) (now (chain .exit)) (tesla (now (numbers .exit)) (now (key .exit)) (now (waiting .exit))) ≡ S.vouched s (record { good = good; id = id; message = now (message .entry); signature = signature })) ⌝ }
+{
+    if gather::status_of(message[0]) == 3 {
+        chain[0] = 2;
+        numbers[1] = 0;
+        return;
+    }
+    public_keys::drop_lower(keys, id);
+    renew(maclt, chain, numbers, key, waiting, &message[1..45]);
+}
+
+// ---- a root in force
+
+// Contents that are in force stay so; others are put in force, and the held key begins again at their root.
+fn renew(
+    maclt: u8,
+    chain: &mut [u8],
+    numbers: &mut [u64],
+    key: &mut [u8],
+    waiting: &mut [u8],
+    c: &[u8],
+)
+    requires { ⌜ ((length (now chain) ≡ 45) × (length (now numbers) ≡ 2)) × ((length (now key) ≡ 32) × ((length (now waiting) ≡ 21504) × (length (now c) ≡ 44))) ⌝ }
+    ensures { λ _. ⌜ ((s : State) → macltOf (s .config) ≡ maclt → s .chain ≡ now (chain .entry) → s .tesla ≡ tesla (now (numbers .entry)) (now (key .entry)) (now (waiting .entry)) → (now (chain .exit) ≡ cond (S.sameContents s (now (c .entry))) (s .chain) (1 ∷ now (c .entry))) × (tesla (now (numbers .exit)) (now (key .exit)) (now (waiting .exit)) ≡ cond (S.sameContents s (now (c .entry))) (s .tesla) (S.rootHeld s (now (c .entry))))) ⌝ }
+{
+    if call_verdict_checks::same_contents(maclt, chain, c) {
+        return;
+    }
+    hold_root(maclt, chain, numbers, key, waiting, c);
+    put_in_force(chain, c);
+}
+
+// The contents are those in force from now on.
+fn put_in_force(chain: &mut [u8], c: &[u8])
+    requires { ⌜ (length (now chain) ≡ 45) × (length (now c) ≡ 44) ⌝ }
+    ensures { λ _. ⌜ now (chain .exit) ≡ 1 ∷ now (c .entry) ⌝ }
+{
+    chain[0] = 1;
+    buffer::copy_at(chain, 1, c);
+}
+
+// The root is the held key, at slot 0; waiting tags stay where the rule says so.
+fn hold_root(
+    maclt: u8,
+    chain: &[u8],
+    numbers: &mut [u64],
+    key: &mut [u8],
+    waiting: &mut [u8],
+    c: &[u8],
+)
+    requires { ⌜ ((length (now chain) ≡ 45) × (length (now numbers) ≡ 2)) × ((length (now key) ≡ 32) × ((length (now waiting) ≡ 21504) × (length (now c) ≡ 44))) ⌝ }
+    ensures { λ _. ⌜ ((s : State) → macltOf (s .config) ≡ maclt → s .chain ≡ now (chain .entry) → s .tesla ≡ tesla (now (numbers .entry)) (now (key .entry)) (now (waiting .entry)) → tesla (now (numbers .exit)) (now (key .exit)) (now (waiting .exit)) ≡ S.rootHeld s (now (c .entry))) ⌝ }
+{
+    let n = waiting_count(numbers);
+    let kept = keep_tags(maclt, chain, waiting, n, c);
+    put_root(key, c);
+    put_numbers(numbers, kept);
+}
+
+// How many tags wait.
+fn waiting_count(numbers: &[u64]) -> usize
+    requires { ⌜ length (now numbers) ≡ 2 ⌝ }
+    ensures { λ r. ⌜ (r ≡ waitingCount (now (numbers .entry))) × (r ≤ 256) ⌝ }
+{
+    if 256 < numbers[1] {
+        return 0;
+    }
+    numbers[1] as usize
+}
+
+// Slot 0 is held, and so many tags wait.
+fn put_numbers(numbers: &mut [u64], kept: usize)
+    requires { ⌜ length (now numbers) ≡ 2 ⌝ }
+    ensures { λ _. ⌜ now (numbers .exit) ≡ 0 ∷ kept ∷ [] ⌝ }
+{
+    numbers[0] = 0;
+    numbers[1] = kept as u64;
+}
+
+// The tags that stay at the new contents close up, in order. Gives their number.
+fn keep_tags(maclt: u8, chain: &[u8], waiting: &mut [u8], n: usize, c: &[u8]) -> usize
+    requires { ⌜ ((length (now chain) ≡ 45) × (length (now waiting) ≡ 21504)) × ((n ≤ 256) × (length (now c) ≡ 44)) ⌝ }
+    ensures { λ r. ⌜ ((s : State) → macltOf (s .config) ≡ maclt → s .chain ≡ now (chain .entry) → s .tesla .waiting ≡ now (waiting .entry) → waitingCount (s .tesla .numbers) ≡ n → (now (waiting .exit) ≡ splice (now (waiting .entry)) 0 (S.stayingAt s (now (c .entry)))) × (length (S.stayingAt s (now (c .entry))) ≡ r * 84)) ⌝ }
+{
+    if !kroot::in_force(maclt, chain) {
+        return 0;
+    }
+    if !kroot::chain_unchanged(&chain[1..45], c) {
+        return 0;
+    }
+    waiting_tags::keep_staying(waiting, kroot::root_seconds(c), n)
+}
+
+// The root key, zeros after a short one.
+fn put_root(key: &mut [u8], c: &[u8])
+    requires { ⌜ (length (now key) ≡ 32) × (length (now c) ≡ 44) ⌝ }
+    ensures { λ _. ⌜ now (key .exit) ≡ filled 32 (krootOf (now (c .entry))) ⌝ }
+{
+    let width = kroot::key_width(kroot::ks(c));
+    buffer::copy_part(key, 0, c, 12, width);
+    buffer::fill(key, width, 32 - width, 0);
+}

@@ -1,0 +1,42 @@
+-- `due_tag_keys::next_below` meets its contract: after k turns none of the first k slots below the bound is above the best.
+-- Assumes nothing.
+use Prim.Native.Nat.{ℕ, _-_, _≤_, _<_}
+use native.Mathlib.Omega.{arith}
+use lib.ListN.{getD}
+use denote.Ref.{now}
+use Rattle.due_tag_keys.proofs.Falling.{best-one}
+use borrow.Author.Needs.{needs}
+use Rattle.due_tag_keys.proofs.next_below.Statement.{statement}
+use Rattle.due_tag_keys.proofs.next_below.Tie as tie
+
+abbrev Inv-loop : tie.InvT-loop
+Inv-loop slots n below best₀ k₀ best k =
+    (k ≤ n) × ((best < below) × ((j : ℕ) → j < k → getD slots j 0 < below → getD slots j 0 ≤ best))
+
+abbrev μ-loop : tie.MeasureT-loop
+μ-loop slots n below best₀ k₀ best k = n - k
+
+loop-holds : tie.Need-loop-holds Inv-loop μ-loop
+loop-holds c = (omega arith, (omega arith, λ j h. absurd (omega arith)))
+
+loop-again : tie.Need-loop-again Inv-loop μ-loop
+loop-again c =
+    let l = c .before .before .before .loop in
+    let g = c .before .before .before .before .args in
+    let r = c .higher .ensures in
+    (omega arith, (r .0, best-one (now (g .slots)) (l .k) (g .below) (l .best) (c .higher .result) (l .inv .1 .1) (r .1 .0) (r .1 .1)))
+
+returns : tie.Need-returns Inv-loop μ-loop
+returns c =
+    let l = c .before .loop in
+    (l .inv .1 .0, λ k h. l .inv .1 .1 k (omega arith))
+
+pub next-below-spec : {M : Type 1} → statement M
+next-below-spec =
+    tie.close
+    (tie.spec
+    Inv-loop
+    μ-loop
+    loop-holds (λ c. search needs) (λ c. search needs) (λ c κs. search needs) (λ c. search needs) (λ c. search needs)
+    loop-again
+    returns)

@@ -1,0 +1,66 @@
+-- `due_tags::sweep` meets its contract: after k turns the regions hold the work of the first k entries.
+-- Assumes nothing.
+use mathlib.Core.Path.{_≡_}
+use Prim.Native.Nat.{_-_, _≤_}
+use native.Mathlib.Omega.{arith}
+use lib.ListN.{length}
+use denote.Ref.{now}
+use Rattle.due_tags.specs.Swept.{start, swept, Leaves, Counts}
+use Rattle.due_tags.proofs.Arrival.{none-swept, one-swept}
+use borrow.Author.Needs.{needs}
+use Rattle.due_tags.proofs.sweep.Statement.{statement}
+use Rattle.due_tags.proofs.sweep.Tie as tie
+
+abbrev Inv-loop : tie.InvT-loop
+Inv-loop outcomes waiting₀ n sets₀ times₀ area₀ kept₀ k₀ waiting sets times area kept k =
+    ((k ≤ n) × ((length waiting ≡ 21504) × ((length sets ≡ 2484) × ((length times ≡ 36) × (length area ≡ 3240)))))
+    × (Leaves (swept outcomes waiting₀ k (start 0 sets₀ times₀)) 0 0 waiting₀ area₀ waiting sets times area kept
+    × Counts (swept outcomes waiting₀ k (start 0 sets₀ times₀)) k kept)
+
+abbrev μ-loop : tie.MeasureT-loop
+μ-loop outcomes waiting₀ n sets₀ times₀ area₀ kept₀ k₀ waiting sets times area kept k = n - k
+
+loop-holds : tie.Need-loop-holds Inv-loop μ-loop
+loop-holds c =
+    let g = c .before .before .before .before .before .args in
+    ((search needs), none-swept (now (g .outcomes)) (now (g .waiting)) (now (g .sets)) (now (g .times)) (now (g .area)))
+
+shared-slice-read-outcome : tie.Need-shared-slice-read-outcome Inv-loop μ-loop
+shared-slice-read-outcome c = search needs
+
+sweep-one-requires : tie.Need-sweep-one-requires Inv-loop μ-loop
+sweep-one-requires c κs =
+    let few = c .before .before .before .before .before .before .loop .inv .1 .1 .few in
+    (search needs, (few, search needs))
+
+loop-again : tie.Need-loop-again Inv-loop μ-loop
+loop-again c =
+    let s = c .before .before .before .before .before .before .before .before in
+    let l = s .before .before .before .before .before .before .before .loop in
+    let a = s .before .before .before .before .before .before .before .before .before .before .before .before .before in
+    let g = a .args in
+    let p = s .«sweep-one» in (
+      search needs,
+      one-swept (now (g .outcomes)) (now (g .waiting)) (now (g .area)) (l .waiting) (l .sets) (l .times) (l .area)
+          (p .last .1 .0) (p .last .1 .1 .1 .1 .0) (p .last .1 .1 .1 .1 .1 .0) (p .last .1 .1 .1 .1 .1 .1 .0)
+          (l .k) (l .kept) (p .result) (start 0 (now (g .sets)) (now (g .times)))
+          (omega (arith, a .pre)) (omega (arith, a .pre)) (omega (arith, a .pre)) (l .inv .1 .0) (l .inv .1 .1) (p .ensures),
+    )
+
+returns : tie.Need-returns Inv-loop μ-loop
+returns c =
+    let l = c .before .loop in
+    let h : l .k ≡ c .before .before .before .before .before .before .before .args .n = omega arith in
+    rw (← h) (l .inv .1)
+
+pub sweep-spec : {M : Type 1} → statement M
+sweep-spec =
+    tie.close
+    (tie.spec
+    Inv-loop
+    μ-loop
+    loop-holds
+    shared-slice-read-outcome
+    sweep-one-requires (λ c. search needs) (λ c. search needs)
+    loop-again (λ c. search needs) (λ c. search needs) (λ c. search needs) (λ c. search needs)
+    returns)

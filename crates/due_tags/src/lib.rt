@@ -1,0 +1,150 @@
+// The sweep of the waiting tags (01, "MACK": "Due tags are judged in arrival order before the section's own, and free their places").
+// A tag that is due gets its record, and for outcome 1 its set becomes the satellite's authentic one; the others close up, in order.
+// Public calls:
+//   judge_due   the whole: keys, outcomes, records, sets and places
+//   sweep       the same for outcomes that are known
+//   tell        the record and the set of one tag of any outcome
+use rules::Chain;
+use rules::Tag;
+ghost use mathlib.Core.Path.{_≡_};
+ghost use mathlib.Core.Bool.{true, cond};
+ghost use Prim.Native.Nat.{_+_, _-_, _*_, _^_, _≤_, _<_};
+ghost use lib.ListN.{length, take};
+ghost use Rattle.rules.specs.Chain.{held};
+ghost use Rattle.rules.specs.Tags.{entryAt, entryTag, entrySet, setsEntered, timesEntered, told, duesJudged};
+ghost use Rattle.chain.specs.Sound.{Sound};
+ghost use Rattle.due_tags.specs.Swept as S;
+ghost use Rattle.due_tags.specs.Swept.{start, sweptOne, swept, Tells, Leaves, Counts};
+
+// ---- a tag that is due
+
+// Whether a tag's set becomes authentic: outcome 1, and the entry names a satellite and a time.
+fn marks(outcome: u8, t: Tag) -> bool
+    ensures { λ r. ⌜ (r ≡ S.marks outcome t) × (r ≡ true → ((1 ≤ t .prn) × (t .prn ≤ 36)) × (t .time < 4294967295)) ⌝ }
+{
+    let prn = t.prn;
+    if outcome != 1 {
+        return false;
+    }
+    if prn < 1 {
+        return false;
+    }
+    if 36 < prn {
+        return false;
+    }
+    times::time_valid(t.time)
+}
+
+// The set of an authentic tag enters its satellite's place.
+fn enter(outcome: u8, t: Tag, set: &[u8], sets: &mut [u8], times: &mut [u32])
+    requires { ⌜ ((length (now sets) ≡ 2484) × (length (now times) ≡ 36)) × (length (now set) ≡ 69) ⌝ }
+    ensures { λ _. ⌜ (now (sets .exit) ≡ cond (S.marks outcome t) (setsEntered (now (sets .entry)) (now (times .entry)) t (now (set .entry))) (now (sets .entry))) × (now (times .exit) ≡ cond (S.marks outcome t) (timesEntered (now (times .entry)) t) (now (times .entry))) ⌝ }
+{
+    if marks(outcome, t) {
+        authentic_sets::enter_set(sets, times, t, set);
+    }
+}
+
+// A tag has this outcome: its record goes to place `at` of the area, and for outcome 1 its set to its satellite's place.
+pub fn tell(
+    outcome: u8,
+    t: Tag,
+    set: &[u8],
+    sets: &mut [u8],
+    times: &mut [u32],
+    area: &mut [u8],
+    at: usize,
+)
+    requires { ⌜ ((length (now sets) ≡ 2484) × (length (now times) ≡ 36)) × ((length (now set) ≡ 69) × (at + 12 ≤ length (now area))) ⌝ }
+    ensures { λ _. ⌜ Tells (told outcome t (now (set .entry)) (start 0 (now (sets .entry)) (now (times .entry)))) at (now (area .entry)) (now (sets .exit)) (now (times .exit)) (now (area .exit)) ⌝ }
+{
+    let issue = tags::record_issue(outcome, set);
+    tags::put_record(area, at, outcome, t, issue);
+    enter(outcome, t, set, sets, times);
+}
+
+// The same for the tag of entry k and the copy of its set.
+fn tell_entry(
+    outcome: u8,
+    waiting: &[u8],
+    k: usize,
+    sets: &mut [u8],
+    times: &mut [u32],
+    area: &mut [u8],
+    at: usize,
+)
+    requires { ⌜ ((length (now sets) ≡ 2484) × (length (now times) ≡ 36)) × ((k * 84 + 84 ≤ length (now waiting)) × (at + 12 ≤ length (now area))) ⌝ }
+    ensures { λ _. ⌜ Tells (told outcome (entryTag (entryAt (now (waiting .entry)) k)) (entrySet (entryAt (now (waiting .entry)) k)) (start 0 (now (sets .entry)) (now (times .entry)))) at (now (area .entry)) (now (sets .exit)) (now (times .exit)) (now (area .exit)) ⌝ }
+{
+    let t = waiting_tags::entry_tag(waiting, k);
+    let mut set = [0u8; 69];
+    waiting_tags::copy_set(waiting, k, &mut set);
+    tell(outcome, t, &set, sets, times, area, at);
+}
+
+// ---- arrival order
+
+// Entry k, of this outcome, after `kept` that stay: it closes up, or it gets its record. Gives how many stay then.
+fn sweep_one(
+    outcome: u8,
+    waiting: &mut [u8],
+    k: usize,
+    kept: usize,
+    sets: &mut [u8],
+    times: &mut [u32],
+    area: &mut [u8],
+) -> usize
+    requires { ⌜ ((length (now sets) ≡ 2484) × (length (now times) ≡ 36)) × ((length (now waiting) ≡ 21504) × (length (now area) ≡ 3240)) ⌝ }
+    requires { ⌜ (kept ≤ k) × (k < 256) ⌝ }
+    ensures { λ r. ⌜ Leaves (sweptOne outcome (entryAt (now (waiting .entry)) k) (start kept (now (sets .entry)) (now (times .entry)))) kept (k - kept) (now (waiting .entry)) (now (area .entry)) (now (waiting .exit)) (now (sets .exit)) (now (times .exit)) (now (area .exit)) r ⌝ }
+{
+    if outcome == 0 {
+        waiting_tags::move_entry(waiting, k, kept);
+        return kept + 1;
+    }
+    tell_entry(outcome, waiting, k, sets, times, area, (k - kept) * 12);
+    kept
+}
+
+// The first n entries, of these outcomes. Gives how many stay.
+pub fn sweep(
+    outcomes: &[u8],
+    waiting: &mut [u8],
+    n: usize,
+    sets: &mut [u8],
+    times: &mut [u32],
+    area: &mut [u8],
+) -> usize
+    requires { ⌜ ((length (now sets) ≡ 2484) × (length (now times) ≡ 36)) × ((length (now waiting) ≡ 21504) × (length (now area) ≡ 3240)) ⌝ }
+    requires { ⌜ (length (now outcomes) ≡ 256) × (n ≤ 256) ⌝ }
+    ensures { λ r. ⌜ Leaves (swept (now (outcomes .entry)) (now (waiting .entry)) n (start 0 (now (sets .entry)) (now (times .entry)))) 0 0 (now (waiting .entry)) (now (area .entry)) (now (waiting .exit)) (now (sets .exit)) (now (times .exit)) (now (area .exit)) r × Counts (swept (now (outcomes .entry)) (now (waiting .entry)) n (start 0 (now (sets .entry)) (now (times .entry)))) n r ⌝ }
+{
+    let mut kept: usize = 0;
+    let mut k: usize = 0;
+    while k < n {
+        let outcome = outcomes[k];
+        kept = sweep_one(outcome, waiting, k, kept, sets, times, area);
+        k += 1;
+    }
+    kept
+}
+
+// The first n waiting tags at a held key of this slot, in arrival order. The entries that stay close up at the front of `waiting`, the
+// records come one after the other at the front of `area`, and the bytes past both stay. Gives how many stay; each other has a record.
+pub fn judge_due(
+    c: Chain,
+    slot: u64,
+    known: [u8; 32],
+    waiting: &mut [u8],
+    n: usize,
+    sets: &mut [u8],
+    times: &mut [u32],
+    area: &mut [u8],
+) -> usize
+    requires { ⌜ ((length (now sets) ≡ 2484) × (length (now times) ≡ 36)) × ((length (now waiting) ≡ 21504) × (length (now area) ≡ 3240)) ⌝ }
+    requires { ⌜ Sound c × ((slot < 2 ^ 34) × (n ≤ 256)) ⌝ }
+    ensures { λ r. ⌜ Leaves (duesJudged c (held slot (take (c .width) known)) (now (waiting .entry)) n (start 0 (now (sets .entry)) (now (times .entry)))) 0 0 (now (waiting .entry)) (now (area .entry)) (now (waiting .exit)) (now (sets .exit)) (now (times .exit)) (now (area .exit)) r × Counts (duesJudged c (held slot (take (c .width) known)) (now (waiting .entry)) n (start 0 (now (sets .entry)) (now (times .entry)))) n r ⌝ }
+{
+    let outcomes = due_tag_keys::outcomes(c, slot, known, waiting, n);
+    sweep(&outcomes, waiting, n, sets, times, area)
+}

@@ -1,0 +1,32 @@
+-- `kroot::chain_with` meets its contract: each field is its definition.
+-- Assumes nothing.
+use native.Mathlib.Omega.{arith}
+use borrow.Author.Needs.{needs}
+use Rattle.kroot.proofs.Parameters.{width-bound, tag-bound}
+use Rattle.rules.specs.Kroot as S
+use Rattle.kroot.proofs.chain_with.Statement.{statement}
+use Rattle.kroot.proofs.chain_with.Tie as tie
+
+mul-fields-for : tie.Need-mul-fields-for
+mul-fields-for c =
+    let w = c .before .before .before .before in
+    omega (arith, w .key-width .ensures, width-bound (w .before .ks .result))
+
+fields-for-requires : tie.Need-fields-for-requires
+fields-for-requires c κs =
+    let w = c .before .before in
+    omega (arith, w .tag-width .ensures, tag-bound (w .before .ms .result))
+
+returns : tie.Need-returns
+unfolding S.chainWith
+returns c =
+    let c4 = c .before .before .before .before in
+    rw (c .alpha .ensures, c .before .fields-for .ensures, c .before .before .root-seconds .ensures, c .before .before .before .nmack .ensures, c4 .tag-width .ensures, c4 .before .ms .ensures, c4 .before .before .key-width .ensures, c4 .before .before .before .ks .ensures)
+
+pub chain-with-spec : {M : Type 1} → statement M
+chain-with-spec =
+    tie.close
+    (tie.spec (λ c κs. search needs) (λ c κs. search needs) (λ c κs. search needs) (λ c κs. search needs) (λ c κs. search needs) (λ c κs. search needs)
+    mul-fields-for
+    fields-for-requires (λ c κs. search needs) (λ c. search needs)
+    returns)

@@ -1,0 +1,176 @@
+-- A block's check by its cases, and the blocks one after the other.
+-- Assumes nothing.
+use mathlib.Core.Path.{_≡_, refl, sym, ap, _∙_}
+use mathlib.Core.Bool.{Bool, true, false, not, _||_}
+use mathlib.Core.List.{List, _++_}
+use Prim.Native.Nat.{ℕ, zero, suc, _+_, _-_, _≤_, _<_}
+use native.Mathlib.Omega.{arith}
+use native.Mathlib.Numerals.{add-one}
+use lib.Dec.{ltb, eqb}
+use lib.ListN.{length, take, drop, replicate}
+use lib.Seq.{drop-at}
+use borrow.Author.Tests.{lt-ltb, le-ltb, ne-eqb}
+use Rattle.laws.specs.Lists.{part, splice}
+use Rattle.laws.specs.Refusal.{firstOf, unless, neb}
+use Rattle.laws.proofs.Refusal.{by-test, unless-refused}
+use Rattle.bitfields.proofs.Fields.{length-bytesAt}
+use Rattle.rules.specs.Chain.{Held, held, keyFits, higher, sentSlot}
+use Rattle.rules.specs.Mack as S
+use Rattle.rules.specs.declared.Chain.{Chain}
+use Rattle.chain.proofs.Steps.{front-splice, splice-front}
+use Rattle.mack_keys.specs.Keys.{Hands}
+
+-- ---- one block
+
+length-key : (c : Chain) (m : List ℕ) (b : ℕ) → length (S.blockKey c m b) ≡ c .width
+unfolding S.blockKey
+length-key c m b = length-bytesAt m (S.keyAt c b) (c .width)
+
+-- the key's bytes of those that were read
+pub sent-key : (c : Chain) (m sent : List ℕ) (b : ℕ) → sent ≡ splice (replicate 32 0) 0 (S.blockKey c m b) → take (c .width) sent ≡ S.blockKey c m b
+sent-key c m sent b e = ap (take (c .width)) e ∙ front-splice (replicate 32 0) (S.blockKey c m b) (c .width) (length-key c m b)
+
+module _ (c : Chain) (g prn first high b slot : ℕ) (m key : List ℕ) (s : slot ≡ sentSlot c g b prn) where
+  abbrev h : Held
+  h = held high (take (c .width) key)
+
+  abbrev judged : S.Proved
+  judged = S.blockProved c g prn first m h b
+
+  pub refused-far : first + 1000000 < slot → Hands judged 13 high key key
+  unfolding S.blockProved S.blockChecks S.tooFar
+  refused-far l =
+      let t : ltb (first + 1000000) (sentSlot c g b prn) ≡ true = rw s at (lt-ltb (first + 1000000) slot l) in
+      record { code-is = rw t; slot-is = rw t; key-is = rw t (sym (splice-front key (c .width))) }
+
+  module _ (l : slot ≤ first + 1000000) where
+    near : S.tooFar first (sentSlot c g b prn) ≡ false
+    unfolding S.tooFar
+    near = rw s at (le-ltb (first + 1000000) slot l)
+
+    -- a spare bit is 1
+    pub refused-spare : (x : ℕ) → x ≡ S.spareBits c m b → (x ≡ 0 → ⊥) → Hands judged 12 high key key
+    unfolding S.blockProved S.blockChecks
+    refused-spare x e n =
+        let t : eqb (S.spareBits c m b) 0 ≡ false = rw e at (ne-eqb x 0 n) in
+        let u : not (keyFits c h (sentSlot c g b prn) (S.blockKey c m b)) || neb (S.spareBits c m b) 0 ≡ true = rw t (either (not (keyFits c h (sentSlot c g b prn) (S.blockKey c m b)))) in
+        record { code-is = rw (near, u); slot-is = rw (near, u); key-is = rw (near, u) (sym (splice-front key (c .width))) }
+      where
+        either : (a : Bool) → a || true ≡ true
+        either true = refl
+        either false = refl
+
+    module _ (sent : List ℕ) (k : sent ≡ splice (replicate 32 0) 0 (S.blockKey c m b)) (f : Bool) (q : f ≡ keyFits c h slot (take (c .width) sent)) where
+      fits : f ≡ keyFits c h (sentSlot c g b prn) (S.blockKey c m b)
+      fits = q ∙ rw (s, sent-key c m sent b k)
+
+      pub refused-key : f ≡ false → Hands judged 12 high key key
+      unfolding S.blockProved S.blockChecks
+      refused-key n =
+          let t : keyFits c h (sentSlot c g b prn) (S.blockKey c m b) ≡ false = sym fits ∙ n in
+          record { code-is = rw (near, t); slot-is = rw (near, t); key-is = rw (near, t) (sym (splice-front key (c .width))) }
+
+      module _ (n : f ≡ true) (x : ℕ) (e : x ≡ S.spareBits c m b) (z : x ≡ 0) where
+        held-one : ltb high slot ≡ false → Hands judged 0 high key key
+        unfolding S.blockProved S.blockChecks higher
+        held-one t =
+            let u : keyFits c h (sentSlot c g b prn) (S.blockKey c m b) ≡ true = sym fits ∙ n in
+            let v : S.spareBits c m b ≡ 0 = sym e ∙ z in
+            let w : ltb high (sentSlot c g b prn) ≡ false = rw s at t in
+            record { code-is = rw (near, u, v); slot-is = rw (near, u, v, w); key-is = rw (near, u, v, w) (sym (splice-front key (c .width))) }
+
+        pub old-key : slot ≤ high → Hands judged 0 high key key
+        old-key o = held-one (le-ltb high slot o)
+
+        pub new-key : high < slot → (out : List ℕ) → out ≡ splice key 0 (part sent 0 (c .width)) → Hands judged 0 slot key out
+        unfolding S.blockProved S.blockChecks higher part
+        new-key o out r =
+            let u : keyFits c h (sentSlot c g b prn) (S.blockKey c m b) ≡ true = sym fits ∙ n in
+            let v : S.spareBits c m b ≡ 0 = sym e ∙ z in
+            let w : ltb high (sentSlot c g b prn) ≡ true = rw s at (lt-ltb high slot o) in
+            record {
+              code-is = rw (near, u, v);
+              slot-is = rw (near, u, v, w) s;
+              key-is = rw (near, u, v, w) (r ∙ ap (splice key 0) (sent-key c m sent b k));
+            }
+
+-- ---- the blocks in order
+
+-- a key replaced by another of the same width
+splice-again : (d x y : List ℕ) → length x ≡ length y → splice (splice d 0 x) 0 y ≡ splice d 0 y
+unfolding splice
+splice-again d x y e = ap (λ (l : List ℕ). y ++ l) (drop-at x (drop (length x) d) (length y) e ∙ ap (λ (n : ℕ). drop n d) e)
+
+chosen : (n : ℕ) (w : ℕ) (x y : Held) → length (x .key) ≡ w → length (y .key) ≡ w → length ((unless n x y) .key) ≡ w
+chosen zero w x y p q = p
+chosen (suc n) w x y p q = q
+
+chosen-proved : (n : ℕ) (w : ℕ) (x y : S.Proved) → length (x .held .key) ≡ w → length (y .held .key) ≡ w → length ((unless n x y) .held .key) ≡ w
+chosen-proved zero w x y p q = p
+chosen-proved (suc n) w x y p q = q
+
+length-higher : (h : Held) (slot : ℕ) (k : List ℕ) (w : ℕ) → length (h .key) ≡ w → length k ≡ w → length ((higher h slot k) .key) ≡ w
+unfolding higher
+length-higher h slot k w p q = by-test (λ (x : Held). length (x .key) ≡ w) (ltb (h .slot) slot) (λ _. q) (λ _. p)
+
+-- every key proved has the width
+pub length-block : (c : Chain) (g prn first : ℕ) (m : List ℕ) (h : Held) (b : ℕ) → length (h .key) ≡ c .width → length ((S.blockProved c g prn first m h b) .held .key) ≡ c .width
+unfolding S.blockProved
+length-block c g prn first m h b e =
+    chosen (firstOf (S.blockChecks c g prn first m h b)) (c .width) (higher h (sentSlot c g b prn) (S.blockKey c m b)) h
+    (length-higher h (sentSlot c g b prn) (S.blockKey c m b) (c .width) e (length-key c m b)) e
+
+pub length-proved : (c : Chain) (g prn : ℕ) (m : List ℕ) (h : Held) (b : ℕ) → length (h .key) ≡ c .width → length ((S.keysProved c g prn m h b) .held .key) ≡ c .width
+unfolding S.keysProved
+length-proved c g prn m h zero e = e
+length-proved c g prn m h (suc b) e =
+    let p = S.keysProved c g prn m h b in
+    let i = length-proved c g prn m h b e in
+    chosen-proved (p .code) (c .width) (S.blockProved c g prn (h .slot) m (p .held) (suc b)) p (length-block c g prn (h .slot) m (p .held) (suc b) i) i
+
+-- what the blocks before gave, as the code has it
+abbrev pub soFar : Chain → ℕ → ℕ → List ℕ → S.Proved
+soFar c code slot key = record { code = code; held = held slot (take (c .width) key) }
+
+-- no block yet
+pub no-block : (c : Chain) (g prn slot : ℕ) (m key : List ℕ) → Hands (S.keysProved c g prn m (held slot (take (c .width) key)) 0) 0 slot key key
+unfolding S.keysProved
+no-block c g prn slot m key = record { code-is = refl; slot-is = refl; key-is = sym (splice-front key (c .width)) }
+
+-- a block failed before
+pub failed-before : (c : Chain) (code slot : ℕ) (x : S.Proved) (key : List ℕ) → (code ≡ 0 → ⊥) → Hands (unless code x (soFar c code slot key)) code slot key key
+failed-before c code slot x key n =
+    rw (unless-refused code x (soFar c code slot key) n)
+    (record { code-is = refl; slot-is = refl; key-is = sym (splice-front key (c .width)) })
+
+-- one block more
+pub one-more : (c : Chain) (g prn b code slot rc rs : ℕ) (m key₀ key out : List ℕ) (h : Held) → length (h .key) ≡ c .width
+    → Hands (S.keysProved c g prn m h b) code slot key₀ key
+    → Hands (unless code (S.blockProved c g prn (h .slot) m (held slot (take (c .width) key)) (b + 1)) (soFar c code slot key)) rc rs key out
+    → Hands (S.keysProved c g prn m h (b + 1)) rc rs key₀ out
+unfolding S.keysProved
+one-more c g prn b code slot rc rs m key₀ key out h e p q =
+    let old = S.keysProved c g prn m h b in
+    let n = length-proved c g prn m h b e in
+    let k : take (c .width) key ≡ old .held .key = ap (take (c .width)) (p .key-is) ∙ front-splice key₀ (old .held .key) (c .width) n in
+    let same : soFar c code slot key ≡ old = rw (p .code-is, p .slot-is, k) in
+    let new = S.keysProved c g prn m h (suc b) in
+    let u : unless code (S.blockProved c g prn (h .slot) m (held slot (take (c .width) key)) (b + 1)) (soFar c code slot key) ≡ new =
+    rw (same, p .code-is, p .slot-is, k, add-one b) in
+    let r : Hands new rc rs key out = rw u at q in
+    rw (add-one b)
+    (record {
+      code-is = r .code-is;
+      slot-is = r .slot-is;
+      key-is =
+          r .key-is
+          ∙ ap (λ (l : List ℕ). splice l 0 (new .held .key)) (p .key-is)
+          ∙ splice-again key₀ (old .held .key) (new .held .key) (n ∙ sym (length-proved c g prn m h (suc b) e));
+    })
+
+-- all blocks
+pub all-blocks : (c : Chain) (g prn b n code slot : ℕ) (m key₀ key : List ℕ) (h : Held) → b ≤ n → n ≤ b → Hands (S.keysProved c g prn m h b) code slot key₀ key
+    → Hands (S.keysProved c g prn m h n) code slot key₀ key
+all-blocks c g prn b n code slot m key₀ key h l k p =
+    let e : n ≡ b = omega arith in
+    rw e p

@@ -1,0 +1,21 @@
+-- `public_keys::key_length` meets its contract: a place of the table, or its last entry.
+-- Assumes nothing.
+use mathlib.Core.Path.{sym}
+use mathlib.Core.List.{[], _∷_}
+use native.Mathlib.Omega.{arith}
+use borrow.Author.Needs.{needs}
+use Rattle.laws.proofs.Table.{table-last, table-entry}
+use Rattle.rules.specs.PublicKeys as S
+use Rattle.public_keys.proofs.key_length.Statement.{statement}
+use Rattle.public_keys.proofs.key_length.Tie as tie
+
+returns : tie.Need-returns
+unfolding S.keyLength
+returns c = sym (table-last (29 ∷ 33 ∷ 49 ∷ []) 67 (c .before .args .kind) (omega arith))
+
+returns-2 : tie.Need-returns-2
+unfolding S.keyLength
+returns-2 c = table-entry (29 ∷ 33 ∷ 49 ∷ 67 ∷ []) 0 67 (c .before .args .kind) (omega arith)
+
+pub key-length-spec : {M : Type 1} → statement M
+key-length-spec = tie.close (tie.spec returns (λ c. search needs) (λ c. search needs) returns-2)

@@ -1,0 +1,310 @@
+-- One field more of a section: its outcome by the tests is the rule's, and its work adds to that of the fields before it.
+-- Assumes nothing.
+use mathlib.Core.Path.{_≡_, refl, sym, ap, _∙_}
+use mathlib.Core.Bool.{Bool, true, false, cond, not, _&&_, _||_}
+use mathlib.Core.Logic.{⊎-elim}
+use mathlib.Core.List.{List, [], _∷_, _++_, append-nil}
+use Prim.Native.Nat.{ℕ, _+_, _*_, _≤_, _<_}
+use native.Mathlib.Omega.{arith}
+use native.Mathlib.Nat.{sub-self}
+use native.Mathlib.Numerals.{add-one}
+use lib.Dec.{eqb, ltb}
+use lib.ListN.{length, length-append}
+use borrow.Author.Tests.{eq-eqb, ne-eqb, eqb-true, ltb-true}
+use Rattle.laws.specs.Lists.{splice}
+use Rattle.laws.proofs.Splice.{either, splice-append, splice-nil}
+use Rattle.laws.proofs.Tests.{true-false, neither}
+use Rattle.laws.specs.Refusal.{neb}
+use Rattle.rules.specs.Bits.{anyOf}
+use Rattle.rules.specs.Chain.{Held}
+use Rattle.rules.specs.State.{Nav, markOf, prnValid}
+use Rattle.rules.specs.Tags.{Work, Section, told, kept, recordIssue, tagEntry, tagMatches, ownTag, notAllowed, secondHalf, flexible, macseqFits, ownOutcome, ownJudged, ownsJudged}
+use Rattle.rules.specs.Times.{delayOf}
+use Rattle.rules.specs.Navdata.{usable, setOf}
+use Rattle.rules.specs.declared.Chain.{Chain}
+use Rattle.rules.specs.declared.Tag.{Tag}
+use Rattle.navdata.proofs.Sets.{length-set-of}
+use Rattle.waiting_tags.proofs.Entries.{length-tag-entry}
+use Rattle.due_tags.specs.Swept.{start, Tells, Leaves}
+use Rattle.due_tags.proofs.Arrival.{length-record}
+use Rattle.section_tags.specs.Own.{outcomeBy, settled, Grows}
+
+-- ---- outcomes
+
+-- a tag waits only where a place is free
+pub waits-free : (a b d e f g : Bool) → outcomeBy a b d e f g ≡ 5 → g ≡ true
+waits-free true b d e f g p = absurd (omega arith)
+waits-free false true d e f g p = absurd (omega arith)
+waits-free false false true e f g p = absurd (omega arith)
+waits-free false false false true f g p = absurd (omega arith)
+waits-free false false false false true g p = absurd (omega arith)
+waits-free false false false false false true p = refl
+waits-free false false false false false false p = absurd (omega arith)
+
+pub and-twice : (a b : Bool) → (a && (a && b)) ≡ (a && b)
+and-twice true b = refl
+and-twice false b = refl
+
+-- a tag that is not refused names a satellite
+prn-known : (a b v : Bool) → (a || (b || (not v || false))) ≡ false → v ≡ true
+prn-known a b true p = refl
+prn-known a b false p = true-false (sym (ap not (neither b true (neither a (b || true) p .1) .1)))
+
+allowed-prn : (config : List ℕ) (j : ℕ) (t : Tag) → notAllowed config j t ≡ false → prnValid (t .prn) ≡ true
+unfolding notAllowed
+allowed-prn config j t p =
+    prn-known (not (anyOf (eqb (t .adkd) 0 ∷ eqb (t .adkd) 11 ∷ eqb (t .adkd) 12 ∷ [])))
+    (not (flexible config (t .time) j) && neb (t .adkd) (markOf config (secondHalf (t .time)) j)) (prnValid (t .prn)) p
+
+-- the record of a refused tag does not read the set
+refused-any : (t : Tag) (s u : List ℕ) (w : Work) → settled 4 t s w ≡ settled 4 t u w
+unfolding settled told recordIssue
+refused-any t s u w = refl
+
+module _ (config : List ℕ) (n : Nav) (c : Chain) (h : Held) (x : Section) (j : ℕ) (fits : Bool) (w : Work) (p : ℕ) (set : List ℕ)
+    (f : fits ≡ macseqFits config c h x) (s : set ≡ setOf (n .words) p) where
+  abbrev outcome : ℕ
+  outcome =
+      let t = ownTag c x j in
+      outcomeBy (notAllowed config j t) (flexible config (t .time) j && not fits) (not (usable n p (t .time)))
+      (eqb (delayOf (t .adkd)) 0 && tagMatches c h (eqb j 0) t set) (eqb (delayOf (t .adkd)) 0) (ltb (w .count) 256)
+
+  judged-refused : notAllowed config j (ownTag c x j) ≡ true → settled outcome (ownTag c x j) set w ≡ ownJudged config n c h x j w
+  unfolding settled ownJudged ownOutcome
+  judged-refused e = rw e (refused-any (ownTag c x j) set (setOf (n .words) ((ownTag c x j) .prn)) w)
+
+  judged-known : p ≡ (ownTag c x j) .prn → settled outcome (ownTag c x j) set w ≡ ownJudged config n c h x j w
+  unfolding settled ownJudged ownOutcome
+  judged-known e = rw (s, e, f)
+
+  pub field-judged : (prnValid ((ownTag c x j) .prn) ≡ true → p ≡ (ownTag c x j) .prn) → settled outcome (ownTag c x j) set w ≡ ownJudged config n c h x j w
+  field-judged e =
+      ⊎-elim (λ r. judged-refused r) (λ r. judged-known (e (allowed-prn config j (ownTag c x j) r))) (either (notAllowed config j (ownTag c x j)))
+
+-- the same for a tag that is known to be the field's
+pub one-judged : (config : List ℕ) (n : Nav) (c : Chain) (h : Held) (x : Section) (j : ℕ) (fits : Bool) (w : Work) (p o : ℕ) (set : List ℕ) (t : Tag)
+    → t ≡ ownTag c x j → fits ≡ macseqFits config c h x → set ≡ setOf (n .words) p → (prnValid (t .prn) ≡ true → p ≡ t .prn)
+    → o ≡ outcomeBy (notAllowed config j t) (flexible config (t .time) j && not fits) (not (usable n p (t .time)))
+    (eqb (delayOf (t .adkd)) 0 && tagMatches c h (eqb j 0) t set) (eqb (delayOf (t .adkd)) 0) (ltb (w .count) 256)
+    → settled o t set w ≡ ownJudged config n c h x j w
+one-judged config n c h x j fits w p o set t e f s v q =
+    rw (q, e) (field-judged config n c h x j fits w p set f s (λ u. v (rw e u) ∙ ap (λ (i : Tag). i .prn) e))
+
+-- ---- a tag's work adds to what was there
+
+-- a part right after another
+pub right-after : (d s t : List ℕ) (a b : ℕ) → a + length s ≡ b → b + length t ≤ length d → splice (splice d a s) b t ≡ splice d a (s ++ t)
+right-after d s t a b e h = rw (← e) (splice-append d a s t (omega arith))
+
+-- `settled` by whether the tag waits
+abbrev by-wait : Bool → ℕ → Tag → List ℕ → Work → Work
+by-wait b o t s w = cond b (kept (tagEntry t s) (told o t s w)) (told o t s w)
+
+module _ (o : ℕ) (t : Tag) (s : List ℕ) (w : Work) where
+  abbrev before : Work
+  before = start (w .count) (w .sets) (w .times)
+
+  kept-by : (b : Bool) → (by-wait b o t s w) .kept ≡ w .kept ++ (by-wait b o t s before) .kept
+  unfolding kept told
+  kept-by true = refl
+  kept-by false = sym (append-nil (w .kept))
+
+  records-by : (b : Bool) → (by-wait b o t s w) .records ≡ w .records ++ (by-wait b o t s before) .records
+  unfolding kept told
+  records-by true = refl
+  records-by false = refl
+
+  sets-by : (b : Bool) → (by-wait b o t s w) .sets ≡ (by-wait b o t s before) .sets
+  unfolding kept told
+  sets-by true = refl
+  sets-by false = refl
+
+  times-by : (b : Bool) → (by-wait b o t s w) .times ≡ (by-wait b o t s before) .times
+  unfolding kept told
+  times-by true = refl
+  times-by false = refl
+
+  count-by : (b : Bool) → (by-wait b o t s w) .count ≡ (by-wait b o t s before) .count
+  unfolding kept told
+  count-by true = refl
+  count-by false = refl
+
+  -- how much it is
+  kept-long-by : (b : Bool) → length s ≡ 69 → length ((by-wait b o t s before) .kept) + w .count * 84 ≡ (by-wait b o t s before) .count * 84
+  unfolding kept told
+  kept-long-by true q = omega (arith, length-tag-entry t s q)
+  kept-long-by false q = omega arith
+
+  records-long-by : (b : Bool) → length ((by-wait b o t s before) .records) ≡ 12
+  unfolding kept told
+  records-long-by true = length-record o t (recordIssue o s)
+  records-long-by false = length-record o t (recordIssue o s)
+
+  count-low-by : (b : Bool) → w .count ≤ (by-wait b o t s before) .count
+  unfolding kept told
+  count-low-by true = omega arith
+  count-low-by false = omega arith
+
+  count-high-by : (b : Bool) → w .count ≤ 256 → (b ≡ true → w .count < 256) → (by-wait b o t s before) .count ≤ 256
+  unfolding kept told
+  count-high-by true q r = omega (arith, r refl)
+  count-high-by false q r = omega arith
+
+-- the same of a field
+module _ (config : List ℕ) (n : Nav) (c : Chain) (h : Held) (x : Section) (j : ℕ) (w : Work) where
+  abbrev pub one : Work
+  one = ownJudged config n c h x j (start (w .count) (w .sets) (w .times))
+
+  abbrev all : Work
+  all = ownJudged config n c h x j w
+
+  abbrev o : ℕ
+  o = ownOutcome config n c h x j (w .count)
+
+  abbrev t : Tag
+  t = ownTag c x j
+
+  abbrev s : List ℕ
+  s = setOf (n .words) ((ownTag c x j) .prn)
+
+  pub field-kept : all .kept ≡ w .kept ++ one .kept
+  unfolding ownJudged
+  field-kept = kept-by o t s w (eqb o 5)
+
+  pub field-records : all .records ≡ w .records ++ one .records
+  unfolding ownJudged
+  field-records = records-by o t s w (eqb o 5)
+
+  pub field-sets : all .sets ≡ one .sets
+  unfolding ownJudged
+  field-sets = sets-by o t s w (eqb o 5)
+
+  pub field-times : all .times ≡ one .times
+  unfolding ownJudged
+  field-times = times-by o t s w (eqb o 5)
+
+  pub field-count : all .count ≡ one .count
+  unfolding ownJudged
+  field-count = count-by o t s w (eqb o 5)
+
+  field-kept-long : length (one .kept) + w .count * 84 ≡ one .count * 84
+  unfolding ownJudged
+  field-kept-long = kept-long-by o t s w (eqb o 5) (length-set-of (n .words) ((ownTag c x j) .prn))
+
+  field-records-long : length (one .records) ≡ 12
+  unfolding ownJudged
+  field-records-long = records-long-by o t s w (eqb o 5)
+
+  field-count-low : w .count ≤ one .count
+  unfolding ownJudged
+  field-count-low = count-low-by o t s w (eqb o 5)
+
+  field-free : o ≡ 5 → w .count < 256
+  unfolding ownOutcome
+  field-free e =
+      ltb-true (w .count) 256
+      (waits-free (notAllowed config j t) (flexible config (t .time) j && not (macseqFits config c h x)) (not (usable n (t .prn) (t .time)))
+      (eqb (delayOf (t .adkd)) 0 && tagMatches c h (eqb j 0) t s) (eqb (delayOf (t .adkd)) 0) (ltb (w .count) 256) e)
+
+  field-count-high : w .count ≤ 256 → one .count ≤ 256
+  unfolding ownJudged
+  field-count-high q = count-high-by o t s w (eqb o 5) q (λ e. field-free (eqb-true o 5 e))
+
+-- ---- and so do the regions
+module _ (config : List ℕ) (n : Nav) (c : Chain) (h : Held) (x : Section) (waiting area waiting₁ sets₁ times₁ area₁ waiting₂ sets₂ times₂ area₂ : List ℕ)
+    (count at k r r₂ : ℕ) (w : Work) (small : at + k < 270) (long-waiting : length waiting ≡ 21504) (long-area : length area ≡ 3240)
+    (l : Leaves w count at waiting area waiting₁ sets₁ times₁ area₁ r) (g : Grows w count k r)
+    (m : Leaves (ownJudged config n c h x k (start r sets₁ times₁)) r (at + k) waiting₁ area₁ waiting₂ sets₂ times₂ area₂ r₂) where
+  same-work : ownJudged config n c h x k (start r sets₁ times₁) ≡ one config n c h x k w
+  same-work = rw (l .sets, l .times, l .count)
+
+  grows : Grows (ownJudged config n c h x k w) count (k + 1) r₂
+  grows =
+      let e = m .count ∙ ap (λ (v : Work). v .count) same-work in
+      let q = l .count in
+      let high = field-count-high config n c h x k w (omega (arith, g .places)) in
+      let low = field-count-low config n c h x k w in
+      let a = field-kept-long config n c h x k w in
+      let b = field-records-long config n c h x k w in
+      record {
+        places = omega arith;
+        more = omega (arith, g .more);
+        kept-long = rw (field-kept config n c h x k w, length-append) (omega (arith, g .more, g .kept-long));
+        records-long = rw (field-records config n c h x k w, length-append) (omega (arith, g .records-long));
+      }
+
+  leaves : Leaves (ownJudged config n c h x k w) count at waiting area waiting₂ sets₂ times₂ area₂ r₂
+  leaves =
+      let q = l .count in
+      let high = field-count-high config n c h x k w (omega (arith, g .places)) in
+      let a = field-kept-long config n c h x k w in
+      let b = field-records-long config n c h x k w in
+      record {
+        entries =
+            m .entries
+            ∙ rw (same-work, l .entries, field-kept config n c h x k w)
+            (right-after waiting (w .kept) ((one config n c h x k w) .kept) (count * 84) (r * 84) (omega (arith, g .more, g .kept-long)) (omega arith));
+        sets = m .sets ∙ rw (same-work) (sym (field-sets config n c h x k w));
+        times = m .times ∙ rw (same-work) (sym (field-times config n c h x k w));
+        records =
+            m .records
+            ∙ rw (same-work, l .records, field-records config n c h x k w)
+            (right-after area (w .records) ((one config n c h x k w) .records) (at * 12) ((at + k) * 12) (omega (arith, g .records-long)) (omega arith));
+        count = m .count ∙ rw (same-work) (sym (field-count config n c h x k w));
+      }
+
+-- ---- what one tag leaves
+
+tells-by : (b : Bool) (o count at : ℕ) (t : Tag) (s waiting sets times area sets′ times′ area′ : List ℕ) → b ≡ false
+    → Tells (told o t s (start 0 sets times)) (at * 12) area sets′ times′ area′
+    → Leaves (by-wait b o t s (start count sets times)) count at waiting area waiting sets′ times′ area′ count
+unfolding told
+tells-by true o count at t s waiting sets times area sets′ times′ area′ e q = true-false e
+tells-by false o count at t s waiting sets times area sets′ times′ area′ e q =
+    record { entries = sym (splice-nil waiting (count * 84)); sets = q .sets; times = q .times; records = q .records; count = refl }
+
+waits-by : (b : Bool) (o count at : ℕ) (t : Tag) (s waiting sets times area waiting′ sets′ times′ area′ : List ℕ) → b ≡ true
+    → Tells (told o t s (start 0 sets times)) (at * 12) area sets′ times′ area′ → waiting′ ≡ splice waiting (count * 84) (tagEntry t s)
+    → Leaves (by-wait b o t s (start count sets times)) count at waiting area waiting′ sets′ times′ area′ (count + 1)
+unfolding kept told
+waits-by true o count at t s waiting sets times area waiting′ sets′ times′ area′ e q p =
+    record { entries = p; sets = q .sets; times = q .times; records = q .records; count = refl }
+waits-by false o count at t s waiting sets times area waiting′ sets′ times′ area′ e q p = true-false (sym e)
+
+pub told-leaves : (o count at : ℕ) (t : Tag) (s waiting sets times area sets′ times′ area′ : List ℕ) → (o ≡ 5 → ⊥)
+    → Tells (told o t s (start 0 sets times)) (at * 12) area sets′ times′ area′
+    → Leaves (settled o t s (start count sets times)) count at waiting area waiting sets′ times′ area′ count
+unfolding settled
+told-leaves o count at t s waiting sets times area sets′ times′ area′ p q =
+    tells-by (eqb o 5) o count at t s waiting sets times area sets′ times′ area′ (ne-eqb o 5 p) q
+
+pub waits-leaves : (o count at : ℕ) (t : Tag) (s waiting sets times area waiting′ sets′ times′ area′ : List ℕ) → o ≡ 5
+    → Tells (told o t s (start 0 sets times)) (at * 12) area sets′ times′ area′ → waiting′ ≡ splice waiting (count * 84) (tagEntry t s)
+    → Leaves (settled o t s (start count sets times)) count at waiting area waiting′ sets′ times′ area′ (count + 1)
+unfolding settled
+waits-leaves o count at t s waiting sets times area waiting′ sets′ times′ area′ p q e =
+    waits-by (eqb o 5) o count at t s waiting sets times area waiting′ sets′ times′ area′ (eq-eqb o 5 p) q e
+
+-- ---- no field yet, and one more of the first fields
+
+pub none-judged : (config : List ℕ) (n : Nav) (c : Chain) (h : Held) (x : Section) (waiting sets times area : List ℕ) (count at : ℕ) → count ≤ 256
+    → Leaves (ownsJudged config n c h x 0 (start count sets times)) count at waiting area waiting sets times area count
+    × Grows (ownsJudged config n c h x 0 (start count sets times)) count 0 count
+unfolding ownsJudged
+none-judged config n c h x waiting sets times area count at p = (
+  record { entries = sym (splice-nil waiting (count * 84)); sets = refl; times = refl; records = sym (splice-nil area (at * 12)); count = refl },
+  record { places = p; more = omega arith; kept-long = rw (sub-self count); records-long = refl },
+)
+
+pub next-judged : (config : List ℕ) (n : Nav) (c : Chain) (h : Held) (x : Section) (waiting area waiting₁ sets₁ times₁ area₁ waiting₂ sets₂ times₂ area₂ : List ℕ)
+    (count at k r r₂ : ℕ) (w : Work) → at + k < 270 → length waiting ≡ 21504 → length area ≡ 3240
+    → Leaves (ownsJudged config n c h x k w) count at waiting area waiting₁ sets₁ times₁ area₁ r → Grows (ownsJudged config n c h x k w) count k r
+    → Leaves (ownJudged config n c h x k (start r sets₁ times₁)) r (at + k) waiting₁ area₁ waiting₂ sets₂ times₂ area₂ r₂
+    → Leaves (ownsJudged config n c h x (k + 1) w) count at waiting area waiting₂ sets₂ times₂ area₂ r₂
+    × Grows (ownsJudged config n c h x (k + 1) w) count (k + 1) r₂
+unfolding ownsJudged
+next-judged config n c h x waiting area waiting₁ sets₁ times₁ area₁ waiting₂ sets₂ times₂ area₂ count at k r r₂ w small lw la l g m =
+    rw (add-one k) (
+      leaves config n c h x waiting area waiting₁ sets₁ times₁ area₁ waiting₂ sets₂ times₂ area₂ count at k r r₂ (ownsJudged config n c h x k w) small lw la l g m,
+      rw (← (add-one k)) (grows config n c h x waiting area waiting₁ sets₁ times₁ area₁ waiting₂ sets₂ times₂ area₂ count at k r r₂ (ownsJudged config n c h x k w) small lw la l g m),
+    )

@@ -1,0 +1,229 @@
+// The section's own tags (01, "MACK", "Tag outcomes"): field by field, each gets its outcome, its record, and for outcome 1 its set becomes
+// the satellite's authentic one; a tag whose key is still to come waits with a copy of its set. `judge_own` is the public call.
+// All tags without delay of a block use one key; it is made once for the block.
+use hmac::HmacKey;
+use rules::Chain;
+use rules::Tag;
+ghost use mathlib.Core.Path.{_≡_};
+ghost use mathlib.Core.Bool.{true, not, _&&_};
+ghost use Prim.Native.Nat.{_+_, _-_, _*_, _/_, _^_, _≤_, _<_};
+ghost use lib.Dec.{eqb, ltb};
+ghost use lib.ListN.{length, take};
+ghost use Rattle.hmac.specs.Hmac.{keyOf};
+ghost use Rattle.rules.specs.Chain.{Held, held, keyOfSlot};
+ghost use Rattle.rules.specs.State.{prnValid};
+ghost use Rattle.rules.specs.Tags.{notAllowed, flexible, macseqFits, tagMatches, ownJudged, ownsJudged};
+ghost use Rattle.rules.specs.Times.{delayOf};
+ghost use Rattle.rules.specs.Navdata.{usable};
+ghost use Rattle.chain.specs.Sound.{Walks};
+ghost use Rattle.navdata.specs.Pieces.{nav};
+ghost use Rattle.tags.specs.Layout.{Laid, section};
+ghost use Rattle.due_tags.specs.Swept.{start, Leaves};
+ghost use Rattle.section_tags.specs.Own.{blockKey, outcomeBy, settled, Grows};
+
+// ---- keys
+
+// What HMAC keeps of the key of slot m, from the held key.
+fn slot_key(c: Chain, slot: u64, known: [u8; 32], m: u64) -> HmacKey
+    requires { ⌜ Walks c × (slot < 2 ^ 34) ⌝ }
+    ensures { λ r. ⌜ r ≡ keyOf (keyOfSlot c (held slot (take (c .width) known)) m) ⌝ }
+{
+    let mut key = known;
+    chain::key_of_slot(c, slot, m, &mut key);
+    let width = c.width;
+    hmac::hmac_key(&key[0..width])
+}
+
+// The same for the tags without delay of field j's block.
+fn block_key(c: Chain, slot: u64, known: [u8; 32], time: u32, j: usize) -> HmacKey
+    requires { ⌜ Walks c × ((slot < 2 ^ 34) × ((1 ≤ c .fields) × (j < 14))) ⌝ }
+    ensures { λ r. ⌜ r ≡ blockKey c (held slot (take (c .width) known)) time (j / c .fields) ⌝ }
+{
+    let fields = c.fields as usize;
+    let block = (j / fields + 1) as u8;
+    slot_key(c, slot, known, chain::key_slot(c, time, block, 0))
+}
+
+// The key of field j's block, where `old` is that of the field before it: a new one is made where a block begins.
+fn next_key(c: Chain, slot: u64, known: [u8; 32], time: u32, j: usize, old: HmacKey) -> HmacKey
+    requires { ⌜ Walks c × ((slot < 2 ^ 34) × ((1 ≤ c .fields) × (j < 14))) ⌝ }
+    requires { ⌜ old ≡ blockKey c (held slot (take (c .width) known)) time ((j - 1) / c .fields) ⌝ }
+    ensures { λ r. ⌜ r ≡ blockKey c (held slot (take (c .width) known)) time (j / c .fields) ⌝ }
+{
+    let fields = c.fields as usize;
+    if j == 0 {
+        return old;
+    }
+    if j % fields != 0 {
+        return old;
+    }
+    block_key(c, slot, known, time, j)
+}
+
+// ---- outcomes
+
+// The PRN where it names a satellite, else 1.
+fn heard(prn: u8) -> usize
+    ensures { λ r. ⌜ ((1 ≤ r) × (r ≤ 36)) × (prnValid prn ≡ true → r ≡ prn) ⌝ }
+{
+    if prn < 1 {
+        return 1;
+    }
+    if 36 < prn {
+        return 1;
+    }
+    prn as usize
+}
+
+// A tag without delay that matches the set under its block's key.
+fn prompt_match(c: Chain, key: HmacKey, first: bool, t: Tag, set: &[u8]) -> bool
+    requires { ⌜ (c .ms ≤ 40) × (length (now set) ≡ 69) ⌝ }
+    ensures { λ r. ⌜ ((h : Held) → key ≡ blockKey c h (t .time) (t .block - 1) → 1 ≤ t .block → r ≡ (eqb (delayOf (t .adkd)) 0 && tagMatches c h first t (now (set .entry)))) ⌝ }
+{
+    if times::delay_of(t.adkd) != 0 {
+        return false;
+    }
+    tag_codes::tag_matches(c.ms, key, first, t, set)
+}
+
+// The outcome of field j, the tag t, by the words of satellite p and their set; `fits` says that MACSEQ fits.
+fn outcome_of(
+    config: &[u8],
+    words: &[u8],
+    stamps: &[u32],
+    c: Chain,
+    key: HmacKey,
+    fits: bool,
+    j: usize,
+    t: Tag,
+    p: usize,
+    set: &[u8],
+    count: usize,
+) -> u8
+    requires { ⌜ ((length (now config) ≡ 63) × (length (now words) ≡ 2880)) × ((length (now stamps) ≡ 180) × (length (now set) ≡ 69)) ⌝ }
+    requires { ⌜ ((c .ms ≤ 40) × (j < 14)) × ((1 ≤ p) × (p ≤ 36)) ⌝ }
+    ensures { λ r. ⌜ (r ≡ 5 → count < 256) × ((h : Held) → key ≡ blockKey c h (t .time) (t .block - 1) → 1 ≤ t .block → r ≡ outcomeBy (notAllowed (now (config .entry)) j t) (flexible (now (config .entry)) (t .time) j && not fits) (not (usable (nav (now (words .entry)) (now (stamps .entry))) p (t .time))) (eqb (delayOf (t .adkd)) 0 && tagMatches c h (eqb j 0) t (now (set .entry))) (eqb (delayOf (t .adkd)) 0) (ltb count 256)) ⌝ }
+{
+    let refused = tags::not_allowed(config, j, t);
+    let unfit = bools::both(tags::flexible(config, t.time, j), !fits);
+    let unusable = !navdata::usable(words, stamps, p, t.time);
+    let prompt = times::delay_of(t.adkd) == 0;
+    let matches = prompt_match(c, key, j == 0, t, set);
+    tags::outcome_number(tags::own_outcome(refused, unfit, unusable, prompt, matches, count < 256))
+}
+
+// ---- the section's fields
+
+// A tag of this outcome, after `count` that wait: its record goes to place `at`, and a tag that waits to the next place. Gives how many
+// wait then.
+fn settle(
+    outcome: u8,
+    t: Tag,
+    set: &[u8],
+    waiting: &mut [u8],
+    count: usize,
+    sets: &mut [u8],
+    times: &mut [u32],
+    area: &mut [u8],
+    at: usize,
+) -> usize
+    requires { ⌜ ((length (now sets) ≡ 2484) × (length (now times) ≡ 36)) × ((length (now waiting) ≡ 21504) × (length (now area) ≡ 3240)) ⌝ }
+    requires { ⌜ ((length (now set) ≡ 69) × (at < 270)) × ((count ≤ 256) × (outcome ≡ 5 → count < 256)) ⌝ }
+    ensures { λ r. ⌜ Leaves (settled outcome t (now (set .entry)) (start count (now (sets .entry)) (now (times .entry)))) count at (now (waiting .entry)) (now (area .entry)) (now (waiting .exit)) (now (sets .exit)) (now (times .exit)) (now (area .exit)) r ⌝ }
+{
+    due_tags::tell(outcome, t, set, sets, times, area, at * 12);
+    if outcome == 5 {
+        waiting_tags::put_entry(waiting, count, t, set);
+        return count + 1;
+    }
+    count
+}
+
+// Field j, after `count` tags that wait: its record goes to place `at`. Gives how many tags wait then.
+fn own_one(
+    config: &[u8],
+    words: &[u8],
+    stamps: &[u32],
+    c: Chain,
+    key: HmacKey,
+    fits: bool,
+    prn: u8,
+    time: u32,
+    status: u8,
+    mack: &[u8],
+    j: usize,
+    waiting: &mut [u8],
+    count: usize,
+    sets: &mut [u8],
+    times: &mut [u32],
+    area: &mut [u8],
+    at: usize,
+) -> usize
+    requires { ⌜ ((length (now config) ≡ 63) × (length (now words) ≡ 2880)) × ((length (now stamps) ≡ 180) × (length (now mack) ≡ 60)) ⌝ }
+    requires { ⌜ ((length (now sets) ≡ 2484) × (length (now times) ≡ 36)) × ((length (now waiting) ≡ 21504) × (length (now area) ≡ 3240)) ⌝ }
+    requires { ⌜ (Laid c × (j < c .nmack * c .fields)) × ((count ≤ 256) × (at < 270)) ⌝ }
+    ensures { λ r. ⌜ ((h : Held) → key ≡ blockKey c h time (j / c .fields) → fits ≡ macseqFits (now (config .entry)) c h (section prn time status (now (mack .entry))) → Leaves (ownJudged (now (config .entry)) (nav (now (words .entry)) (now (stamps .entry))) c h (section prn time status (now (mack .entry))) j (start count (now (sets .entry)) (now (times .entry)))) count at (now (waiting .entry)) (now (area .entry)) (now (waiting .exit)) (now (sets .exit)) (now (times .exit)) (now (area .exit)) r) ⌝ }
+{
+    let t = tags::own_tag(c, prn, time, status, mack, j);
+    let p = heard(t.prn);
+    let set = navdata::set_of(words, p);
+    let outcome = outcome_of(config, words, stamps, c, key, fits, j, t, p, &set, count);
+    settle(outcome, t, &set, waiting, count, sets, times, area, at)
+}
+
+// The tags of a section of 60 bytes that satellite `prn` sent at `time`, in order, under the held key of this slot; `count` tags wait and
+// `at` records stand in the area. What waits then takes the next places of `waiting`, the records follow in `area`, and the other bytes of
+// both stay. Gives how many tags wait then.
+pub fn judge_own(
+    config: &[u8],
+    words: &[u8],
+    stamps: &[u32],
+    c: Chain,
+    slot: u64,
+    known: [u8; 32],
+    prn: u8,
+    time: u32,
+    status: u8,
+    mack: &[u8],
+    waiting: &mut [u8],
+    count: usize,
+    sets: &mut [u8],
+    times: &mut [u32],
+    area: &mut [u8],
+    at: usize,
+) -> usize
+    requires { ⌜ ((length (now config) ≡ 63) × (length (now words) ≡ 2880)) × ((length (now stamps) ≡ 180) × (length (now mack) ≡ 60)) ⌝ }
+    requires { ⌜ ((length (now sets) ≡ 2484) × (length (now times) ≡ 36)) × ((length (now waiting) ≡ 21504) × (length (now area) ≡ 3240)) ⌝ }
+    requires { ⌜ (Walks c × Laid c) × ((slot < 2 ^ 34) × ((count ≤ 256) × (at + c .nmack * c .fields ≤ 270))) ⌝ }
+    ensures { λ r. ⌜ Leaves (ownsJudged (now (config .entry)) (nav (now (words .entry)) (now (stamps .entry))) c (held slot (take (c .width) known)) (section prn time status (now (mack .entry))) (c .nmack * c .fields) (start count (now (sets .entry)) (now (times .entry)))) count at (now (waiting .entry)) (now (area .entry)) (now (waiting .exit)) (now (sets .exit)) (now (times .exit)) (now (area .exit)) r × Grows (ownsJudged (now (config .entry)) (nav (now (words .entry)) (now (stamps .entry))) c (held slot (take (c .width) known)) (section prn time status (now (mack .entry))) (c .nmack * c .fields) (start count (now (sets .entry)) (now (times .entry)))) count (c .nmack * c .fields) r ⌝ }
+{
+    let n = (c.nmack * c.fields) as usize;
+    let mut key = block_key(c, slot, known, time, 0);
+    let fits = tag_codes::macseq_fits(config, c, prn, time, mack, key);
+    let mut r = count;
+    let mut j: usize = 0;
+    while j < n {
+        key = next_key(c, slot, known, time, j, key);
+        r = own_one(
+            config,
+            words,
+            stamps,
+            c,
+            key,
+            fits,
+            prn,
+            time,
+            status,
+            mack,
+            j,
+            waiting,
+            r,
+            sets,
+            times,
+            area,
+            at + j,
+        );
+        j += 1;
+    }
+    r
+}
