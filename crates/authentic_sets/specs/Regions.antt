@@ -4,4 +4,4 @@ use mathlib.Core.List.{List}
 use Rattle.rules.specs.State.{Auth}
 
 abbrev pub auth : List ℕ → List ℕ → Auth
-auth sets times = record { sets = sets; times = times }
+auth sets arrivals = record { sets = sets; arrivals = arrivals }

@@ -20,13 +20,13 @@ pub fn read_set(
     stamps: &[u32],
     blocks: &[u8],
     headers: &[u8],
-    marks: &[u16],
+    present: &[u16],
     since: &[u32],
-    keys: &[u8],
+    public_keys: &[u8],
     offer: &[u8],
     chain: &[u8],
     numbers: &[u64],
-    key: &[u8],
+    held_key: &[u8],
     waiting: &[u8],
     sets: &[u8],
     arrivals: &[u32],
@@ -35,7 +35,7 @@ pub fn read_set(
     issue: &mut u16,
     time: &mut u32,
 ) -> u32
-    ensures { λ r. ⌜ setTold r (now (out .exit)) (now (issue .exit)) (now (time .exit)) ≡ setRead (state (now (config .entry)) (now (clocks .entry)) (now (words .entry)) (now (stamps .entry)) (now (blocks .entry)) (now (headers .entry)) (now (marks .entry)) (now (since .entry)) (now (keys .entry)) (now (offer .entry)) (now (chain .entry)) (now (numbers .entry)) (now (key .entry)) (now (waiting .entry)) (now (sets .entry)) (now (arrivals .entry))) prn (now (out .entry)) ⌝ }
+    ensures { λ r. ⌜ setTold r (now (out .exit)) (now (issue .exit)) (now (time .exit)) ≡ setRead (state (now (config .entry)) (now (clocks .entry)) (now (words .entry)) (now (stamps .entry)) (now (blocks .entry)) (now (headers .entry)) (now (present .entry)) (now (since .entry)) (now (public-keys .entry)) (now (offer .entry)) (now (chain .entry)) (now (numbers .entry)) (now (held-key .entry)) (now (waiting .entry)) (now (sets .entry)) (now (arrivals .entry))) prn (now (out .entry)) ⌝ }
 {
     *issue = 0;
     *time = 0;
@@ -46,13 +46,13 @@ pub fn read_set(
         stamps,
         blocks,
         headers,
-        marks,
+        present,
         since,
-        keys,
+        public_keys,
         offer,
         chain,
         numbers,
-        key,
+        held_key,
         waiting,
         sets,
         arrivals,
@@ -102,23 +102,23 @@ pub fn read_message(
     stamps: &[u32],
     blocks: &[u8],
     headers: &[u8],
-    marks: &[u16],
+    present: &[u16],
     since: &[u32],
-    keys: &[u8],
+    public_keys: &[u8],
     offer: &[u8],
     chain: &[u8],
     numbers: &[u64],
-    key: &[u8],
+    held_key: &[u8],
     waiting: &[u8],
     sets: &[u8],
     arrivals: &[u32],
     message: &mut [u8],
     signature: &mut [u8],
-    public: &mut [u8],
+    public_key: &mut [u8],
     id: &mut u8,
     kind: &mut u8,
 ) -> u32
-    ensures { λ r. ⌜ offerTold r (now (message .exit)) (now (signature .exit)) (now (public .exit)) (now (id .exit)) (now (kind .exit)) ≡ offerRead (state (now (config .entry)) (now (clocks .entry)) (now (words .entry)) (now (stamps .entry)) (now (blocks .entry)) (now (headers .entry)) (now (marks .entry)) (now (since .entry)) (now (keys .entry)) (now (offer .entry)) (now (chain .entry)) (now (numbers .entry)) (now (key .entry)) (now (waiting .entry)) (now (sets .entry)) (now (arrivals .entry))) (now (message .entry)) (now (signature .entry)) (now (public .entry)) ⌝ }
+    ensures { λ r. ⌜ offerTold r (now (message .exit)) (now (signature .exit)) (now (public-key .exit)) (now (id .exit)) (now (kind .exit)) ≡ offerRead (state (now (config .entry)) (now (clocks .entry)) (now (words .entry)) (now (stamps .entry)) (now (blocks .entry)) (now (headers .entry)) (now (present .entry)) (now (since .entry)) (now (public-keys .entry)) (now (offer .entry)) (now (chain .entry)) (now (numbers .entry)) (now (held-key .entry)) (now (waiting .entry)) (now (sets .entry)) (now (arrivals .entry))) (now (message .entry)) (now (signature .entry)) (now (public-key .entry)) ⌝ }
 {
     *id = 0;
     *kind = 0;
@@ -129,13 +129,13 @@ pub fn read_message(
         stamps,
         blocks,
         headers,
-        marks,
+        present,
         since,
-        keys,
+        public_keys,
         offer,
         chain,
         numbers,
-        key,
+        held_key,
         waiting,
         sets,
         arrivals,
@@ -148,26 +148,26 @@ pub fn read_message(
     if signature.len() != 132 {
         return 1;
     }
-    if public.len() != 67 {
+    if public_key.len() != 67 {
         return 1;
     }
-    take_message(keys, offer, message, signature, public, id, kind)
+    take_message(public_keys, offer, message, signature, public_key, id, kind)
 }
 
 // A read of what waits whose lengths are right. The key ID that stands in the region counts modulo 16.
 fn take_message(
-    keys: &[u8],
+    public_keys: &[u8],
     offer: &[u8],
     message: &mut [u8],
     signature: &mut [u8],
-    public: &mut [u8],
+    public_key: &mut [u8],
     id: &mut u8,
     kind: &mut u8,
 ) -> u32
-    requires { ⌜ (length (now keys) ≡ 1088) × (length (now offer) ≡ 179) ⌝ }
-    requires { ⌜ (length (now message) ≡ 45) × ((length (now signature) ≡ 132) × (length (now public) ≡ 67)) ⌝ }
+    requires { ⌜ (length (now public-keys) ≡ 1088) × (length (now offer) ≡ 179) ⌝ }
+    requires { ⌜ (length (now message) ≡ 45) × ((length (now signature) ≡ 132) × (length (now public-key) ≡ 67)) ⌝ }
     requires { ⌜ (now id ≡ 0) × (now kind ≡ 0) ⌝ }
-    ensures { λ r. ⌜ ((s : State) → s .keys ≡ now (keys .entry) → s .offer ≡ now (offer .entry) → (shaped s && (eqb (length (now (message .entry))) 45 && (eqb (length (now (signature .entry))) 132 && eqb (length (now (public .entry))) 67))) ≡ true → offerTold r (now (message .exit)) (now (signature .exit)) (now (public .exit)) (now (id .exit)) (now (kind .exit)) ≡ offerRead s (now (message .entry)) (now (signature .entry)) (now (public .entry))) ⌝ }
+    ensures { λ r. ⌜ ((s : State) → s .publicKeys ≡ now (public-keys .entry) → s .offer ≡ now (offer .entry) → (shaped s && (eqb (length (now (message .entry))) 45 && (eqb (length (now (signature .entry))) 132 && eqb (length (now (public-key .entry))) 67))) ≡ true → offerTold r (now (message .exit)) (now (signature .exit)) (now (public-key .exit)) (now (id .exit)) (now (kind .exit)) ≡ offerRead s (now (message .entry)) (now (signature .entry)) (now (public-key .entry))) ⌝ }
 {
     if offer[0] != 1 {
         return 14;
@@ -175,8 +175,8 @@ fn take_message(
     let which = offer[1] % 16;
     buffer::copy_part(message, 0, offer, 2, 45);
     buffer::copy_part(signature, 0, offer, 47, 132);
-    public_keys::key_bytes(keys, which, public);
-    *kind = public_keys::key_type(keys, which);
+    public_keys::key_bytes(public_keys, which, public_key);
+    *kind = public_keys::key_type(public_keys, which);
     *id = which;
     0
 }

@@ -26,13 +26,13 @@ pub fn start(
     stamps: &mut [u32],
     blocks: &mut [u8],
     headers: &mut [u8],
-    marks: &mut [u16],
+    present: &mut [u16],
     since: &mut [u32],
-    keys: &mut [u8],
+    public_keys: &mut [u8],
     offer: &mut [u8],
     chain: &mut [u8],
     numbers: &mut [u64],
-    key: &mut [u8],
+    held_key: &mut [u8],
     waiting: &mut [u8],
     sets: &mut [u8],
     arrivals: &mut [u32],
@@ -40,11 +40,11 @@ pub fn start(
     id: u8,
     kind: u8,
     maclt: u8,
-    adkds: &[u8],
+    marks: &[u8],
     root: &[u8],
-    public: &[u8],
+    public_key: &[u8],
 ) -> u32
-    ensures { λ r. ⌜ told r (state (now (config .exit)) (now (clocks .exit)) (now (words .exit)) (now (stamps .exit)) (now (blocks .exit)) (now (headers .exit)) (now (marks .exit)) (now (since .exit)) (now (keys .exit)) (now (offer .exit)) (now (chain .exit)) (now (numbers .exit)) (now (key .exit)) (now (waiting .exit)) (now (sets .exit)) (now (arrivals .exit))) ≡ startCall (state (now (config .entry)) (now (clocks .entry)) (now (words .entry)) (now (stamps .entry)) (now (blocks .entry)) (now (headers .entry)) (now (marks .entry)) (now (since .entry)) (now (keys .entry)) (now (offer .entry)) (now (chain .entry)) (now (numbers .entry)) (now (key .entry)) (now (waiting .entry)) (now (sets .entry)) (now (arrivals .entry))) (record { ns = ns; id = id; type = kind; maclt = maclt; marks = now (adkds .entry); root = now (root .entry); key = now (public .entry) }) ⌝ }
+    ensures { λ r. ⌜ told r (state (now (config .exit)) (now (clocks .exit)) (now (words .exit)) (now (stamps .exit)) (now (blocks .exit)) (now (headers .exit)) (now (present .exit)) (now (since .exit)) (now (public-keys .exit)) (now (offer .exit)) (now (chain .exit)) (now (numbers .exit)) (now (held-key .exit)) (now (waiting .exit)) (now (sets .exit)) (now (arrivals .exit))) ≡ startCall (state (now (config .entry)) (now (clocks .entry)) (now (words .entry)) (now (stamps .entry)) (now (blocks .entry)) (now (headers .entry)) (now (present .entry)) (now (since .entry)) (now (public-keys .entry)) (now (offer .entry)) (now (chain .entry)) (now (numbers .entry)) (now (held-key .entry)) (now (waiting .entry)) (now (sets .entry)) (now (arrivals .entry))) (record { ns = ns; id = id; type = kind; maclt = maclt; marks = now (marks .entry); root = now (root .entry); key = now (public-key .entry) }) ⌝ }
 {
     let code = start_refusal(
         config,
@@ -53,22 +53,22 @@ pub fn start(
         stamps,
         blocks,
         headers,
-        marks,
+        present,
         since,
-        keys,
+        public_keys,
         offer,
         chain,
         numbers,
-        key,
+        held_key,
         waiting,
         sets,
         arrivals,
         ns,
         id,
         kind,
-        adkds,
+        marks,
         root,
-        public,
+        public_key,
     );
     if code != 0 {
         return code;
@@ -80,25 +80,25 @@ pub fn start(
         stamps,
         blocks,
         headers,
-        marks,
+        present,
         since,
         ns,
         maclt,
-        adkds,
+        marks,
         root,
     );
     take_key(
-        keys,
+        public_keys,
         offer,
         chain,
         numbers,
-        key,
+        held_key,
         waiting,
         sets,
         arrivals,
         id,
         kind,
-        public,
+        public_key,
     );
     0
 }
@@ -113,24 +113,24 @@ fn start_refusal(
     stamps: &[u32],
     blocks: &[u8],
     headers: &[u8],
-    marks: &[u16],
+    present: &[u16],
     since: &[u32],
-    keys: &[u8],
+    public_keys: &[u8],
     offer: &[u8],
     chain: &[u8],
     numbers: &[u64],
-    key: &[u8],
+    held_key: &[u8],
     waiting: &[u8],
     sets: &[u8],
     arrivals: &[u32],
     ns: u8,
     id: u8,
     kind: u8,
-    adkds: &[u8],
+    marks: &[u8],
     root: &[u8],
-    public: &[u8],
+    public_key: &[u8],
 ) -> u32
-    ensures { λ r. ⌜ ((maclt : ℕ) → r ≡ firstOf (startChecks (state (now (config .entry)) (now (clocks .entry)) (now (words .entry)) (now (stamps .entry)) (now (blocks .entry)) (now (headers .entry)) (now (marks .entry)) (now (since .entry)) (now (keys .entry)) (now (offer .entry)) (now (chain .entry)) (now (numbers .entry)) (now (key .entry)) (now (waiting .entry)) (now (sets .entry)) (now (arrivals .entry))) (record { ns = ns; id = id; type = kind; maclt = maclt; marks = now (adkds .entry); root = now (root .entry); key = now (public .entry) }))) × (r ≡ 0 → (shaped (state (now (config .entry)) (now (clocks .entry)) (now (words .entry)) (now (stamps .entry)) (now (blocks .entry)) (now (headers .entry)) (now (marks .entry)) (now (since .entry)) (now (keys .entry)) (now (offer .entry)) (now (chain .entry)) (now (numbers .entry)) (now (key .entry)) (now (waiting .entry)) (now (sets .entry)) (now (arrivals .entry))) ≡ true) × (((length (now (adkds .entry)) ≡ 28) × ((length (now (root .entry)) ≡ 32) × (length (now (public .entry)) ≡ 67))) × ((id < 16) × (kind < 4)))) ⌝ }
+    ensures { λ r. ⌜ ((maclt : ℕ) → r ≡ firstOf (startChecks (state (now (config .entry)) (now (clocks .entry)) (now (words .entry)) (now (stamps .entry)) (now (blocks .entry)) (now (headers .entry)) (now (present .entry)) (now (since .entry)) (now (public-keys .entry)) (now (offer .entry)) (now (chain .entry)) (now (numbers .entry)) (now (held-key .entry)) (now (waiting .entry)) (now (sets .entry)) (now (arrivals .entry))) (record { ns = ns; id = id; type = kind; maclt = maclt; marks = now (marks .entry); root = now (root .entry); key = now (public-key .entry) }))) × (r ≡ 0 → (shaped (state (now (config .entry)) (now (clocks .entry)) (now (words .entry)) (now (stamps .entry)) (now (blocks .entry)) (now (headers .entry)) (now (present .entry)) (now (since .entry)) (now (public-keys .entry)) (now (offer .entry)) (now (chain .entry)) (now (numbers .entry)) (now (held-key .entry)) (now (waiting .entry)) (now (sets .entry)) (now (arrivals .entry))) ≡ true) × (((length (now (marks .entry)) ≡ 28) × ((length (now (root .entry)) ≡ 32) × (length (now (public-key .entry)) ≡ 67))) × ((id < 16) × (kind < 4)))) ⌝ }
 {
     if !regions::shaped(
         config,
@@ -139,29 +139,29 @@ fn start_refusal(
         stamps,
         blocks,
         headers,
-        marks,
+        present,
         since,
-        keys,
+        public_keys,
         offer,
         chain,
         numbers,
-        key,
+        held_key,
         waiting,
         sets,
         arrivals,
     ) {
         return 1;
     }
-    if adkds.len() != 28 {
+    if marks.len() != 28 {
         return 1;
     }
     if root.len() != 32 {
         return 1;
     }
-    if public.len() != 67 {
+    if public_key.len() != 67 {
         return 1;
     }
-    if call_start_parts::start_unfit(ns, id, kind, adkds) {
+    if call_start_parts::start_unfit(ns, id, kind, marks) {
         return 2;
     }
     0
@@ -177,45 +177,45 @@ fn take_settings(
     stamps: &mut [u32],
     blocks: &mut [u8],
     headers: &mut [u8],
-    marks: &mut [u16],
+    present: &mut [u16],
     since: &mut [u32],
     ns: u8,
     maclt: u8,
-    adkds: &[u8],
+    marks: &[u8],
     root: &[u8],
 )
     requires { ⌜ ((length (now config) ≡ 63) × (length (now clocks) ≡ 73)) × ((length (now words) ≡ 2880) × (length (now stamps) ≡ 180)) ⌝ }
-    requires { ⌜ ((length (now blocks) ≡ 3328) × (length (now headers) ≡ 16)) × ((length (now marks) ≡ 16) × (length (now since) ≡ 16)) ⌝ }
-    requires { ⌜ (length (now adkds) ≡ 28) × (length (now root) ≡ 32) ⌝ }
-    ensures { λ _. ⌜ ((now (config .exit) ≡ settings ns maclt (now (adkds .entry)) (now (root .entry))) × (now (clocks .exit) ≡ replicate 73 0)) × ((nav (now (words .exit)) (now (stamps .exit)) ≡ noWords) × (store (now (blocks .exit)) (now (headers .exit)) (now (marks .exit)) (now (since .exit)) ≡ noBlocks)) ⌝ }
+    requires { ⌜ ((length (now blocks) ≡ 3328) × (length (now headers) ≡ 16)) × ((length (now present) ≡ 16) × (length (now since) ≡ 16)) ⌝ }
+    requires { ⌜ (length (now marks) ≡ 28) × (length (now root) ≡ 32) ⌝ }
+    ensures { λ _. ⌜ ((now (config .exit) ≡ settings ns maclt (now (marks .entry)) (now (root .entry))) × (now (clocks .exit) ≡ replicate 73 0)) × ((nav (now (words .exit)) (now (stamps .exit)) ≡ noWords) × (store (now (blocks .exit)) (now (headers .exit)) (now (present .exit)) (now (since .exit)) ≡ noBlocks)) ⌝ }
 {
-    call_start_parts::set_config(config, ns, maclt, adkds, root);
+    call_start_parts::set_config(config, ns, maclt, marks, root);
     call_start_parts::clear_signal(clocks, words, stamps);
-    call_start_parts::clear_blocks(blocks, headers, marks, since);
+    call_start_parts::clear_blocks(blocks, headers, present, since);
 }
 
 // The public key, and a core that proved nothing.
 fn take_key(
-    keys: &mut [u8],
+    public_keys: &mut [u8],
     offer: &mut [u8],
     chain: &mut [u8],
     numbers: &mut [u64],
-    key: &mut [u8],
+    held_key: &mut [u8],
     waiting: &mut [u8],
     sets: &mut [u8],
     arrivals: &mut [u32],
     id: u8,
     kind: u8,
-    public: &[u8],
+    public_key: &[u8],
 )
-    requires { ⌜ (length (now keys) ≡ 1088) × ((length (now offer) ≡ 179) × (length (now chain) ≡ 45)) ⌝ }
-    requires { ⌜ (length (now numbers) ≡ 2) × ((length (now key) ≡ 32) × (length (now waiting) ≡ 21504)) ⌝ }
+    requires { ⌜ (length (now public-keys) ≡ 1088) × ((length (now offer) ≡ 179) × (length (now chain) ≡ 45)) ⌝ }
+    requires { ⌜ (length (now numbers) ≡ 2) × ((length (now held-key) ≡ 32) × (length (now waiting) ≡ 21504)) ⌝ }
     requires { ⌜ (length (now sets) ≡ 2484) × (length (now arrivals) ≡ 36) ⌝ }
-    requires { ⌜ (length (now public) ≡ 67) × ((id < 16) × (kind < 4)) ⌝ }
-    ensures { λ _. ⌜ ((now (keys .exit) ≡ withKey (replicate 1088 0) id kind (take (keyLength kind) (now (public .entry)))) × ((now (offer .exit) ≡ noOffer) × (now (chain .exit) ≡ replicate 45 0))) × ((tesla (now (numbers .exit)) (now (key .exit)) (now (waiting .exit)) ≡ noTags) × (auth (now (sets .exit)) (now (arrivals .exit)) ≡ noSets)) ⌝ }
+    requires { ⌜ (length (now public-key) ≡ 67) × ((id < 16) × (kind < 4)) ⌝ }
+    ensures { λ _. ⌜ ((now (public-keys .exit) ≡ withKey (replicate 1088 0) id kind (take (keyLength kind) (now (public-key .entry)))) × ((now (offer .exit) ≡ noOffer) × (now (chain .exit) ≡ replicate 45 0))) × ((tesla (now (numbers .exit)) (now (held-key .exit)) (now (waiting .exit)) ≡ noTags) × (auth (now (sets .exit)) (now (arrivals .exit)) ≡ noSets)) ⌝ }
 {
-    call_start_parts::hold_key(keys, id, kind, public);
+    call_start_parts::hold_key(public_keys, id, kind, public_key);
     call_start_parts::clear_message(offer, chain);
-    call_start_parts::clear_tags(numbers, key, waiting);
+    call_start_parts::clear_tags(numbers, held_key, waiting);
     call_start_parts::clear_sets(sets, arrivals);
 }

@@ -41,16 +41,16 @@ first-two : (d : List ℕ) (x y : ℕ) → 2 ≤ length d → set (set d 0 x) 1 
 first-two d x y h = splice-two d 0 x y h
 
 -- NS and MACLT, then the marks, then the root, then 0
-pub config-set : (d e f : List ℕ) (ns maclt : ℕ) (marks root : List ℕ) → length d ≡ 63 → length marks ≡ 28 → length root ≡ 32
-    → e ≡ splice (set (set d 0 ns) 1 maclt) 2 marks
+pub config-set : (d e f : List ℕ) (ns maclt : ℕ) (present root : List ℕ) → length d ≡ 63 → length present ≡ 28 → length root ≡ 32
+    → e ≡ splice (set (set d 0 ns) 1 maclt) 2 present
     → f ≡ splice e 30 root
-    → set f 62 0 ≡ settings ns maclt marks root
-config-set d e f ns maclt marks root ld lm lr p q =
+    → set f 62 0 ≡ settings ns maclt present root
+config-set d e f ns maclt present root ld lm lr p q =
     let a : List ℕ = ns ∷ maclt ∷ [] in
-    let b : List ℕ = a ++ marks in
-    let lb : length b ≡ 30 = length-append a marks ∙ omega arith in
+    let b : List ℕ = a ++ present in
+    let lb : length b ≡ 30 = length-append a present ∙ omega arith in
     let lc : length (b ++ root) ≡ 62 = length-append b root ∙ omega arith in
-    let eb : e ≡ splice d 0 b = p ∙ ap (λ (l : List ℕ). splice l 2 marks) (first-two d ns maclt (omega arith)) ∙ splice-append d 0 a marks (omega arith) in
+    let eb : e ≡ splice d 0 b = p ∙ ap (λ (l : List ℕ). splice l 2 present) (first-two d ns maclt (omega arith)) ∙ splice-append d 0 a present (omega arith) in
     let zb : 0 + length b ≡ 30 = omega arith in
     let zc : 0 + length (b ++ root) ≡ 62 = omega arith in
     let ec : f ≡ splice d 0 (b ++ root) =

@@ -7,7 +7,7 @@ use Rattle.rules.specs.State.{Nav, Store, Tesla, Auth}
 
 -- NS, MACLT, marks, tree root, and 0: not stopped
 abbrev pub settings : ℕ → ℕ → List ℕ → List ℕ → List ℕ
-settings ns maclt marks root = ns ∷ maclt ∷ (marks ++ (root ++ (0 ∷ [])))
+settings ns maclt present root = ns ∷ maclt ∷ (present ++ (root ++ (0 ∷ [])))
 
 abbrev pub noWords : Nav
 noWords = record { words = replicate 2880 0; times = replicate 180 0 }
@@ -17,7 +17,7 @@ noBlocks = store (replicate 3328 0) (replicate 16 0) (replicate 16 0) (replicate
 
 -- the three regions of the held key and the waiting tags as one record of the state
 abbrev pub tesla : List ℕ → List ℕ → List ℕ → Tesla
-tesla numbers key waiting = record { numbers = numbers; key = key; waiting = waiting }
+tesla numbers held-key waiting = record { numbers = numbers; key = held-key; waiting = waiting }
 
 abbrev pub noTags : Tesla
 noTags = tesla (0 ∷ 0 ∷ []) (replicate 32 0) (replicate 21504 0)

@@ -21,9 +21,9 @@ ghost use Rattle.call_start_parts.specs.Blank.{settings, tesla, noWords,
 // ---- what refuses a start
 
 // NS, key ID, key type or a mark out of range.
-pub fn start_unfit(ns: u8, id: u8, kind: u8, adkds: &[u8]) -> bool
-    requires { ⌜ length (now adkds) ≡ 28 ⌝ }
-    ensures { λ r. ⌜ ((maclt : ℕ) (root key : List ℕ) → r ≡ startUnfit (record { ns = ns; id = id; type = kind; maclt = maclt; marks = now (adkds .entry); root = root; key = key })) × (r ≡ false → (id < 16) × (kind < 4)) ⌝ }
+pub fn start_unfit(ns: u8, id: u8, kind: u8, marks: &[u8]) -> bool
+    requires { ⌜ length (now marks) ≡ 28 ⌝ }
+    ensures { λ r. ⌜ ((maclt : ℕ) (root held-key : List ℕ) → r ≡ startUnfit (record { ns = ns; id = id; type = kind; maclt = maclt; marks = now (marks .entry); root = root; key = held-key })) × (r ≡ false → (id < 16) × (kind < 4)) ⌝ }
 {
     if ns < 1 {
         return true;
@@ -37,32 +37,32 @@ pub fn start_unfit(ns: u8, id: u8, kind: u8, adkds: &[u8]) -> bool
     if 3 < kind {
         return true;
     }
-    marks_unfit(adkds)
+    marks_unfit(marks)
 }
 
 // A mark is out of range, or the first of a list is not 0.
-fn marks_unfit(adkds: &[u8]) -> bool
-    requires { ⌜ length (now adkds) ≡ 28 ⌝ }
-    ensures { λ r. ⌜ r ≡ (not (marksValid (now (adkds .entry)) 28) || (neb (getD (now (adkds .entry)) 0 0) 0 || (neb (getD (now (adkds .entry)) 14 0) 0 || false))) ⌝ }
+fn marks_unfit(marks: &[u8]) -> bool
+    requires { ⌜ length (now marks) ≡ 28 ⌝ }
+    ensures { λ r. ⌜ r ≡ (not (marksValid (now (marks .entry)) 28) || (neb (getD (now (marks .entry)) 0 0) 0 || (neb (getD (now (marks .entry)) 14 0) 0 || false))) ⌝ }
 {
-    if !marks_valid(adkds) {
+    if !marks_valid(marks) {
         return true;
     }
-    if adkds[0] != 0 {
+    if marks[0] != 0 {
         return true;
     }
-    adkds[14] != 0
+    marks[14] != 0
 }
 
 // Each mark is in range.
-fn marks_valid(adkds: &[u8]) -> bool
-    requires { ⌜ length (now adkds) ≡ 28 ⌝ }
-    ensures { λ r. ⌜ r ≡ marksValid (now (adkds .entry)) 28 ⌝ }
+fn marks_valid(marks: &[u8]) -> bool
+    requires { ⌜ length (now marks) ≡ 28 ⌝ }
+    ensures { λ r. ⌜ r ≡ marksValid (now (marks .entry)) 28 ⌝ }
 {
     let mut ok = true;
     let mut i: usize = 0;
     while i < 28 {
-        ok = bools::both(ok, mark_valid(adkds[i]));
+        ok = bools::both(ok, mark_valid(marks[i]));
         i += 1;
     }
     ok
@@ -81,13 +81,13 @@ fn mark_valid(mark: u8) -> bool
 // ---- what an accepted start writes
 
 // NS, MACLT, the marks, the tree's root, and 0: not stopped.
-pub fn set_config(config: &mut [u8], ns: u8, maclt: u8, adkds: &[u8], root: &[u8])
-    requires { ⌜ (length (now config) ≡ 63) × ((length (now adkds) ≡ 28) × (length (now root) ≡ 32)) ⌝ }
-    ensures { λ _. ⌜ now (config .exit) ≡ settings ns maclt (now (adkds .entry)) (now (root .entry)) ⌝ }
+pub fn set_config(config: &mut [u8], ns: u8, maclt: u8, marks: &[u8], root: &[u8])
+    requires { ⌜ (length (now config) ≡ 63) × ((length (now marks) ≡ 28) × (length (now root) ≡ 32)) ⌝ }
+    ensures { λ _. ⌜ now (config .exit) ≡ settings ns maclt (now (marks .entry)) (now (root .entry)) ⌝ }
 {
     config[0] = ns;
     config[1] = maclt;
-    buffer::copy_at(config, 2, adkds);
+    buffer::copy_at(config, 2, marks);
     buffer::copy_at(config, 30, root);
     config[62] = 0;
 }
@@ -103,24 +103,24 @@ pub fn clear_signal(clocks: &mut [u32], words: &mut [u8], stamps: &mut [u32])
 }
 
 // No DSM block is held.
-pub fn clear_blocks(blocks: &mut [u8], headers: &mut [u8], marks: &mut [u16], since: &mut [u32])
-    requires { ⌜ ((length (now blocks) ≡ 3328) × (length (now headers) ≡ 16)) × ((length (now marks) ≡ 16) × (length (now since) ≡ 16)) ⌝ }
-    ensures { λ _. ⌜ store (now (blocks .exit)) (now (headers .exit)) (now (marks .exit)) (now (since .exit)) ≡ noBlocks ⌝ }
+pub fn clear_blocks(blocks: &mut [u8], headers: &mut [u8], present: &mut [u16], since: &mut [u32])
+    requires { ⌜ ((length (now blocks) ≡ 3328) × (length (now headers) ≡ 16)) × ((length (now present) ≡ 16) × (length (now since) ≡ 16)) ⌝ }
+    ensures { λ _. ⌜ store (now (blocks .exit)) (now (headers .exit)) (now (present .exit)) (now (since .exit)) ≡ noBlocks ⌝ }
 {
     buffer::fill(blocks, 0, 3328, 0);
     buffer::fill(headers, 0, 16, 0);
-    clear_u16(marks, 16);
+    clear_u16(present, 16);
     clear_u32(since, 16);
 }
 
 // Only the given key is held; bytes past its type's length are not read.
-pub fn hold_key(keys: &mut [u8], id: u8, kind: u8, public: &[u8])
-    requires { ⌜ ((length (now keys) ≡ 1088) × (length (now public) ≡ 67)) × ((id < 16) × (kind < 4)) ⌝ }
-    ensures { λ _. ⌜ now (keys .exit) ≡ withKey (replicate 1088 0) id kind (take (keyLength kind) (now (public .entry))) ⌝ }
+pub fn hold_key(public_keys: &mut [u8], id: u8, kind: u8, public_key: &[u8])
+    requires { ⌜ ((length (now public-keys) ≡ 1088) × (length (now public-key) ≡ 67)) × ((id < 16) × (kind < 4)) ⌝ }
+    ensures { λ _. ⌜ now (public-keys .exit) ≡ withKey (replicate 1088 0) id kind (take (keyLength kind) (now (public-key .entry))) ⌝ }
 {
-    buffer::fill(keys, 0, 1088, 0);
+    buffer::fill(public_keys, 0, 1088, 0);
     let n = public_keys::key_length(kind);
-    public_keys::add_key(keys, id, kind, &public[0..n]);
+    public_keys::add_key(public_keys, id, kind, &public_key[0..n]);
 }
 
 // No message waits, and no chain was put in force.
@@ -133,13 +133,13 @@ pub fn clear_message(offer: &mut [u8], chain: &mut [u8])
 }
 
 // No TESLA key is held and no tag waits.
-pub fn clear_tags(numbers: &mut [u64], key: &mut [u8], waiting: &mut [u8])
-    requires { ⌜ (length (now numbers) ≡ 2) × ((length (now key) ≡ 32) × (length (now waiting) ≡ 21504)) ⌝ }
-    ensures { λ _. ⌜ tesla (now (numbers .exit)) (now (key .exit)) (now (waiting .exit)) ≡ noTags ⌝ }
+pub fn clear_tags(numbers: &mut [u64], held_key: &mut [u8], waiting: &mut [u8])
+    requires { ⌜ (length (now numbers) ≡ 2) × ((length (now held-key) ≡ 32) × (length (now waiting) ≡ 21504)) ⌝ }
+    ensures { λ _. ⌜ tesla (now (numbers .exit)) (now (held-key .exit)) (now (waiting .exit)) ≡ noTags ⌝ }
 {
     numbers[0] = 0;
     numbers[1] = 0;
-    buffer::fill(key, 0, 32, 0);
+    buffer::fill(held_key, 0, 32, 0);
     buffer::fill(waiting, 0, 21504, 0);
 }
 

@@ -20,13 +20,13 @@ pub fn word(
     stamps: &mut [u32],
     blocks: &[u8],
     headers: &[u8],
-    marks: &[u16],
+    present: &[u16],
     since: &[u32],
-    keys: &[u8],
+    public_keys: &[u8],
     offer: &[u8],
     chain: &[u8],
     numbers: &[u64],
-    key: &[u8],
+    held_key: &[u8],
     waiting: &[u8],
     sets: &[u8],
     arrivals: &[u32],
@@ -34,7 +34,7 @@ pub fn word(
     time: u32,
     bytes: &[u8],
 ) -> u32
-    ensures { λ r. ⌜ told r (state (now (config .entry)) (now (clocks .exit)) (now (words .exit)) (now (stamps .exit)) (now (blocks .entry)) (now (headers .entry)) (now (marks .entry)) (now (since .entry)) (now (keys .entry)) (now (offer .entry)) (now (chain .entry)) (now (numbers .entry)) (now (key .entry)) (now (waiting .entry)) (now (sets .entry)) (now (arrivals .entry))) ≡ wordCall (state (now (config .entry)) (now (clocks .entry)) (now (words .entry)) (now (stamps .entry)) (now (blocks .entry)) (now (headers .entry)) (now (marks .entry)) (now (since .entry)) (now (keys .entry)) (now (offer .entry)) (now (chain .entry)) (now (numbers .entry)) (now (key .entry)) (now (waiting .entry)) (now (sets .entry)) (now (arrivals .entry))) (record { prn = prn; time = time; bytes = now (bytes .entry) }) ⌝ }
+    ensures { λ r. ⌜ told r (state (now (config .entry)) (now (clocks .exit)) (now (words .exit)) (now (stamps .exit)) (now (blocks .entry)) (now (headers .entry)) (now (present .entry)) (now (since .entry)) (now (public-keys .entry)) (now (offer .entry)) (now (chain .entry)) (now (numbers .entry)) (now (held-key .entry)) (now (waiting .entry)) (now (sets .entry)) (now (arrivals .entry))) ≡ wordCall (state (now (config .entry)) (now (clocks .entry)) (now (words .entry)) (now (stamps .entry)) (now (blocks .entry)) (now (headers .entry)) (now (present .entry)) (now (since .entry)) (now (public-keys .entry)) (now (offer .entry)) (now (chain .entry)) (now (numbers .entry)) (now (held-key .entry)) (now (waiting .entry)) (now (sets .entry)) (now (arrivals .entry))) (record { prn = prn; time = time; bytes = now (bytes .entry) }) ⌝ }
 {
     if !regions::shaped(
         config,
@@ -43,13 +43,13 @@ pub fn word(
         stamps,
         blocks,
         headers,
-        marks,
+        present,
         since,
-        keys,
+        public_keys,
         offer,
         chain,
         numbers,
-        key,
+        held_key,
         waiting,
         sets,
         arrivals,

@@ -10,7 +10,7 @@ use lib.ListN.{length, getD, length-append}
 use Rattle.laws.specs.Bytes.{be2, be4}
 use Rattle.laws.specs.Lists.{splice}
 use Rattle.laws.proofs.Splice.{splice-append, splice-nil}
-use Rattle.rules.specs.Tags.{Work, told, kept, setsEntered, timesEntered, tagRecord, recordIssue, entryAt, entryTag, entrySet}
+use Rattle.rules.specs.Tags.{Work, told, kept, setsEntered, arrivalsEntered, tagRecord, recordIssue, entryAt, entryTag, entrySet}
 use Rattle.rules.specs.declared.Tag.{Tag}
 use Rattle.waiting_tags.proofs.Entries.{untouched, length-entry}
 use Rattle.due_tags.specs.Swept.{start, marks, sweptOne, swept, Tells, Leaves, Counts}
@@ -28,7 +28,7 @@ after-front d s t a e h =
 -- ---- an entry's work adds to what was there
 
 abbrev alone : ℕ → List ℕ → Work → Work
-alone o e w = sweptOne o e (start (w .count) (w .sets) (w .times))
+alone o e w = sweptOne o e (start (w .count) (w .sets) (w .arrivals))
 
 kept-more : (o : ℕ) (e : List ℕ) (w : Work) → (sweptOne o e w) .kept ≡ w .kept ++ (alone o e w) .kept
 unfolding sweptOne kept told
@@ -45,10 +45,10 @@ unfolding sweptOne kept told
 sets-more zero e w = refl
 sets-more (suc o) e w = refl
 
-times-more : (o : ℕ) (e : List ℕ) (w : Work) → (sweptOne o e w) .times ≡ (alone o e w) .times
+arrivals-more : (o : ℕ) (e : List ℕ) (w : Work) → (sweptOne o e w) .arrivals ≡ (alone o e w) .arrivals
 unfolding sweptOne kept told
-times-more zero e w = refl
-times-more (suc o) e w = refl
+arrivals-more zero e w = refl
+arrivals-more (suc o) e w = refl
 
 count-more : (o : ℕ) (e : List ℕ) (w : Work) → (sweptOne o e w) .count ≡ (alone o e w) .count
 unfolding sweptOne kept told
@@ -87,7 +87,7 @@ module _ (waiting area waiting₁ sets₁ times₁ area₁ waiting₂ sets₂ ti
       ∙ untouched waiting (w .kept) r k (n .kept-long) (n .few) (omega arith)
 
   same-work : sweptOne o (entryAt waiting₁ k) (start r sets₁ times₁) ≡ alone o (entryAt waiting k) w
-  same-work = rw (same-entry, l .sets, l .times, l .count)
+  same-work = rw (same-entry, l .sets, l .arrivals, l .count)
 
   more : Leaves (sweptOne o (entryAt waiting k) w) 0 0 waiting area waiting₂ sets₂ times₂ area₂ r₂
   more =
@@ -99,7 +99,7 @@ module _ (waiting area waiting₁ sets₁ times₁ area₁ waiting₂ sets₂ ti
             s .entries
             ∙ rw (same-work, l .entries, kept-more o e w) (after-front waiting (w .kept) ((alone o e w) .kept) (r * 84) (n .kept-long) (omega arith));
         sets = s .sets ∙ rw (same-work) (sym (sets-more o e w));
-        times = s .times ∙ rw (same-work) (sym (times-more o e w));
+        arrivals = s .arrivals ∙ rw (same-work) (sym (arrivals-more o e w));
         records =
             s .records
             ∙ rw (same-work, l .records, records-more o e w) (after-front area (w .records) ((alone o e w) .records) ((k - r) * 12) (n .records-long) (omega arith));
@@ -113,37 +113,37 @@ module _ (waiting area waiting₁ sets₁ times₁ area₁ waiting₂ sets₂ ti
 -- ---- what one entry leaves
 
 -- the record and the set of a tag
-pub told-leaves : (o at issue : ℕ) (t : Tag) (set sets times area sets′ times′ area′ : List ℕ)
+pub told-leaves : (o at issue : ℕ) (t : Tag) (set sets arrivals area sets′ arrivals′ area′ : List ℕ)
     → issue ≡ recordIssue o set → area′ ≡ splice area at (tagRecord o t issue)
-    → sets′ ≡ cond (marks o t) (setsEntered sets times t set) sets → times′ ≡ cond (marks o t) (timesEntered times t) times
-    → Tells (told o t set (start 0 sets times)) at area sets′ times′ area′
+    → sets′ ≡ cond (marks o t) (setsEntered sets arrivals t set) sets → arrivals′ ≡ cond (marks o t) (arrivalsEntered arrivals t) arrivals
+    → Tells (told o t set (start 0 sets arrivals)) at area sets′ arrivals′ area′
 unfolding told marks
-told-leaves o at issue t set sets times area sets′ times′ area′ ei ea eu ev = record { sets = eu; times = ev; records = ea ∙ rw ei }
+told-leaves o at issue t set sets arrivals area sets′ arrivals′ area′ ei ea eu ev = record { sets = eu; arrivals = ev; records = ea ∙ rw ei }
 
 -- an entry that is not due stays, and no record is written
-pub stays-leaves : (o m kept : ℕ) (e waiting sets times area waiting′ : List ℕ) → o ≡ 0 → waiting′ ≡ splice waiting (kept * 84) e
-    → Leaves (sweptOne o e (start kept sets times)) kept m waiting area waiting′ sets times area (kept + 1)
+pub stays-leaves : (o m kept : ℕ) (e waiting sets arrivals area waiting′ : List ℕ) → o ≡ 0 → waiting′ ≡ splice waiting (kept * 84) e
+    → Leaves (sweptOne o e (start kept sets arrivals)) kept m waiting area waiting′ sets arrivals area (kept + 1)
 unfolding sweptOne kept
-stays-leaves zero m kept e waiting sets times area waiting′ p q =
-    record { entries = q; sets = refl; times = refl; records = sym (splice-nil area (m * 12)); count = refl }
-stays-leaves (suc o) m kept e waiting sets times area waiting′ p q = absurd (omega arith)
+stays-leaves zero m kept e waiting sets arrivals area waiting′ p q =
+    record { entries = q; sets = refl; arrivals = refl; records = sym (splice-nil area (m * 12)); count = refl }
+stays-leaves (suc o) m kept e waiting sets arrivals area waiting′ p q = absurd (omega arith)
 
 -- an entry that is due leaves its place
-pub due-leaves : (o m kept : ℕ) (e waiting sets times area sets′ times′ area′ : List ℕ) → (o ≡ 0 → ⊥)
-    → Tells (told o (entryTag e) (entrySet e) (start 0 sets times)) (m * 12) area sets′ times′ area′
-    → Leaves (sweptOne o e (start kept sets times)) kept m waiting area waiting sets′ times′ area′ kept
+pub due-leaves : (o m kept : ℕ) (e waiting sets arrivals area sets′ arrivals′ area′ : List ℕ) → (o ≡ 0 → ⊥)
+    → Tells (told o (entryTag e) (entrySet e) (start 0 sets arrivals)) (m * 12) area sets′ arrivals′ area′
+    → Leaves (sweptOne o e (start kept sets arrivals)) kept m waiting area waiting sets′ arrivals′ area′ kept
 unfolding sweptOne told
-due-leaves zero m kept e waiting sets times area sets′ times′ area′ p q = absurd (p refl)
-due-leaves (suc o) m kept e waiting sets times area sets′ times′ area′ p q =
-    record { entries = sym (splice-nil waiting (kept * 84)); sets = q .sets; times = q .times; records = q .records; count = refl }
+due-leaves zero m kept e waiting sets arrivals area sets′ arrivals′ area′ p q = absurd (p refl)
+due-leaves (suc o) m kept e waiting sets arrivals area sets′ arrivals′ area′ p q =
+    record { entries = sym (splice-nil waiting (kept * 84)); sets = q .sets; arrivals = q .arrivals; records = q .records; count = refl }
 
 -- ---- no entry yet, and one more of the first n
 
-pub none-swept : (outcomes waiting sets times area : List ℕ)
-    → Leaves (swept outcomes waiting 0 (start 0 sets times)) 0 0 waiting area waiting sets times area 0 × Counts (swept outcomes waiting 0 (start 0 sets times)) 0 0
+pub none-swept : (outcomes waiting sets arrivals area : List ℕ)
+    → Leaves (swept outcomes waiting 0 (start 0 sets arrivals)) 0 0 waiting area waiting sets arrivals area 0 × Counts (swept outcomes waiting 0 (start 0 sets arrivals)) 0 0
 unfolding swept
-none-swept outcomes waiting sets times area = (
-  record { entries = sym (splice-nil waiting 0); sets = refl; times = refl; records = sym (splice-nil area 0); count = refl },
+none-swept outcomes waiting sets arrivals area = (
+  record { entries = sym (splice-nil waiting 0); sets = refl; arrivals = refl; records = sym (splice-nil area 0); count = refl },
   record { few = omega arith; kept-long = refl; records-long = refl },
 )
 

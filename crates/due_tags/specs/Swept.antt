@@ -14,7 +14,7 @@ use Rattle.rules.specs.declared.Tag.{Tag}
 
 -- before any entry: no record yet, and `count` entries that stay elsewhere
 abbrev pub start : ℕ → List ℕ → List ℕ → Work
-start count sets times = record { kept = []; count = count; sets = sets; times = times; records = [] }
+start count sets arrivals = record { kept = []; count = count; sets = sets; arrivals = arrivals; records = [] }
 
 -- a tag whose set becomes authentic
 unfoldable pub marks : ℕ → Tag → Bool
@@ -31,17 +31,17 @@ swept outcomes waiting zero w = w
 swept outcomes waiting (suc n) w = sweptOne (getD outcomes n 0) (entryAt waiting n) (swept outcomes waiting n w)
 
 -- What lent regions are after a tag's outcome, work w: its record lies from place `at` of the area on.
-pub record Tells (w : Work) (at : ℕ) (area sets′ times′ area′ : List ℕ) : Type 0 where
+pub record Tells (w : Work) (at : ℕ) (area sets′ arrivals′ area′ : List ℕ) : Type 0 where
   pub sets : sets′ ≡ w .sets
-  pub times : times′ ≡ w .times
+  pub arrivals : arrivals′ ≡ w .arrivals
   pub records : area′ ≡ splice area at (w .records)
 
 -- What lent regions are after work w, if they were `waiting` and `area` before it: its entries lie from place `kept` on, its records from
 -- place `told` on, and `r` is the count of entries that stay.
-pub record Leaves (w : Work) (kept told : ℕ) (waiting area waiting′ sets′ times′ area′ : List ℕ) (r : ℕ) : Type 0 where
+pub record Leaves (w : Work) (kept told : ℕ) (waiting area waiting′ sets′ arrivals′ area′ : List ℕ) (r : ℕ) : Type 0 where
   pub entries : waiting′ ≡ splice waiting (kept * 84) (w .kept)
   pub sets : sets′ ≡ w .sets
-  pub times : times′ ≡ w .times
+  pub arrivals : arrivals′ ≡ w .arrivals
   pub records : area′ ≡ splice area (told * 12) (w .records)
   pub count : r ≡ w .count
 

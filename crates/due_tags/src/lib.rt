@@ -11,7 +11,7 @@ ghost use mathlib.Core.Bool.{true, cond};
 ghost use Prim.Native.Nat.{_+_, _-_, _*_, _^_, _≤_, _<_};
 ghost use lib.ListN.{length, take};
 ghost use Rattle.rules.specs.Chain.{held};
-ghost use Rattle.rules.specs.Tags.{entryAt, entryTag, entrySet, setsEntered, timesEntered, told, duesJudged};
+ghost use Rattle.rules.specs.Tags.{entryAt, entryTag, entrySet, setsEntered, arrivalsEntered, told, duesJudged};
 ghost use Rattle.chain.specs.Sound.{Sound};
 ghost use Rattle.due_tags.specs.Swept as S;
 ghost use Rattle.due_tags.specs.Swept.{start, sweptOne, swept, Tells, Leaves, Counts};
@@ -19,8 +19,8 @@ ghost use Rattle.due_tags.specs.Swept.{start, sweptOne, swept, Tells, Le
 // ---- a tag that is due
 
 // Whether a tag's set becomes authentic: outcome 1, and the entry names a satellite and a time.
-fn marks(outcome: u8, t: Tag) -> bool
-    ensures { λ r. ⌜ (r ≡ S.marks outcome t) × (r ≡ true → ((1 ≤ t .prn) × (t .prn ≤ 36)) × (t .time < 4294967295)) ⌝ }
+fn marks_set(outcome: u8, t: Tag) -> bool
+    ensures { λ r. ⌜ (r ≡ S.marksSet outcome t) × (r ≡ true → ((1 ≤ t .prn) × (t .prn ≤ 36)) × (t .time < 4294967295)) ⌝ }
 {
     let prn = t.prn;
     if outcome != 1 {
@@ -36,12 +36,12 @@ fn marks(outcome: u8, t: Tag) -> bool
 }
 
 // The set of an authentic tag enters its satellite's place.
-fn enter(outcome: u8, t: Tag, set: &[u8], sets: &mut [u8], times: &mut [u32])
-    requires { ⌜ ((length (now sets) ≡ 2484) × (length (now times) ≡ 36)) × (length (now set) ≡ 69) ⌝ }
-    ensures { λ _. ⌜ (now (sets .exit) ≡ cond (S.marks outcome t) (setsEntered (now (sets .entry)) (now (times .entry)) t (now (set .entry))) (now (sets .entry))) × (now (times .exit) ≡ cond (S.marks outcome t) (timesEntered (now (times .entry)) t) (now (times .entry))) ⌝ }
+fn enter(outcome: u8, t: Tag, set: &[u8], sets: &mut [u8], arrivals: &mut [u32])
+    requires { ⌜ ((length (now sets) ≡ 2484) × (length (now arrivals) ≡ 36)) × (length (now set) ≡ 69) ⌝ }
+    ensures { λ _. ⌜ (now (sets .exit) ≡ cond (S.marksSet outcome t) (setsEntered (now (sets .entry)) (now (arrivals .entry)) t (now (set .entry))) (now (sets .entry))) × (now (arrivals .exit) ≡ cond (S.marksSet outcome t) (arrivalsEntered (now (arrivals .entry)) t) (now (arrivals .entry))) ⌝ }
 {
-    if marks(outcome, t) {
-        authentic_sets::enter_set(sets, times, t, set);
+    if marks_set(outcome, t) {
+        authentic_sets::enter_set(sets, arrivals, t, set);
     }
 }
 
@@ -51,16 +51,16 @@ pub fn tell(
     t: Tag,
     set: &[u8],
     sets: &mut [u8],
-    times: &mut [u32],
+    arrivals: &mut [u32],
     area: &mut [u8],
     at: usize,
 )
-    requires { ⌜ ((length (now sets) ≡ 2484) × (length (now times) ≡ 36)) × ((length (now set) ≡ 69) × (at + 12 ≤ length (now area))) ⌝ }
-    ensures { λ _. ⌜ Tells (told outcome t (now (set .entry)) (start 0 (now (sets .entry)) (now (times .entry)))) at (now (area .entry)) (now (sets .exit)) (now (times .exit)) (now (area .exit)) ⌝ }
+    requires { ⌜ ((length (now sets) ≡ 2484) × (length (now arrivals) ≡ 36)) × ((length (now set) ≡ 69) × (at + 12 ≤ length (now area))) ⌝ }
+    ensures { λ _. ⌜ Tells (told outcome t (now (set .entry)) (start 0 (now (sets .entry)) (now (arrivals .entry)))) at (now (area .entry)) (now (sets .exit)) (now (arrivals .exit)) (now (area .exit)) ⌝ }
 {
     let issue = tags::record_issue(outcome, set);
     tags::put_record(area, at, outcome, t, issue);
-    enter(outcome, t, set, sets, times);
+    enter(outcome, t, set, sets, arrivals);
 }
 
 // The same for the tag of entry k and the copy of its set.
@@ -69,17 +69,17 @@ fn tell_entry(
     waiting: &[u8],
     k: usize,
     sets: &mut [u8],
-    times: &mut [u32],
+    arrivals: &mut [u32],
     area: &mut [u8],
     at: usize,
 )
-    requires { ⌜ ((length (now sets) ≡ 2484) × (length (now times) ≡ 36)) × ((k * 84 + 84 ≤ length (now waiting)) × (at + 12 ≤ length (now area))) ⌝ }
-    ensures { λ _. ⌜ Tells (told outcome (entryTag (entryAt (now (waiting .entry)) k)) (entrySet (entryAt (now (waiting .entry)) k)) (start 0 (now (sets .entry)) (now (times .entry)))) at (now (area .entry)) (now (sets .exit)) (now (times .exit)) (now (area .exit)) ⌝ }
+    requires { ⌜ ((length (now sets) ≡ 2484) × (length (now arrivals) ≡ 36)) × ((k * 84 + 84 ≤ length (now waiting)) × (at + 12 ≤ length (now area))) ⌝ }
+    ensures { λ _. ⌜ Tells (told outcome (entryTag (entryAt (now (waiting .entry)) k)) (entrySet (entryAt (now (waiting .entry)) k)) (start 0 (now (sets .entry)) (now (arrivals .entry)))) at (now (area .entry)) (now (sets .exit)) (now (arrivals .exit)) (now (area .exit)) ⌝ }
 {
     let t = waiting_tags::entry_tag(waiting, k);
     let mut set = [0u8; 69];
     waiting_tags::copy_set(waiting, k, &mut set);
-    tell(outcome, t, &set, sets, times, area, at);
+    tell(outcome, t, &set, sets, arrivals, area, at);
 }
 
 // ---- arrival order
@@ -91,18 +91,18 @@ fn sweep_one(
     k: usize,
     kept: usize,
     sets: &mut [u8],
-    times: &mut [u32],
+    arrivals: &mut [u32],
     area: &mut [u8],
 ) -> usize
-    requires { ⌜ ((length (now sets) ≡ 2484) × (length (now times) ≡ 36)) × ((length (now waiting) ≡ 21504) × (length (now area) ≡ 3240)) ⌝ }
+    requires { ⌜ ((length (now sets) ≡ 2484) × (length (now arrivals) ≡ 36)) × ((length (now waiting) ≡ 21504) × (length (now area) ≡ 3240)) ⌝ }
     requires { ⌜ (kept ≤ k) × (k < 256) ⌝ }
-    ensures { λ r. ⌜ Leaves (sweptOne outcome (entryAt (now (waiting .entry)) k) (start kept (now (sets .entry)) (now (times .entry)))) kept (k - kept) (now (waiting .entry)) (now (area .entry)) (now (waiting .exit)) (now (sets .exit)) (now (times .exit)) (now (area .exit)) r ⌝ }
+    ensures { λ r. ⌜ Leaves (sweptOne outcome (entryAt (now (waiting .entry)) k) (start kept (now (sets .entry)) (now (arrivals .entry)))) kept (k - kept) (now (waiting .entry)) (now (area .entry)) (now (waiting .exit)) (now (sets .exit)) (now (arrivals .exit)) (now (area .exit)) r ⌝ }
 {
     if outcome == 0 {
         waiting_tags::move_entry(waiting, k, kept);
         return kept + 1;
     }
-    tell_entry(outcome, waiting, k, sets, times, area, (k - kept) * 12);
+    tell_entry(outcome, waiting, k, sets, arrivals, area, (k - kept) * 12);
     kept
 }
 
@@ -112,18 +112,18 @@ pub fn sweep(
     waiting: &mut [u8],
     n: usize,
     sets: &mut [u8],
-    times: &mut [u32],
+    arrivals: &mut [u32],
     area: &mut [u8],
 ) -> usize
-    requires { ⌜ ((length (now sets) ≡ 2484) × (length (now times) ≡ 36)) × ((length (now waiting) ≡ 21504) × (length (now area) ≡ 3240)) ⌝ }
+    requires { ⌜ ((length (now sets) ≡ 2484) × (length (now arrivals) ≡ 36)) × ((length (now waiting) ≡ 21504) × (length (now area) ≡ 3240)) ⌝ }
     requires { ⌜ (length (now outcomes) ≡ 256) × (n ≤ 256) ⌝ }
-    ensures { λ r. ⌜ Leaves (swept (now (outcomes .entry)) (now (waiting .entry)) n (start 0 (now (sets .entry)) (now (times .entry)))) 0 0 (now (waiting .entry)) (now (area .entry)) (now (waiting .exit)) (now (sets .exit)) (now (times .exit)) (now (area .exit)) r × Counts (swept (now (outcomes .entry)) (now (waiting .entry)) n (start 0 (now (sets .entry)) (now (times .entry)))) n r ⌝ }
+    ensures { λ r. ⌜ Leaves (swept (now (outcomes .entry)) (now (waiting .entry)) n (start 0 (now (sets .entry)) (now (arrivals .entry)))) 0 0 (now (waiting .entry)) (now (area .entry)) (now (waiting .exit)) (now (sets .exit)) (now (arrivals .exit)) (now (area .exit)) r × Counts (swept (now (outcomes .entry)) (now (waiting .entry)) n (start 0 (now (sets .entry)) (now (arrivals .entry)))) n r ⌝ }
 {
     let mut kept: usize = 0;
     let mut k: usize = 0;
     while k < n {
         let outcome = outcomes[k];
-        kept = sweep_one(outcome, waiting, k, kept, sets, times, area);
+        kept = sweep_one(outcome, waiting, k, kept, sets, arrivals, area);
         k += 1;
     }
     kept
@@ -138,13 +138,13 @@ pub fn judge_due(
     waiting: &mut [u8],
     n: usize,
     sets: &mut [u8],
-    times: &mut [u32],
+    arrivals: &mut [u32],
     area: &mut [u8],
 ) -> usize
-    requires { ⌜ ((length (now sets) ≡ 2484) × (length (now times) ≡ 36)) × ((length (now waiting) ≡ 21504) × (length (now area) ≡ 3240)) ⌝ }
+    requires { ⌜ ((length (now sets) ≡ 2484) × (length (now arrivals) ≡ 36)) × ((length (now waiting) ≡ 21504) × (length (now area) ≡ 3240)) ⌝ }
     requires { ⌜ Sound c × ((slot < 2 ^ 34) × (n ≤ 256)) ⌝ }
-    ensures { λ r. ⌜ Leaves (duesJudged c (held slot (take (c .width) known)) (now (waiting .entry)) n (start 0 (now (sets .entry)) (now (times .entry)))) 0 0 (now (waiting .entry)) (now (area .entry)) (now (waiting .exit)) (now (sets .exit)) (now (times .exit)) (now (area .exit)) r × Counts (duesJudged c (held slot (take (c .width) known)) (now (waiting .entry)) n (start 0 (now (sets .entry)) (now (times .entry)))) n r ⌝ }
+    ensures { λ r. ⌜ Leaves (duesJudged c (held slot (take (c .width) known)) (now (waiting .entry)) n (start 0 (now (sets .entry)) (now (arrivals .entry)))) 0 0 (now (waiting .entry)) (now (area .entry)) (now (waiting .exit)) (now (sets .exit)) (now (arrivals .exit)) (now (area .exit)) r × Counts (duesJudged c (held slot (take (c .width) known)) (now (waiting .entry)) n (start 0 (now (sets .entry)) (now (arrivals .entry)))) n r ⌝ }
 {
     let outcomes = due_tag_keys::outcomes(c, slot, known, waiting, n);
-    sweep(&outcomes, waiting, n, sets, times, area)
+    sweep(&outcomes, waiting, n, sets, arrivals, area)
 }

@@ -23,19 +23,19 @@ first-block blocks id = rw (add-zero (id * 208))
 -- ---- a store is complete or not
 
 -- no block 0
-pub without-first : (s : Store) (id : ℕ) → Rule.marked (getD (s .marks) id 0) 0 ≡ false → told Stored s id ≡ Rule.stored s id
+pub without-first : (s : Store) (id : ℕ) → Rule.marked (getD (s .present) id 0) 0 ≡ false → told Stored s id ≡ Rule.stored s id
 unfolding Rule.stored Rule.complete
 without-first s id e = rw e
 
 -- other than the count
-pub not-counted : (s : Store) (id n : ℕ) → Rule.marked (getD (s .marks) id 0) 0 ≡ true → n ≡ Rule.totalOf (part (s .blocks) (id * 208) 13)
-    → (ones (getD (s .marks) id 0) ≡ n → ⊥) → told Stored s id ≡ Rule.stored s id
+pub not-counted : (s : Store) (id n : ℕ) → Rule.marked (getD (s .present) id 0) 0 ≡ true → n ≡ Rule.totalOf (part (s .blocks) (id * 208) 13)
+    → (ones (getD (s .present) id 0) ≡ n → ⊥) → told Stored s id ≡ Rule.stored s id
 unfolding Rule.stored Rule.complete
 not-counted s id n e t h = rw (e, first-block (s .blocks) id, ← t, ne-eqb _ _ h)
 
 -- as many as the count
-pub counted : (s : Store) (id n : ℕ) → Rule.marked (getD (s .marks) id 0) 0 ≡ true → n ≡ Rule.totalOf (part (s .blocks) (id * 208) 13)
-    → ones (getD (s .marks) id 0) ≡ n → told (Complete (13 * n)) (Rule.takenOut s id) id ≡ Rule.stored s id
+pub counted : (s : Store) (id n : ℕ) → Rule.marked (getD (s .present) id 0) 0 ≡ true → n ≡ Rule.totalOf (part (s .blocks) (id * 208) 13)
+    → ones (getD (s .present) id 0) ≡ n → told (Complete (13 * n)) (Rule.takenOut s id) id ≡ Rule.stored s id
 unfolding Rule.stored Rule.complete Rule.dsmOf Rule.takenOut
 counted s id n e t h = rw (e, first-block (s .blocks) id, ← t, eq-eqb _ _ h)
 

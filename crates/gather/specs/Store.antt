@@ -10,15 +10,15 @@ use Rattle.gather.specs.declared.Gathered.{Gathered}
 use Rattle.gather.specs.declared.Gathered.the-variants.{Stored, Complete, Refused}
 
 -- the four regions have their lengths
-pub record Lent (blocks headers marks times : List ℕ) : Type 0 where
+pub record Lent (blocks headers present since : List ℕ) : Type 0 where
   pub blocks-long : length blocks ≡ 3328
   pub headers-long : length headers ≡ 16
-  pub marks-long : length marks ≡ 16
-  pub times-long : length times ≡ 16
+  pub marks-long : length present ≡ 16
+  pub times-long : length since ≡ 16
 
 -- the four regions as the store of the rules
 abbrev pub store : List ℕ → List ℕ → List ℕ → List ℕ → Store
-store blocks headers marks times = record { blocks = blocks; headers = headers; marks = marks; times = times }
+store blocks headers present since = record { blocks = blocks; headers = headers; present = present; since = since }
 
 -- an answer with the store that it leaves: 01's number, and the DSM where it is complete, whose bytes still stand in the blocks of its ID
 abbrev pub told : Gathered → Store → ℕ → Rule.Gathered

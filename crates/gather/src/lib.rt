@@ -123,22 +123,22 @@ fn reserved_count(hk: &[u8; 15]) -> bool
 
 // ---- marks of the blocks present
 
-fn marked(marks: u16, k: usize) -> bool
+fn marked(present: u16, k: usize) -> bool
     requires { ⌜ k < 16 ⌝ }
-    ensures { λ r. ⌜ r ≡ Rule.marked marks k ⌝ }
+    ensures { λ r. ⌜ r ≡ Rule.marked present k ⌝ }
 {
-    (marks >> k) % 2 == 1
+    (present >> k) % 2 == 1
 }
 
-fn with_mark(marks: u16, k: usize) -> u16
+fn with_mark(present: u16, k: usize) -> u16
     requires { ⌜ k < 16 ⌝ }
-    ensures { λ r. ⌜ r ≡ Rule.withMark marks k ⌝ }
+    ensures { λ r. ⌜ r ≡ Rule.withMark present k ⌝ }
 {
-    if marked(marks, k) {
-        return marks;
+    if marked(present, k) {
+        return present;
     }
     let one: u16 = 1;
-    marks + (one << k)
+    present + (one << k)
 }
 
 // ---- the four reasons to drop an ID's blocks
@@ -159,42 +159,42 @@ fn same_block(blocks: &[u8], at: usize, hk: &[u8]) -> bool
 }
 
 // The same block ID held other bytes.
-fn other_bytes(blocks: &[u8], marks: u16, id: usize, k: usize, hk: &[u8; 15]) -> bool
+fn other_bytes(blocks: &[u8], present: u16, id: usize, k: usize, hk: &[u8; 15]) -> bool
     requires { ⌜ (length (now blocks) ≡ 3328) × ((id < 16) × (k < 16)) ⌝ }
-    ensures { λ r. ⌜ r ≡ Rule.marked marks k && not (same (Rule.storedBlock (now (blocks .entry)) id k) (Rule.blockOf (now (hk .entry)))) ⌝ }
+    ensures { λ r. ⌜ r ≡ Rule.marked present k && not (same (Rule.storedBlock (now (blocks .entry)) id k) (Rule.blockOf (now (hk .entry)))) ⌝ }
 {
-    if !marked(marks, k) {
+    if !marked(present, k) {
         return false;
     }
     !same_block(blocks, id * 208 + k * 13, hk)
 }
 
 // It is a block 0 whose count is not above every stored block ID.
-fn count_too_low(marks: u16, k: usize, hk: &[u8; 15]) -> bool
-    ensures { λ r. ⌜ r ≡ eqb k 0 && neb (marks / 2 ^ Rule.totalOf (Rule.blockOf (now (hk .entry)))) 0 ⌝ }
+fn count_too_low(present: u16, k: usize, hk: &[u8; 15]) -> bool
+    ensures { λ r. ⌜ r ≡ eqb k 0 && neb (present / 2 ^ Rule.totalOf (Rule.blockOf (now (hk .entry)))) 0 ⌝ }
 {
     if k != 0 {
         return false;
     }
     let total = total_of(hk, 2);
-    marks as u32 >> total != 0
+    present as u32 >> total != 0
 }
 
 fn drops_blocks(
     blocks: &[u8],
     headers: &[u8],
-    marks: &[u16],
-    times: &[u32],
+    present: &[u16],
+    since: &[u32],
     t: u32,
     id: usize,
     hk: &[u8; 15],
 ) -> bool
-    requires { ⌜ Lent (now blocks) (now headers) (now marks) (now times) × (id < 16) ⌝ }
-    ensures { λ r. ⌜ r ≡ Rule.dropsBlocks (store (now (blocks .entry)) (now (headers .entry)) (now (marks .entry)) (now (times .entry))) t id (now (hk .entry)) ⌝ }
+    requires { ⌜ Lent (now blocks) (now headers) (now present) (now since) × (id < 16) ⌝ }
+    ensures { λ r. ⌜ r ≡ Rule.dropsBlocks (store (now (blocks .entry)) (now (headers .entry)) (now (present .entry)) (now (since .entry))) t id (now (hk .entry)) ⌝ }
 {
-    let m = marks[id];
+    let m = present[id];
     let k = block_id_of(hk);
-    if too_old(times[id], t) {
+    if too_old(since[id], t) {
         return true;
     }
     let held = headers[id];
@@ -212,19 +212,19 @@ fn drops_blocks(
 fn kept_marks(
     blocks: &[u8],
     headers: &[u8],
-    marks: &[u16],
-    times: &[u32],
+    present: &[u16],
+    since: &[u32],
     t: u32,
     id: usize,
     hk: &[u8; 15],
 ) -> u16
-    requires { ⌜ Lent (now blocks) (now headers) (now marks) (now times) × (id < 16) ⌝ }
-    ensures { λ r. ⌜ r ≡ Rule.keptMarks (store (now (blocks .entry)) (now (headers .entry)) (now (marks .entry)) (now (times .entry))) t id (now (hk .entry)) ⌝ }
+    requires { ⌜ Lent (now blocks) (now headers) (now present) (now since) × (id < 16) ⌝ }
+    ensures { λ r. ⌜ r ≡ Rule.keptMarks (store (now (blocks .entry)) (now (headers .entry)) (now (present .entry)) (now (since .entry))) t id (now (hk .entry)) ⌝ }
 {
-    if drops_blocks(blocks, headers, marks, times, t, id, hk) {
+    if drops_blocks(blocks, headers, present, since, t, id, hk) {
         return 0;
     }
-    marks[id]
+    present[id]
 }
 
 // Whether a block ID is not below the count of the block 0 held, of the blocks that are left.
@@ -253,32 +253,32 @@ fn first_time(kept: u16, t: u32, held: u32) -> u32
 fn put_block(
     blocks: &mut [u8],
     headers: &mut [u8],
-    marks: &mut [u16],
-    times: &mut [u32],
+    present: &mut [u16],
+    since: &mut [u32],
     t: u32,
     id: usize,
     kept: u16,
     hk: &[u8; 15],
 )
-    requires { ⌜ (Lent (now blocks) (now headers) (now marks) (now times) × (id < 16)) × (kept ≡ Rule.keptMarks (store (now blocks) (now headers) (now marks) (now times)) t id (now hk)) ⌝ }
-    ensures { λ _. ⌜ store (now (blocks .exit)) (now (headers .exit)) (now (marks .exit)) (now (times .exit)) ≡ Rule.withBlock (store (now (blocks .entry)) (now (headers .entry)) (now (marks .entry)) (now (times .entry))) t id (now (hk .entry)) ⌝ }
+    requires { ⌜ (Lent (now blocks) (now headers) (now present) (now since) × (id < 16)) × (kept ≡ Rule.keptMarks (store (now blocks) (now headers) (now present) (now since)) t id (now hk)) ⌝ }
+    ensures { λ _. ⌜ store (now (blocks .exit)) (now (headers .exit)) (now (present .exit)) (now (since .exit)) ≡ Rule.withBlock (store (now (blocks .entry)) (now (headers .entry)) (now (present .entry)) (now (since .entry))) t id (now (hk .entry)) ⌝ }
 {
     let k = block_id_of(hk);
     let header = header_of(hk);
-    let first = first_time(kept, t, times[id]);
+    let first = first_time(kept, t, since[id]);
     let m = with_mark(kept, k);
     buffer::copy_part(blocks, id * 208 + k * 13, hk, 2, 13);
     headers[id] = header;
-    marks[id] = m;
-    times[id] = first;
+    present[id] = m;
+    since[id] = first;
 }
 
 // A complete DSM is taken out: as many blocks are marked as its block 0 names.
-fn take_out(blocks: &[u8], marks: &mut [u16], id: usize) -> Gathered
-    requires { ⌜ ((length (now blocks) ≡ 3328) × (length (now marks) ≡ 16)) × (id < 16) ⌝ }
-    ensures { λ r. ⌜ ((headers times : List ℕ) → told r (store (now (blocks .entry)) headers (now (marks .exit)) times) id ≡ Rule.stored (store (now (blocks .entry)) headers (now (marks .entry)) times) id) × Sized r ⌝ }
+fn take_out(blocks: &[u8], present: &mut [u16], id: usize) -> Gathered
+    requires { ⌜ ((length (now blocks) ≡ 3328) × (length (now present) ≡ 16)) × (id < 16) ⌝ }
+    ensures { λ r. ⌜ ((headers since : List ℕ) → told r (store (now (blocks .entry)) headers (now (present .exit)) since) id ≡ Rule.stored (store (now (blocks .entry)) headers (now (present .entry)) since) id) × Sized r ⌝ }
 {
-    let m = marks[id];
+    let m = present[id];
     if !marked(m, 0) {
         return Gathered::Stored;
     }
@@ -286,7 +286,7 @@ fn take_out(blocks: &[u8], marks: &mut [u16], id: usize) -> Gathered
     if u16::count_ones(m) as usize != total {
         return Gathered::Stored;
     }
-    marks[id] = 0;
+    present[id] = 0;
     Gathered::Complete(13 * total)
 }
 
@@ -294,39 +294,39 @@ fn take_out(blocks: &[u8], marks: &mut [u16], id: usize) -> Gathered
 fn store_block(
     blocks: &mut [u8],
     headers: &mut [u8],
-    marks: &mut [u16],
-    times: &mut [u32],
+    present: &mut [u16],
+    since: &mut [u32],
     t: u32,
     id: usize,
     kept: u16,
     hk: &[u8; 15],
 ) -> Gathered
-    requires { ⌜ (Lent (now blocks) (now headers) (now marks) (now times) × (id < 16)) × (kept ≡ Rule.keptMarks (store (now blocks) (now headers) (now marks) (now times)) t id (now hk)) ⌝ }
-    ensures { λ r. ⌜ (told r (store (now (blocks .exit)) (now (headers .exit)) (now (marks .exit)) (now (times .exit))) id ≡ Rule.stored (Rule.withBlock (store (now (blocks .entry)) (now (headers .entry)) (now (marks .entry)) (now (times .entry))) t id (now (hk .entry))) id) × Sized r ⌝ }
+    requires { ⌜ (Lent (now blocks) (now headers) (now present) (now since) × (id < 16)) × (kept ≡ Rule.keptMarks (store (now blocks) (now headers) (now present) (now since)) t id (now hk)) ⌝ }
+    ensures { λ r. ⌜ (told r (store (now (blocks .exit)) (now (headers .exit)) (now (present .exit)) (now (since .exit))) id ≡ Rule.stored (Rule.withBlock (store (now (blocks .entry)) (now (headers .entry)) (now (present .entry)) (now (since .entry))) t id (now (hk .entry))) id) × Sized r ⌝ }
 {
-    put_block(blocks, headers, marks, times, t, id, kept, hk);
-    take_out(blocks, marks, id)
+    put_block(blocks, headers, present, since, t, id, kept, hk);
+    take_out(blocks, present, id)
 }
 
 // A block comes at time t.
 pub fn gather(
     blocks: &mut [u8],
     headers: &mut [u8],
-    marks: &mut [u16],
-    times: &mut [u32],
+    present: &mut [u16],
+    since: &mut [u32],
     t: u32,
     hk: &[u8; 15],
 ) -> Gathered
-    requires { ⌜ Lent (now blocks) (now headers) (now marks) (now times) ⌝ }
-    ensures { λ r. ⌜ (told r (store (now (blocks .exit)) (now (headers .exit)) (now (marks .exit)) (now (times .exit))) (Rule.dsmIdOf (now (hk .entry))) ≡ Rule.gathered (store (now (blocks .entry)) (now (headers .entry)) (now (marks .entry)) (now (times .entry))) t (now (hk .entry))) × Sized r ⌝ }
+    requires { ⌜ Lent (now blocks) (now headers) (now present) (now since) ⌝ }
+    ensures { λ r. ⌜ (told r (store (now (blocks .exit)) (now (headers .exit)) (now (present .exit)) (now (since .exit))) (Rule.dsmIdOf (now (hk .entry))) ≡ Rule.gathered (store (now (blocks .entry)) (now (headers .entry)) (now (present .entry)) (now (since .entry))) t (now (hk .entry))) × Sized r ⌝ }
 {
     if reserved_count(hk) {
         return Gathered::Refused;
     }
     let id = dsm_id_of(hk);
-    let kept = kept_marks(blocks, headers, marks, times, t, id, hk);
+    let kept = kept_marks(blocks, headers, present, since, t, id, hk);
     if too_high(blocks, kept, id, block_id_of(hk)) {
         return Gathered::Refused;
     }
-    store_block(blocks, headers, marks, times, t, id, kept, hk)
+    store_block(blocks, headers, present, since, t, id, kept, hk)
 }

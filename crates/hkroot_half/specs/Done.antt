@@ -10,13 +10,13 @@ abbrev pub done : Half → State → HkrootDone
 done h s = record { code = h .code; stops = h .stops; state = s }
 
 abbrev pub gathering : State → List ℕ → Store → List ℕ → List ℕ → State
-gathering s config store keys offer =
+gathering s config store public-keys offer =
     record {
       config = config;
       clocks = s .clocks;
       nav = s .nav;
       store = store;
-      keys = keys;
+      publicKeys = public-keys;
       offer = offer;
       chain = s .chain;
       tesla = s .tesla;

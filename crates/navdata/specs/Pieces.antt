@@ -7,7 +7,7 @@ use Rattle.rules.specs.Bits.{bits, bytesAt}
 
 -- the regions of words and of their stamps
 abbrev pub nav : List ℕ → List ℕ → Nav
-nav words times = record { words = words; times = times }
+nav words stamps = record { words = words; stamps = stamps }
 
 -- two bits of one word, then six of the next
 unfoldable pub seamOf : List ℕ → ℕ → ℕ → ℕ

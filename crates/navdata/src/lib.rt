@@ -40,19 +40,19 @@ fn word_place(prn: usize, kind: usize) -> usize
 // A word takes its place, with the stamp of its sub-frame.
 pub fn store_word(
     words: &mut [u8],
-    times: &mut [u32],
+    stamps: &mut [u32],
     prn: usize,
     kind: usize,
     w: &[u8],
     stamp: u32,
 )
-    requires { ⌜ ((length (now words) ≡ 2880) × (length (now times) ≡ 180)) × (length (now w) ≡ 16) ⌝ }
+    requires { ⌜ ((length (now words) ≡ 2880) × (length (now stamps) ≡ 180)) × (length (now w) ≡ 16) ⌝ }
     requires { ⌜ ((1 ≤ prn) × (prn ≤ 36)) × ((1 ≤ kind) × (kind ≤ 5)) ⌝ }
-    ensures { λ _. ⌜ nav (now (words .exit)) (now (times .exit)) ≡ wordStored (nav (now (words .entry)) (now (times .entry))) prn kind (now (w .entry)) stamp ⌝ }
+    ensures { λ _. ⌜ nav (now (words .exit)) (now (stamps .exit)) ≡ wordStored (nav (now (words .entry)) (now (stamps .entry))) prn kind (now (w .entry)) stamp ⌝ }
 {
     let place = word_place(prn, kind);
     buffer::copy_at(words, place * 16, w);
-    times[place] = stamp;
+    stamps[place] = stamp;
 }
 
 // ---- sets that can be used
@@ -69,7 +69,7 @@ pub fn word_issue(words: &[u8], prn: usize, kind: usize) -> u64
 // Words 1 to 4 have one IODnav.
 pub fn one_issue(words: &[u8], prn: usize) -> bool
     requires { ⌜ (length (now words) ≡ 2880) × ((1 ≤ prn) × (prn ≤ 36)) ⌝ }
-    ensures { λ r. ⌜ ((times : List ℕ) → r ≡ oneIssue (wordCame (nav (now (words .entry)) times) prn 1) (wordCame (nav (now (words .entry)) times) prn 2) (wordCame (nav (now (words .entry)) times) prn 3) (wordCame (nav (now (words .entry)) times) prn 4)) ⌝ }
+    ensures { λ r. ⌜ ((stamps : List ℕ) → r ≡ oneIssue (wordCame (nav (now (words .entry)) stamps) prn 1) (wordCame (nav (now (words .entry)) stamps) prn 2) (wordCame (nav (now (words .entry)) stamps) prn 3) (wordCame (nav (now (words .entry)) stamps) prn 4)) ⌝ }
 {
     let issue = word_issue(words, prn, 1);
     let two = word_issue(words, prn, 2) == issue;
@@ -79,25 +79,25 @@ pub fn one_issue(words: &[u8], prn: usize) -> bool
 }
 
 // A word of the type is held, and came in an earlier sub-frame than t.
-pub fn came_before(times: &[u32], prn: usize, t: u32, kind: usize) -> bool
-    requires { ⌜ (length (now times) ≡ 180) × (((1 ≤ prn) × (prn ≤ 36)) × ((1 ≤ kind) × (kind ≤ 5))) ⌝ }
-    ensures { λ r. ⌜ ((words : List ℕ) → r ≡ cameBefore t (wordCame (nav words (now (times .entry))) prn kind)) ⌝ }
+pub fn came_before(stamps: &[u32], prn: usize, t: u32, kind: usize) -> bool
+    requires { ⌜ (length (now stamps) ≡ 180) × (((1 ≤ prn) × (prn ≤ 36)) × ((1 ≤ kind) × (kind ≤ 5))) ⌝ }
+    ensures { λ r. ⌜ ((words : List ℕ) → r ≡ cameBefore t (wordCame (nav words (now (stamps .entry))) prn kind)) ⌝ }
 {
     let place = word_place(prn, kind);
-    let stamp = times[place];
+    let stamp = stamps[place];
     bools::both(1 <= stamp, stamp <= t)
 }
 
 // A satellite's set can be used for a section of sub-frame t.
-pub fn usable(words: &[u8], times: &[u32], prn: usize, t: u32) -> bool
-    requires { ⌜ ((length (now words) ≡ 2880) × (length (now times) ≡ 180)) × ((1 ≤ prn) × (prn ≤ 36)) ⌝ }
-    ensures { λ r. ⌜ r ≡ rules.usable (nav (now (words .entry)) (now (times .entry))) prn t ⌝ }
+pub fn usable(words: &[u8], stamps: &[u32], prn: usize, t: u32) -> bool
+    requires { ⌜ ((length (now words) ≡ 2880) × (length (now stamps) ≡ 180)) × ((1 ≤ prn) × (prn ≤ 36)) ⌝ }
+    ensures { λ r. ⌜ r ≡ rules.usable (nav (now (words .entry)) (now (stamps .entry))) prn t ⌝ }
 {
-    let one = came_before(times, prn, t, 1);
-    let two = came_before(times, prn, t, 2);
-    let three = came_before(times, prn, t, 3);
-    let four = came_before(times, prn, t, 4);
-    let five = came_before(times, prn, t, 5);
+    let one = came_before(stamps, prn, t, 1);
+    let two = came_before(stamps, prn, t, 2);
+    let three = came_before(stamps, prn, t, 3);
+    let four = came_before(stamps, prn, t, 4);
+    let five = came_before(stamps, prn, t, 5);
     let last = bools::both(four, bools::both(five, one_issue(words, prn)));
     bools::both(one, bools::both(two, bools::both(three, last)))
 }

@@ -78,47 +78,47 @@ one-node-more d h g j e p = p ∙ rw (add-one j, low-bits d 0 4 4 refl, e)
 
 -- the number and the keys after a proved key
 abbrev pub Welcomed : List ℕ → List ℕ → ℕ → List ℕ → Type 0
-Welcomed keys d code ks = (code ≡ cond (S.keyWelcome keys d) 0 9) × (ks ≡ cond (S.keyWelcome keys d) (S.keyAdded keys d) keys)
+Welcomed public-keys d code ks = (code ≡ cond (S.keyWelcome public-keys d) 0 9) × (ks ≡ cond (S.keyWelcome public-keys d) (S.keyAdded public-keys d) public-keys)
 
-module _ (keys d : List ℕ) where
-  pub same-again : K.sameKey keys (S.newIdOf d) (S.newTypeOf d) (S.newKeyOf d) ≡ true → Welcomed keys d 0 keys
+module _ (public-keys d : List ℕ) where
+  pub same-again : K.sameKey public-keys (S.newIdOf d) (S.newTypeOf d) (S.newKeyOf d) ≡ true → Welcomed public-keys d 0 public-keys
   unfolding S.keyWelcome S.keyAdded
   same-again h = rw h (refl, refl)
 
-  pub not-above : K.sameKey keys (S.newIdOf d) (S.newTypeOf d) (S.newKeyOf d) ≡ false → K.aboveAll keys (S.newIdOf d) ≡ false → Welcomed keys d 9 keys
+  pub not-above : K.sameKey public-keys (S.newIdOf d) (S.newTypeOf d) (S.newKeyOf d) ≡ false → K.aboveAll public-keys (S.newIdOf d) ≡ false → Welcomed public-keys d 9 public-keys
   unfolding S.keyWelcome S.keyAdded
   not-above h k = rw (h, k) (refl, refl)
 
-  pub added : K.sameKey keys (S.newIdOf d) (S.newTypeOf d) (S.newKeyOf d) ≡ false → K.aboveAll keys (S.newIdOf d) ≡ true
-      → (ks : List ℕ) → ks ≡ K.withKey keys (S.newIdOf d) (S.newTypeOf d) (S.newKeyOf d) → Welcomed keys d 0 ks
+  pub added : K.sameKey public-keys (S.newIdOf d) (S.newTypeOf d) (S.newKeyOf d) ≡ false → K.aboveAll public-keys (S.newIdOf d) ≡ true
+      → (ks : List ℕ) → ks ≡ K.withKey public-keys (S.newIdOf d) (S.newTypeOf d) (S.newKeyOf d) → Welcomed public-keys d 0 ks
   unfolding S.keyWelcome S.keyAdded
   added h k ks e = rw (h, k) (refl, e)
 
 -- ---- a complete DSM-PKR by its checks
 
-module _ (keys root d : List ℕ) where
+module _ (public-keys root d : List ℕ) where
   abbrev pub Judged : ℕ → Bool → List ℕ → Type 0
   Judged code stops ks =
-      (code ≡ (S.pkrJudged keys root d) .code) × ((stops ≡ (S.pkrJudged keys root d) .stops) × (ks ≡ (S.pkrJudged keys root d) .keys))
+      (code ≡ (S.pkrJudged public-keys root d) .code) × ((stops ≡ (S.pkrJudged public-keys root d) .stops) × (ks ≡ (S.pkrJudged public-keys root d) .publicKeys))
 
-  pub size-refused : S.pkrSizeBad d ≡ true → Judged 6 false keys
+  pub size-refused : S.pkrSizeBad d ≡ true → Judged 6 false public-keys
   unfolding S.pkrJudged S.pkrChecks
   size-refused h = rw h (refl, (refl, refl))
 
   module _ (fits : S.pkrSizeBad d ≡ false) where
-    pub tree-refused : S.treeProved root d ≡ false → Judged 10 false keys
+    pub tree-refused : S.treeProved root d ≡ false → Judged 10 false public-keys
     unfolding S.pkrJudged S.pkrChecks
     tree-refused h = rw (fits, h) (refl, (refl, refl))
 
     module _ (proved : S.treeProved root d ≡ true) where
-      pub stopped : S.newTypeOf d ≡ 4 → Judged 0 true keys
+      pub stopped : S.newTypeOf d ≡ 4 → Judged 0 true public-keys
       unfolding S.pkrJudged S.pkrChecks S.emergency
       stopped h = rw (fits, proved, eq-eqb (S.newTypeOf d) 4 h) (refl, (refl, refl))
 
-      pub renewed : (S.newTypeOf d ≡ 4 → ⊥) → (code : ℕ) (ks : List ℕ) → Welcomed keys d code ks → Judged code false ks
+      pub renewed : (S.newTypeOf d ≡ 4 → ⊥) → (code : ℕ) (ks : List ℕ) → Welcomed public-keys d code ks → Judged code false ks
       unfolding S.pkrJudged S.pkrChecks S.emergency
-      renewed h code ks e = go (S.keyWelcome keys d) refl
+      renewed h code ks e = go (S.keyWelcome public-keys d) refl
         where
-          go : (b : Bool) → S.keyWelcome keys d ≡ b → Judged code false ks
+          go : (b : Bool) → S.keyWelcome public-keys d ≡ b → Judged code false ks
           go true w = rw (fits, proved, ne-eqb (S.newTypeOf d) 4 h, w) (rw w at e .0, (refl, rw w at e .1))
           go false w = rw (fits, proved, ne-eqb (S.newTypeOf d) 4 h, w) (rw w at e .0, (refl, rw w at e .1))

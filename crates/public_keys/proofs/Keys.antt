@@ -35,21 +35,21 @@ unfolding filled
 length-filled n l h = simp (length-append, length-replicate) (omega arith)
 
 -- a key that is held is among those held
-pub held-among : (keys : List ℕ) (id n m : ℕ) → n < m → S.keyHeld keys (id + n) ≡ true → S.heldAmong keys id m ≡ true
+pub held-among : (public-keys : List ℕ) (id n m : ℕ) → n < m → S.keyHeld public-keys (id + n) ≡ true → S.heldAmong public-keys id m ≡ true
 unfolding S.heldAmong
-held-among keys id n zero h e = absurd (omega arith)
-held-among keys id n (suc m) h e =
+held-among public-keys id n zero h e = absurd (omega arith)
+held-among public-keys id n (suc m) h e =
     ⊎-elim
-    (λ p. rw (held-among keys id n m p e))
+    (λ p. rw (held-among public-keys id n m p e))
     (λ p.
     let q : n ≡ m = omega arith in
-    rw (← q, e) (or-true (S.heldAmong keys id n)))
+    rw (← q, e) (or-true (S.heldAmong public-keys id n)))
     (below? n m)
 
 -- one ID more that is not held
-pub held-more : (keys : List ℕ) (id n : ℕ) → S.heldAmong keys id n ≡ false → S.keyHeld keys (id + n) ≡ false → S.heldAmong keys id (n + 1) ≡ false
+pub held-more : (public-keys : List ℕ) (id n : ℕ) → S.heldAmong public-keys id n ≡ false → S.keyHeld public-keys (id + n) ≡ false → S.heldAmong public-keys id (n + 1) ≡ false
 unfolding S.heldAmong
-held-more keys id n h e = rw (add-one, h, e)
+held-more public-keys id n h e = rw (add-one, h, e)
 
 -- one element stored is a splice
 pub splice-one : (d : List ℕ) (a x : ℕ) → a < length d → set d a x ≡ splice d a (x ∷ [])
@@ -61,15 +61,15 @@ pub splice-cons : (d : List ℕ) (a x : ℕ) (s : List ℕ) → a + 1 + length s
 splice-cons d a x s h = rw (splice-one d a x (omega arith)) (splice-append d a (x ∷ []) s (omega arith))
 
 -- a key's bytes compared in whole
-pub same-key-not : (keys : List ℕ) (id type : ℕ) (key : List ℕ) → S.keyHeld keys id ≡ false → S.sameKey keys id type key ≡ false
+pub same-key-not : (public-keys : List ℕ) (id type : ℕ) (key : List ℕ) → S.keyHeld public-keys id ≡ false → S.sameKey public-keys id type key ≡ false
 unfolding S.sameKey
-same-key-not keys id type key h = rw h
+same-key-not public-keys id type key h = rw h
 
-pub same-key-other : (keys : List ℕ) (id type : ℕ) (key : List ℕ) → S.keyHeld keys id ≡ true → (S.keyType keys id ≡ type → ⊥) → S.sameKey keys id type key ≡ false
+pub same-key-other : (public-keys : List ℕ) (id type : ℕ) (key : List ℕ) → S.keyHeld public-keys id ≡ true → (S.keyType public-keys id ≡ type → ⊥) → S.sameKey public-keys id type key ≡ false
 unfolding S.sameKey
-same-key-other keys id type key h k = rw (h, ne-eqb (S.keyType keys id) type k)
+same-key-other public-keys id type key h k = rw (h, ne-eqb (S.keyType public-keys id) type k)
 
-pub same-key-bytes : (keys : List ℕ) (id type : ℕ) (key : List ℕ) → S.keyHeld keys id ≡ true → S.keyType keys id ≡ type
-    → same (S.keyBytes keys id) (filled 67 key) ≡ S.sameKey keys id type key
+pub same-key-bytes : (public-keys : List ℕ) (id type : ℕ) (key : List ℕ) → S.keyHeld public-keys id ≡ true → S.keyType public-keys id ≡ type
+    → same (S.keyBytes public-keys id) (filled 67 key) ≡ S.sameKey public-keys id type key
 unfolding S.sameKey
-same-key-bytes keys id type key h k = rw (h, eq-eqb (S.keyType keys id) type k)
+same-key-bytes public-keys id type key h k = rw (h, eq-eqb (S.keyType public-keys id) type k)

@@ -26,9 +26,9 @@ tests s =
     ∷ eqb (length (s .nav .times)) 180
     ∷ eqb (length (s .store .blocks)) 3328
     ∷ eqb (length (s .store .headers)) 16
-    ∷ eqb (length (s .store .marks)) 16
+    ∷ eqb (length (s .store .present)) 16
     ∷ eqb (length (s .store .times)) 16
-    ∷ eqb (length (s .keys)) 1088
+    ∷ eqb (length (s .publicKeys)) 1088
     ∷ eqb (length (s .offer)) 179
     ∷ eqb (length (s .chain)) 45
     ∷ eqb (length (s .tesla .numbers)) 2
@@ -48,9 +48,9 @@ lengths s e =
       stamps = eqb-true (length (s .nav .times)) 180 (test-at (tests s) e 3);
       blocks = eqb-true (length (s .store .blocks)) 3328 (test-at (tests s) e 4);
       headers = eqb-true (length (s .store .headers)) 16 (test-at (tests s) e 5);
-      marks = eqb-true (length (s .store .marks)) 16 (test-at (tests s) e 6);
+      present = eqb-true (length (s .store .present)) 16 (test-at (tests s) e 6);
       since = eqb-true (length (s .store .times)) 16 (test-at (tests s) e 7);
-      keys = eqb-true (length (s .keys)) 1088 (test-at (tests s) e 8);
+      publicKeys = eqb-true (length (s .publicKeys)) 1088 (test-at (tests s) e 8);
       offer = eqb-true (length (s .offer)) 179 (test-at (tests s) e 9);
       chain = eqb-true (length (s .chain)) 45 (test-at (tests s) e 10);
       numbers = eqb-true (length (s .tesla .numbers)) 2 (test-at (tests s) e 11);

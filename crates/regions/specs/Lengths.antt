@@ -10,13 +10,13 @@ pub record Lengths (s : State) : Type 0 where
   pub stamps : length (s .nav .times) ≡ 180
   pub blocks : length (s .store .blocks) ≡ 3328
   pub headers : length (s .store .headers) ≡ 16
-  pub marks : length (s .store .marks) ≡ 16
+  pub present : length (s .store .present) ≡ 16
   pub since : length (s .store .times) ≡ 16
-  pub keys : length (s .keys) ≡ 1088
+  pub public-keys : length (s .publicKeys) ≡ 1088
   pub offer : length (s .offer) ≡ 179
   pub chain : length (s .chain) ≡ 45
   pub numbers : length (s .tesla .numbers) ≡ 2
-  pub key : length (s .tesla .key) ≡ 32
+  pub held-key : length (s .tesla .key) ≡ 32
   pub waiting : length (s .tesla .waiting) ≡ 21504
   pub sets : length (s .auth .sets) ≡ 2484
   pub arrivals : length (s .auth .times) ≡ 36

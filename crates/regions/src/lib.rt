@@ -30,27 +30,27 @@ pub fn shaped(
     stamps: &[u32],
     blocks: &[u8],
     headers: &[u8],
-    marks: &[u16],
+    present: &[u16],
     since: &[u32],
-    keys: &[u8],
+    public_keys: &[u8],
     offer: &[u8],
     chain: &[u8],
     numbers: &[u64],
-    key: &[u8],
+    held_key: &[u8],
     waiting: &[u8],
     sets: &[u8],
     arrivals: &[u32],
 ) -> bool
-    ensures { λ r. ⌜ r ≡ rules.shaped (state (now (config .entry)) (now (clocks .entry)) (now (words .entry)) (now (stamps .entry)) (now (blocks .entry)) (now (headers .entry)) (now (marks .entry)) (now (since .entry)) (now (keys .entry)) (now (offer .entry)) (now (chain .entry)) (now (numbers .entry)) (now (key .entry)) (now (waiting .entry)) (now (sets .entry)) (now (arrivals .entry))) ⌝ }
+    ensures { λ r. ⌜ r ≡ rules.shaped (state (now (config .entry)) (now (clocks .entry)) (now (words .entry)) (now (stamps .entry)) (now (blocks .entry)) (now (headers .entry)) (now (present .entry)) (now (since .entry)) (now (public-keys .entry)) (now (offer .entry)) (now (chain .entry)) (now (numbers .entry)) (now (held-key .entry)) (now (waiting .entry)) (now (sets .entry)) (now (arrivals .entry))) ⌝ }
 {
     let last = four(
-        key.len() == 32,
+        held_key.len() == 32,
         waiting.len() == 21504,
         sets.len() == 2484,
         arrivals.len() == 36,
     );
     let third = four(
-        keys.len() == 1088,
+        public_keys.len() == 1088,
         offer.len() == 179,
         chain.len() == 45,
         numbers.len() == 2,
@@ -58,7 +58,7 @@ pub fn shaped(
     let second = four(
         blocks.len() == 3328,
         headers.len() == 16,
-        marks.len() == 16,
+        present.len() == 16,
         since.len() == 16,
     );
     let first = four(

@@ -14,7 +14,9 @@ use Rattle.rules.specs.PublicKeys.{keyLength, keyType, keyBytes, withKey
 use Rattle.rules.specs.Kroot.{krootJudged, Offer, noOffer, chainWith, chainContents, inForce, offerWaits, offerId, offerMessage, offerSignature}
 use Rattle.rules.specs.Mack.{keysProved, Proved}
 use Rattle.rules.specs.Pkr.{pkrJudged, Renewed}
-use Rattle.rules.specs.State.{State, Nav, Store, Tesla, Auth, shaped, nsOf, macltOf, treeRoot, stopped, lastSubframe, lastSubframeOf, lastWordOf, prnValid, heldSlot, waitingCount, markOf}
+use Rattle.rules.specs.State.{State, Nav, Store, Tesla, Auth, shaped, nsOf, treeRoot, stopped, lastSubframe, lastSubframeOf, lastWordOf, prnValid, heldSlot, waitingCount}
+use Rattle.rules.specs.State.{withConfig, withClocks, withNav, withStore, withPublicKeys, withOffer, withTesla, withAuth}
+use Rattle.rules.specs.State.{clocksLength, wordsLength, stampsLength, blocksLength, dsmIds, publicKeysLength, chainLength, heldKeyLength, waitingLength, setsLength, satellites}
 use Rattle.rules.specs.Tags.{Section, Work, duesJudged, ownsJudged}
 use Rattle.rules.specs.Times.{timeValid, stampOf, secondsOf}
 use Rattle.rules.specs.Verdict.{Verdict, vouchChecks, judgedVerdict, cidInForce}
@@ -72,14 +74,14 @@ unfoldable pub fresh : Start → State
 fresh x =
     record {
       config = x .ns ∷ x .maclt ∷ (x .marks ++ (x .root ++ (0 ∷ [])));
-      clocks = replicate 73 0;
-      nav = record { words = replicate 2880 0; times = replicate 180 0 };
-      store = record { blocks = replicate 3328 0; headers = replicate 16 0; marks = replicate 16 0; times = replicate 16 0 };
-      keys = withKey (replicate 1088 0) (x .id) (x .type) (take (keyLength (x .type)) (x .key));
+      clocks = replicate clocksLength 0;
+      nav = record { words = replicate wordsLength 0; stamps = replicate stampsLength 0 };
+      store = record { blocks = replicate blocksLength 0; headers = replicate dsmIds 0; present = replicate dsmIds 0; since = replicate dsmIds 0 };
+      publicKeys = withKey (replicate publicKeysLength 0) (x .id) (x .type) (take (keyLength (x .type)) (x .key));
       offer = noOffer;
-      chain = replicate 45 0;
-      tesla = record { numbers = 0 ∷ 0 ∷ []; key = replicate 32 0; waiting = replicate 21504 0 };
-      auth = record { sets = replicate 2484 0; times = replicate 36 0 };
+      chain = replicate chainLength 0;
+      tesla = record { numbers = 0 ∷ 0 ∷ []; key = replicate heldKeyLength 0; waiting = replicate waitingLength 0 };
+      auth = record { sets = replicate setsLength 0; arrivals = replicate satellites 0 };
     }
 
 unfoldable pub startCall : State → Start → Told
@@ -114,17 +116,9 @@ wordChecks s w =
 unfoldable pub wordTaken : State → Word → State
 wordTaken s w =
     cond (heldType (wordType (w .bytes)))
-    (record {
-      config = s .config;
-      clocks = set (s .clocks) (36 + w .prn) (stampOf (w .time));
-      nav = wordStored (s .nav) (w .prn) (wordType (w .bytes)) (w .bytes) (stampOf (w .time));
-      store = s .store;
-      keys = s .keys;
-      offer = s .offer;
-      chain = s .chain;
-      tesla = s .tesla;
-      auth = s .auth;
-    })
+    (withNav
+    (withClocks s (set (s .clocks) (36 + w .prn) (stampOf (w .time))))
+    (wordStored (s .nav) (w .prn) (wordType (w .bytes)) (w .bytes) (stampOf (w .time))))
     s
 
 unfoldable pub wordCall : State → Word → Told
@@ -157,60 +151,21 @@ pub record HkrootDone : Type 0 where
 -- a complete DSM: "IDs 0 to 11 are DSM-KROOT, 12 to 15 DSM-PKR."
 unfoldable pub krootDone : State → Store → ℕ → List ℕ → HkrootDone
 krootDone s store header d =
-    let j = krootJudged (s .keys) (macltOf (s .config)) (s .offer) header d in
-    record {
-      code = j .code;
-      stops = false;
-      state = record {
-        config = s .config;
-        clocks = s .clocks;
-        nav = s .nav;
-        store = store;
-        keys = s .keys;
-        offer = j .offer;
-        chain = s .chain;
-        tesla = s .tesla;
-        auth = s .auth;
-      };
-    }
+    let j = krootJudged (s .publicKeys) (s .config) (s .offer) header d in
+    record { code = j .code; stops = false; state = withOffer (withStore s store) (j .offer) }
 
 -- "A proved emergency message stops the core until a new start"
 unfoldable pub pkrDone : State → Store → List ℕ → HkrootDone
 pkrDone s store d =
-    let j = pkrJudged (s .keys) (treeRoot (s .config)) d in
+    let j = pkrJudged (s .publicKeys) (treeRoot (s .config)) d in
     record {
       code = j .code;
       stops = j .stops;
-      state = record {
-        config = cond (j .stops) (set (s .config) 62 1) (s .config);
-        clocks = s .clocks;
-        nav = s .nav;
-        store = store;
-        keys = j .keys;
-        offer = s .offer;
-        chain = s .chain;
-        tesla = s .tesla;
-        auth = s .auth;
-      };
+      state = withPublicKeys (withStore (withConfig s (cond (j .stops) (set (s .config) 62 1) (s .config))) store) (j .publicKeys);
     }
 
 unfoldable pub storeDone : State → Gathered → HkrootDone
-storeDone s g =
-    record {
-      code = g .code;
-      stops = false;
-      state = record {
-        config = s .config;
-        clocks = s .clocks;
-        nav = s .nav;
-        store = g .store;
-        keys = s .keys;
-        offer = s .offer;
-        chain = s .chain;
-        tesla = s .tesla;
-        auth = s .auth;
-      };
-    }
+storeDone s g = record { code = g .code; stops = false; state = withStore s (g .store) }
 
 unfoldable pub hkrootHalf : State → ℕ → List ℕ → HkrootDone
 hkrootHalf s t hk =
@@ -238,7 +193,7 @@ heldOf s = held (heldSlot (s .tesla .numbers)) (take ((chainOf s) .width) (s .te
 unfoldable pub sectionUnfit : State → ℕ → ℕ → Bool
 sectionUnfit s t header =
     anyOf
-    (not (inForce (macltOf (s .config)) (s .chain))
+    (not (inForce (s .config) (s .chain))
     ∷ not (within 1 2 (statusOf header))
     ∷ not (cidInForce s (cidOf header))
     ∷ ltb (secondsOf t) ((chainOf s) .root)
@@ -258,26 +213,19 @@ tagsWorked s h x =
     let c = chainOf s in
     ownsJudged (s .config) (s .nav) c h x (c .nmack * c .fields)
     (duesJudged c h (s .tesla .waiting) (waitingCount (s .tesla .numbers))
-    (record { kept = []; count = 0; sets = s .auth .sets; times = s .auth .times; records = [] }))
+    (record { kept = []; count = 0; sets = s .auth .sets; arrivals = s .auth .arrivals; records = [] }))
 
 -- "The highest proved key is then held."
 unfoldable pub sectionTaken : State → Held → Work → State
 sectionTaken s h w =
-    record {
-      config = s .config;
-      clocks = s .clocks;
-      nav = s .nav;
-      store = s .store;
-      keys = s .keys;
-      offer = s .offer;
-      chain = s .chain;
-      tesla = record {
-        numbers = h .slot ∷ w .count ∷ [];
-        key = filled 32 (h .key);
-        waiting = splice (s .tesla .waiting) 0 (w .kept);
-      };
-      auth = record { sets = w .sets; times = w .times };
-    }
+    withAuth
+    (withTesla s
+    (record {
+      numbers = h .slot ∷ w .count ∷ [];
+      key = filled heldKeyLength (h .key);
+      waiting = splice (s .tesla .waiting) 0 (w .kept);
+    }))
+    (record { sets = w .sets; arrivals = w .arrivals })
 
 unfoldable pub mackHalf : State → ℕ → ℕ → ℕ → List ℕ → MackDone
 mackHalf s prn t header mack =
@@ -315,18 +263,7 @@ subframeChecks s area x =
 
 -- "time noted": the last sub-frame over all satellites, and this one's (A10)
 unfoldable pub noted : State → Subframe → State
-noted s x =
-    record {
-      config = s .config;
-      clocks = set (set (s .clocks) 0 (stampOf (x .time))) (x .prn) (stampOf (x .time));
-      nav = s .nav;
-      store = s .store;
-      keys = s .keys;
-      offer = s .offer;
-      chain = s .chain;
-      tesla = s .tesla;
-      auth = s .auth;
-    }
+noted s x = withClocks s (set (set (s .clocks) 0 (stampOf (x .time))) (x .prn) (stampOf (x .time)))
 
 -- "The HKROOT half goes before the MACK half."; an emergency message's sub-frame "returns 0 and 4, its time noted"
 unfoldable pub halvesDone : State → List ℕ → Subframe → SubframeTold
@@ -356,7 +293,7 @@ pub record SetRead : Type 0 where
   pub time : ℕ
 
 unfoldable pub authStamp : Auth → ℕ → ℕ
-authStamp a prn = getD (a .times) (prn - 1) 0
+authStamp a prn = getD (a .arrivals) (prn - 1) 0
 
 unfoldable pub authSet : Auth → ℕ → List ℕ
 authSet a prn = part (a .sets) ((prn - 1) * 69) 69
@@ -406,8 +343,8 @@ offerRead s message signature key =
       code = 0;
       message = offerMessage (s .offer);
       signature = offerSignature (s .offer);
-      key = keyBytes (s .keys) id;
+      key = keyBytes (s .publicKeys) id;
       id = id;
-      type = keyType (s .keys) id;
+      type = keyType (s .publicKeys) id;
     })
     (record { code = code; message = message; signature = signature; key = key; id = 0; type = 0 })

@@ -27,13 +27,13 @@ headerOf hk = getD hk 0 0
 
 -- the header's NMA status (2 bits) and CID (2)
 unfoldable pub statusOf : ℕ → ℕ
-statusOf header = header / 64
+statusOf header = header / 64 % 4
 
 unfoldable pub cidOf : ℕ → ℕ
 cidOf header = header / 16 % 4
 
 unfoldable pub dsmIdOf : List ℕ → ℕ
-dsmIdOf hk = getD hk 1 0 / 16
+dsmIdOf hk = getD hk 1 0 / 16 % 16
 
 unfoldable pub blockIdOf : List ℕ → ℕ
 blockIdOf hk = getD hk 1 0 % 16
@@ -53,10 +53,10 @@ totalOf block = blocksFor (getD block 0 0 / 16)
 
 -- block k is present
 unfoldable pub marked : ℕ → ℕ → Bool
-marked marks k = eqb (marks / 2 ^ k % 2) 1
+marked present k = eqb (present / 2 ^ k % 2) 1
 
 unfoldable pub withMark : ℕ → ℕ → ℕ
-withMark marks k = cond (marked marks k) marks (marks + 2 ^ k)
+withMark present k = cond (marked present k) present (present + 2 ^ k)
 
 unfoldable pub storedBlock : List ℕ → ℕ → ℕ → List ℕ
 storedBlock blocks id k = part blocks (id * 208 + k * 13) 13
@@ -66,18 +66,18 @@ storedBlock blocks id k = part blocks (id * 208 + k * 13) 13
 -- block that came first is the oldest.
 unfoldable pub dropsBlocks : Store → ℕ → ℕ → List ℕ → Bool
 dropsBlocks s t id hk =
-    let marks = getD (s .marks) id 0 in
+    let present = getD (s .present) id 0 in
     let k = blockIdOf hk in
     anyOf
-    (ltb 3600 (secondsOf t - secondsOf (getD (s .times) id 0))
+    (ltb 3600 (secondsOf t - secondsOf (getD (s .since) id 0))
     ∷ neb (getD (s .headers) id 0) (headerOf hk)
-    ∷ (marked marks k && not (same (storedBlock (s .blocks) id k) (blockOf hk)))
-    ∷ (eqb k 0 && neb (marks / 2 ^ totalOf (blockOf hk)) 0)
+    ∷ (marked present k && not (same (storedBlock (s .blocks) id k) (blockOf hk)))
+    ∷ (eqb k 0 && neb (present / 2 ^ totalOf (blockOf hk)) 0)
     ∷ [])
 
 -- the marks that are left of an ID's blocks when this one comes
 unfoldable pub keptMarks : Store → ℕ → ℕ → List ℕ → ℕ
-keptMarks s t id hk = cond (dropsBlocks s t id hk) 0 (getD (s .marks) id 0)
+keptMarks s t id hk = cond (dropsBlocks s t id hk) 0 (getD (s .present) id 0)
 
 -- "A reserved NB drops only its block" (A25)
 unfoldable pub reservedCount : List ℕ → Bool
@@ -94,22 +94,22 @@ withBlock s t id hk =
     record {
       blocks = splice (s .blocks) (id * 208 + blockIdOf hk * 13) (blockOf hk);
       headers = set (s .headers) id (headerOf hk);
-      marks = set (s .marks) id (withMark kept (blockIdOf hk));
-      times = set (s .times) id (cond (eqb kept 0) t (getD (s .times) id 0));
+      present = set (s .present) id (withMark kept (blockIdOf hk));
+      since = set (s .since) id (cond (eqb kept 0) t (getD (s .since) id 0));
     }
 
 -- "The blocks present are marked in sixteen bits, and their number shows completeness."
 unfoldable pub complete : Store → ℕ → Bool
 complete s id =
-    let marks = getD (s .marks) id 0 in
-    marked marks 0 && eqb (ones marks) (totalOf (storedBlock (s .blocks) id 0))
+    let present = getD (s .present) id 0 in
+    marked present 0 && eqb (ones present) (totalOf (storedBlock (s .blocks) id 0))
 
 -- "A complete DSM is taken out.": its bytes, and the store without it
 unfoldable pub dsmOf : Store → ℕ → List ℕ
 dsmOf s id = part (s .blocks) (id * 208) (13 * totalOf (storedBlock (s .blocks) id 0))
 
 unfoldable pub takenOut : Store → ℕ → Store
-takenOut s id = record { blocks = s .blocks; headers = s .headers; marks = set (s .marks) id 0; times = s .times }
+takenOut s id = record { blocks = s .blocks; headers = s .headers; present = set (s .present) id 0; since = s .since }
 
 -- what the coming of a block leaves: the answer's number, the store, and the complete DSM (empty where there is none)
 pub record Gathered : Type 0 where

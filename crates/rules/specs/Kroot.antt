@@ -10,6 +10,7 @@ use Rattle.laws.specs.Lists.{part}
 use Rattle.laws.specs.Refusal.{Check, refuse, firstOf, unless, neb}
 use Rattle.rules.specs.Bits.{bits, filled, same, anyOf, within}
 use Rattle.rules.specs.PublicKeys.{keyHeld, keyType, signatureLength}
+use Rattle.rules.specs.State.{macltOf, chainLength, offerLength}
 use Rattle.rules.specs.Times.{hourSeconds}
 use Rattle.rules.specs.declared.Chain.{Chain}
 
@@ -72,8 +73,8 @@ fieldsFor nmack ks ms = (blockBits nmack - ks) / (ms + 16)
 
 -- row 8 of the table: "HF, MF or MO not 0; NMACK 0; KS code above 8, MS code above 9; other MACLT; block shorter than KS + MS + 16; hour
 -- above 167; week 0 hour 0"
-unfoldable pub parametersBad : ℕ → List ℕ → Bool
-parametersBad maclt c =
+unfoldable pub parametersBad : List ℕ → List ℕ → Bool
+parametersBad config c =
     anyOf
     (neb (hfOf c) 0
     ∷ neb (mfOf c) 0
@@ -81,7 +82,7 @@ parametersBad maclt c =
     ∷ eqb (nmackOf c) 0
     ∷ ltb 8 (ksOf c)
     ∷ ltb 9 (msOf c)
-    ∷ neb (macltFieldOf c) maclt
+    ∷ neb (macltFieldOf c) (macltOf config)
     ∷ ltb (blockBits (nmackOf c)) (8 * keyWidth (ksOf c) + tagWidth (msOf c) + 16)
     ∷ ltb 167 (rootHourOf c)
     ∷ (eqb (rootWeekOf c) 0 && eqb (rootHourOf c) 0)
@@ -105,11 +106,11 @@ unfoldable pub krootBlocks : ℕ → ℕ → ℕ
 krootBlocks width type = leastBlocks (13 + width + signatureLength type)
 
 -- "complete KROOT 7, 8, 6"
-unfoldable pub krootChecks : List ℕ → ℕ → List ℕ → List Check
-krootChecks keys maclt d =
-    refuse (not (keyHeld keys (pkidOf d))) 7
-    ∷ refuse (parametersBad maclt (contentsOf d)) 8
-    ∷ refuse (neb (length d) (13 * krootBlocks (keyWidth (ksOf (contentsOf d))) (keyType keys (pkidOf d)))) 6
+unfoldable pub krootChecks : List ℕ → List ℕ → List ℕ → List Check
+krootChecks publicKeys config d =
+    refuse (not (keyHeld publicKeys (pkidOf d))) 7
+    ∷ refuse (parametersBad config (contentsOf d)) 8
+    ∷ refuse (neb (length d) (13 * krootBlocks (keyWidth (ksOf (contentsOf d))) (keyType publicKeys (pkidOf d)))) 6
     ∷ []
 
 -- "The signed message is the NMA header, then the DSM from byte 1 through KROOT.", in 45 bytes
@@ -138,18 +139,18 @@ unfoldable pub offerSignature : List ℕ → List ℕ
 offerSignature offer = part offer 47 132
 
 unfoldable pub noOffer : List ℕ
-noOffer = replicate 179 0
+noOffer = replicate offerLength 0
 
 -- what a complete DSM-KROOT leaves: "It waits for a verdict; a newer one replaces it."
 pub record Offer : Type 0 where
   pub code : ℕ
   pub offer : List ℕ
 
-unfoldable pub krootJudged : List ℕ → ℕ → List ℕ → ℕ → List ℕ → Offer
-krootJudged keys maclt offer header d =
-    let code = firstOf (krootChecks keys maclt d) in
+unfoldable pub krootJudged : List ℕ → List ℕ → List ℕ → ℕ → List ℕ → Offer
+krootJudged publicKeys config offer header d =
+    let code = firstOf (krootChecks publicKeys config d) in
     unless code
-    (record { code = 0; offer = offered (pkidOf d) (signedMessage header d) (signatureOf d (keyType keys (pkidOf d))) })
+    (record { code = 0; offer = offered (pkidOf d) (signedMessage header d) (signatureOf d (keyType publicKeys (pkidOf d))) })
     (record { code = code; offer = offer })
 
 -- ---- the chain
@@ -172,8 +173,8 @@ unfoldable pub chainContents : List ℕ → List ℕ
 chainContents chain = part chain 1 44
 
 -- a chain is in force; contents that no DSM-KROOT brings count as none
-unfoldable pub inForce : ℕ → List ℕ → Bool
-inForce maclt chain = eqb (getD chain 0 0) 1 && not (parametersBad maclt (chainContents chain))
+unfoldable pub inForce : List ℕ → List ℕ → Bool
+inForce config chain = eqb (getD chain 0 0) 1 && not (parametersBad config (chainContents chain))
 
 -- a root was put in force since the start
 unfoldable pub everForced : List ℕ → Bool

@@ -35,7 +35,7 @@ wordAt words prn kind = part words (wordPlace prn kind * 16) 16
 -- a word in its place, with the stamp of its sub-frame
 unfoldable pub wordStored : Nav → ℕ → ℕ → List ℕ → ℕ → Nav
 wordStored n prn kind w stamp =
-    record { words = splice (n .words) (wordPlace prn kind * 16) w; times = set (n .times) (wordPlace prn kind) stamp }
+    record { words = splice (n .words) (wordPlace prn kind * 16) w; stamps = set (n .stamps) (wordPlace prn kind) stamp }
 
 -- "Authenticated are bits 6 to 125 of words 1, 2, 4, bits 6 to 127 of word 3, bits 6 to 72 of word 5: 549 bits"
 unfoldable pub setBits : List ℕ → List ℕ → List ℕ → List ℕ → List ℕ → List ℕ
@@ -59,7 +59,7 @@ pub record Came : Type 0 where
   pub stamp : ℕ
 
 unfoldable pub wordCame : Nav → ℕ → ℕ → Came
-wordCame n prn kind = record { bytes = wordAt (n .words) prn kind; stamp = getD (n .times) (wordPlace prn kind) 0 }
+wordCame n prn kind = record { bytes = wordAt (n .words) prn kind; stamp = getD (n .stamps) (wordPlace prn kind) 0 }
 
 -- a word is there, and "came in earlier sub-frames" than t (A19)
 unfoldable pub cameBefore : ℕ → Came → Bool

@@ -10,7 +10,7 @@ use Rattle.rules.specs.Kroot.{krootChecks, offered}
 use Rattle.rules.specs.Mack.{blockChecks}
 use Rattle.rules.specs.Pkr.{pkrChecks}
 use Rattle.rules.specs.Points.{Point, point, blankStart}
-use Rattle.rules.specs.State.{State}
+use Rattle.rules.specs.State.{State, withConfig, withClocks, withOffer, offerLength}
 use Rattle.rules.specs.Times.{gst}
 use Rattle.rules.specs.Verdict.{Verdict}
 use Rattle.rules.specs.declared.Chain.{Chain}
@@ -19,25 +19,17 @@ use Rattle.rules.specs.declared.Chain.{Chain}
 abbrev pub core : ℕ → List ℕ → State
 core stop offer =
     let s = fresh blankStart in
-    record {
-      config = set (s .config) 62 stop;
-      clocks = set (set (set (s .clocks) 0 (gst 1 600 + 1)) 1 (gst 1 600 + 1)) 37 (gst 1 600 + 1);
-      nav = s .nav;
-      store = s .store;
-      keys = s .keys;
-      offer = offer;
-      chain = s .chain;
-      tesla = s .tesla;
-      auth = s .auth;
-    }
+    withOffer
+    (withClocks (withConfig s (set (s .config) 62 stop)) (set (set (set (s .clocks) 0 (gst 1 600 + 1)) 1 (gst 1 600 + 1)) 37 (gst 1 600 + 1)))
+    offer
 
 abbrev pub subframeNumber : ℕ → ℕ → ℕ → ℕ → ℕ → ℕ
 subframeNumber stop len prn second fill =
-    firstOf (subframeChecks (core stop (replicate 179 0)) (replicate len 0) (record { prn = prn; time = gst 1 second; bytes = replicate 75 fill }))
+    firstOf (subframeChecks (core stop (replicate offerLength 0)) (replicate len 0) (record { prn = prn; time = gst 1 second; bytes = replicate 75 fill }))
 
 abbrev pub wordNumber : ℕ → ℕ → ℕ → ℕ → ℕ
 wordNumber stop prn second type =
-    firstOf (wordChecks (core stop (replicate 179 0)) (record { prn = prn; time = gst 1 second; bytes = type * 4 ∷ replicate 15 0 }))
+    firstOf (wordChecks (core stop (replicate offerLength 0)) (record { prn = prn; time = gst 1 second; bytes = type * 4 ∷ replicate 15 0 }))
 
 -- contents with this first byte (CIDKR, NMACK, HF, MF), KS 128, MS 12, MACLT 0, this week and hour 1
 abbrev pub contents : ℕ → ℕ → List ℕ
@@ -72,9 +64,9 @@ orders =
     ∷ point (wordNumber 0 1 570 6) 3
     ∷ point (wordNumber 0 1 600 1) 0
     -- KROOT: no key and bad parameters; bad parameters and a wrong size; a wrong size
-    ∷ point (firstOf (krootChecks [] 0 (0x20 ∷ (contents 0x24 1 ++ replicate 59 0)))) 7
-    ∷ point (firstOf (krootChecks (1 ∷ []) 0 (0x20 ∷ (contents 0x24 1 ++ replicate 59 0)))) 8
-    ∷ point (firstOf (krootChecks (1 ∷ []) 0 (0x20 ∷ (contents 0x20 1 ++ replicate 59 0)))) 6
+    ∷ point (firstOf (krootChecks [] [] (0x20 ∷ (contents 0x24 1 ++ replicate 59 0)))) 7
+    ∷ point (firstOf (krootChecks (1 ∷ []) [] (0x20 ∷ (contents 0x24 1 ++ replicate 59 0)))) 8
+    ∷ point (firstOf (krootChecks (1 ∷ []) [] (0x20 ∷ (contents 0x20 1 ++ replicate 59 0)))) 6
     -- PKR: a wrong size, and nodes that do not give the root
     ∷ point (firstOf (pkrChecks [] [] (replicate 91 0))) 6
     -- verdict: stopped and nothing waits; other bytes and bad; bad and status 0; status 1 with CIDKR not CID; good, status 1
@@ -87,7 +79,7 @@ orders =
     -- section: too far, with a key that fails and spare bits that are not 0
     ∷ point (sectionNumber 600000) 13
     -- read of a set: a wrong length and PRN 37; PRN 37 without a set; no set
-    ∷ point (firstOf (setReadChecks (core 0 (replicate 179 0)) 37 [])) 1
-    ∷ point (firstOf (setReadChecks (core 0 (replicate 179 0)) 37 (replicate 69 0))) 2
-    ∷ point (firstOf (setReadChecks (core 1 (replicate 179 0)) 36 (replicate 69 0))) 16
+    ∷ point (firstOf (setReadChecks (core 0 (replicate offerLength 0)) 37 [])) 1
+    ∷ point (firstOf (setReadChecks (core 0 (replicate offerLength 0)) 37 (replicate 69 0))) 2
+    ∷ point (firstOf (setReadChecks (core 1 (replicate offerLength 0)) 36 (replicate 69 0))) 16
     ∷ []

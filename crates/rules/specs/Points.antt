@@ -35,12 +35,12 @@ numberAtSecond second =
 -- the number for a first block 0 with this NB
 abbrev pub numberForBlocks : ℕ → ℕ
 numberForBlocks nb =
-    (gathered (record { blocks = replicate 3328 0; headers = replicate 16 0; marks = replicate 16 0; times = replicate 16 0 }) (gst 947 432000) (0x52 ∷ 0 ∷ nb * 16 ∷ replicate 12 0)) .code
+    (gathered (record { blocks = replicate 3328 0; headers = replicate 16 0; present = replicate 16 0; since = replicate 16 0 }) (gst 947 432000) (0x52 ∷ 0 ∷ nb * 16 ∷ replicate 12 0)) .code
 
 -- the number for a DSM-KROOT of KS 128, NMACK 3 and this MS code, under a held key of type 0: 7 blocks, the rest zeros
 abbrev pub numberForTagSize : ℕ → ℕ
 numberForTagSize ms =
-    firstOf (krootChecks (1 ∷ []) 0 (0x10 ∷ 0x30 ∷ (4 * 16 + ms) ∷ 0 ∷ 0x03 ∷ 0xB3 ∷ 0x78 ∷ replicate 84 0))
+    firstOf (krootChecks (1 ∷ []) [] (0x10 ∷ 0x30 ∷ (4 * 16 + ms) ∷ 0 ∷ 0x03 ∷ 0xB3 ∷ 0x78 ∷ replicate 84 0))
 
 -- the number for a key this far past the held one: the first entry of a block's checks
 abbrev pub numberForGap : ℕ → ℕ

@@ -12,15 +12,15 @@ use Rattle.rules.specs.Bits.{allOf, within}
 -- I/NAV words 1 to 5 of 36 satellites, 16 bytes each, and the stamp of each word's sub-frame
 pub record Nav : Type 0 where
   pub words : List ℕ
-  pub times : List ℕ
+  pub stamps : List ℕ
 
--- DSM blocks by DSM ID: 16 places of 13 bytes, the NMA header they came with, the marks of the blocks present (block k is worth
--- 2 ^ k), and the time of the block that came first
+-- DSM blocks by DSM ID: 16 places of 13 bytes, the NMA header they came with, the blocks present in sixteen bits (block k is worth
+-- 2 ^ k), and the GST_SF of the block that came first
 pub record Store : Type 0 where
   pub blocks : List ℕ
   pub headers : List ℕ
-  pub marks : List ℕ
-  pub times : List ℕ
+  pub present : List ℕ
+  pub since : List ℕ
 
 -- the held TESLA key and the waiting tags: numbers are the held key's slot and the count of waiting tags
 pub record Tesla : Type 0 where
@@ -31,7 +31,7 @@ pub record Tesla : Type 0 where
 -- the authentic set of each satellite, 69 bytes, and the stamp of its tag's arrival
 pub record Auth : Type 0 where
   pub sets : List ℕ
-  pub times : List ℕ
+  pub arrivals : List ℕ
 
 pub record State : Type 0 where
   -- NS, MACLT, 14 + 14 marks, tree root 32, and 1 where the core is stopped
@@ -40,8 +40,8 @@ pub record State : Type 0 where
   pub clocks : List ℕ
   pub nav : Nav
   pub store : Store
-  -- by key ID: the type plus 1 (0 where none is held), and the key in 67 bytes
-  pub keys : List ℕ
+  -- public keys by key ID: the type plus 1 (0 where none is held), and the key in 67 bytes
+  pub publicKeys : List ℕ
   -- the message that waits for a verdict: 1 (0 where none waits), key ID, message 45, signature 132
   pub offer : List ℕ
   -- 1 in force, 2 dropped, 0 where there was none; then the contents that were put in force last (44)
@@ -51,39 +51,124 @@ pub record State : Type 0 where
 
 -- the state as its sixteen regions
 abbrev pub state : List ℕ → List ℕ → List ℕ → List ℕ → List ℕ → List ℕ → List ℕ → List ℕ → List ℕ → List ℕ → List ℕ → List ℕ → List ℕ → List ℕ → List ℕ → List ℕ → State
-state config clocks words wordTimes blocks headers marks blockTimes keys offer chain numbers key waiting sets setTimes =
+state config clocks words stamps blocks headers present since publicKeys offer chain numbers key waiting sets arrivals =
     record {
       config = config;
       clocks = clocks;
-      nav = record { words = words; times = wordTimes };
-      store = record { blocks = blocks; headers = headers; marks = marks; times = blockTimes };
-      keys = keys;
+      nav = record { words = words; stamps = stamps };
+      store = record { blocks = blocks; headers = headers; present = present; since = since };
+      publicKeys = publicKeys;
       offer = offer;
       chain = chain;
       tesla = record { numbers = numbers; key = key; waiting = waiting };
-      auth = record { sets = sets; times = setTimes };
+      auth = record { sets = sets; arrivals = arrivals };
     }
+
+-- ---- the state with one part replaced
+
+abbrev pub withConfig : State → List ℕ → State
+withConfig s config = record { config = config; clocks = s .clocks; nav = s .nav; store = s .store; publicKeys = s .publicKeys; offer = s .offer; chain = s .chain; tesla = s .tesla; auth = s .auth }
+
+abbrev pub withClocks : State → List ℕ → State
+withClocks s clocks = record { config = s .config; clocks = clocks; nav = s .nav; store = s .store; publicKeys = s .publicKeys; offer = s .offer; chain = s .chain; tesla = s .tesla; auth = s .auth }
+
+abbrev pub withNav : State → Nav → State
+withNav s nav = record { config = s .config; clocks = s .clocks; nav = nav; store = s .store; publicKeys = s .publicKeys; offer = s .offer; chain = s .chain; tesla = s .tesla; auth = s .auth }
+
+abbrev pub withStore : State → Store → State
+withStore s store = record { config = s .config; clocks = s .clocks; nav = s .nav; store = store; publicKeys = s .publicKeys; offer = s .offer; chain = s .chain; tesla = s .tesla; auth = s .auth }
+
+abbrev pub withPublicKeys : State → List ℕ → State
+withPublicKeys s publicKeys = record { config = s .config; clocks = s .clocks; nav = s .nav; store = s .store; publicKeys = publicKeys; offer = s .offer; chain = s .chain; tesla = s .tesla; auth = s .auth }
+
+abbrev pub withOffer : State → List ℕ → State
+withOffer s offer = record { config = s .config; clocks = s .clocks; nav = s .nav; store = s .store; publicKeys = s .publicKeys; offer = offer; chain = s .chain; tesla = s .tesla; auth = s .auth }
+
+abbrev pub withChain : State → List ℕ → State
+withChain s chain = record { config = s .config; clocks = s .clocks; nav = s .nav; store = s .store; publicKeys = s .publicKeys; offer = s .offer; chain = chain; tesla = s .tesla; auth = s .auth }
+
+abbrev pub withTesla : State → Tesla → State
+withTesla s tesla = record { config = s .config; clocks = s .clocks; nav = s .nav; store = s .store; publicKeys = s .publicKeys; offer = s .offer; chain = s .chain; tesla = tesla; auth = s .auth }
+
+abbrev pub withAuth : State → Auth → State
+withAuth s auth = record { config = s .config; clocks = s .clocks; nav = s .nav; store = s .store; publicKeys = s .publicKeys; offer = s .offer; chain = s .chain; tesla = s .tesla; auth = auth }
+
+-- ---- lengths of the regions, in elements
+
+-- NS, MACLT, 14 + 14 marks, tree root 32, stopped
+abbrev pub configLength : ℕ
+configLength = 63
+
+-- 1 + 36 + 36
+abbrev pub clocksLength : ℕ
+clocksLength = 73
+
+-- 36 satellites, 5 words, 16 bytes
+abbrev pub wordsLength : ℕ
+wordsLength = 2880
+
+abbrev pub stampsLength : ℕ
+stampsLength = 180
+
+-- 16 DSM IDs, 16 blocks, 13 bytes
+abbrev pub blocksLength : ℕ
+blocksLength = 3328
+
+-- headers, present and since: one for each DSM ID
+abbrev pub dsmIds : ℕ
+dsmIds = 16
+
+-- 16 key IDs, 1 + 67 bytes
+abbrev pub publicKeysLength : ℕ
+publicKeysLength = 1088
+
+-- 1 + 1 + 45 + 132
+abbrev pub offerLength : ℕ
+offerLength = 179
+
+-- 1 + 44
+abbrev pub chainLength : ℕ
+chainLength = 45
+
+abbrev pub numbersLength : ℕ
+numbersLength = 2
+
+-- the widest TESLA key
+abbrev pub heldKeyLength : ℕ
+heldKeyLength = 32
+
+-- 256 places of 84 bytes
+abbrev pub waitingLength : ℕ
+waitingLength = 21504
+
+-- 36 satellites, 69 bytes
+abbrev pub setsLength : ℕ
+setsLength = 2484
+
+-- satellites that are heard
+abbrev pub satellites : ℕ
+satellites = 36
 
 -- every region has its length
 unfoldable pub shaped : State → Bool
 shaped s =
     allOf
-    (eqb (length (s .config)) 63
-    ∷ eqb (length (s .clocks)) 73
-    ∷ eqb (length (s .nav .words)) 2880
-    ∷ eqb (length (s .nav .times)) 180
-    ∷ eqb (length (s .store .blocks)) 3328
-    ∷ eqb (length (s .store .headers)) 16
-    ∷ eqb (length (s .store .marks)) 16
-    ∷ eqb (length (s .store .times)) 16
-    ∷ eqb (length (s .keys)) 1088
-    ∷ eqb (length (s .offer)) 179
-    ∷ eqb (length (s .chain)) 45
-    ∷ eqb (length (s .tesla .numbers)) 2
-    ∷ eqb (length (s .tesla .key)) 32
-    ∷ eqb (length (s .tesla .waiting)) 21504
-    ∷ eqb (length (s .auth .sets)) 2484
-    ∷ eqb (length (s .auth .times)) 36
+    (eqb (length (s .config)) configLength
+    ∷ eqb (length (s .clocks)) clocksLength
+    ∷ eqb (length (s .nav .words)) wordsLength
+    ∷ eqb (length (s .nav .stamps)) stampsLength
+    ∷ eqb (length (s .store .blocks)) blocksLength
+    ∷ eqb (length (s .store .headers)) dsmIds
+    ∷ eqb (length (s .store .present)) dsmIds
+    ∷ eqb (length (s .store .since)) dsmIds
+    ∷ eqb (length (s .publicKeys)) publicKeysLength
+    ∷ eqb (length (s .offer)) offerLength
+    ∷ eqb (length (s .chain)) chainLength
+    ∷ eqb (length (s .tesla .numbers)) numbersLength
+    ∷ eqb (length (s .tesla .key)) heldKeyLength
+    ∷ eqb (length (s .tesla .waiting)) waitingLength
+    ∷ eqb (length (s .auth .sets)) setsLength
+    ∷ eqb (length (s .auth .arrivals)) satellites
     ∷ [])
 
 -- ---- settings

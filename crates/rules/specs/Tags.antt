@@ -89,36 +89,39 @@ isDue c h t = leb (keySlot c (t .time) (t .block) (t .adkd)) (h .slot)
 
 -- ---- what the tags of a section leave
 
--- the waiting entries so far and their count, the authentic sets and their stamps, the records so far
+-- the waiting entries so far and their count, the authentic sets and the stamps of their tags' arrivals, the records so far
 pub record Work : Type 0 where
   pub kept : List ℕ
   pub count : ℕ
   pub sets : List ℕ
-  pub times : List ℕ
+  pub arrivals : List ℕ
   pub records : List ℕ
 
 -- "Outcome 1 replaces the satellite's authentic set unless that set's tag came later."
 unfoldable pub setsEntered : List ℕ → List ℕ → Tag → List ℕ → List ℕ
-setsEntered sets times t navdata = cond (ltb (stampOf (t .time)) (getD times (t .prn - 1) 0)) sets (splice sets ((t .prn - 1) * 69) navdata)
+setsEntered sets arrivals t navdata = cond (ltb (stampOf (t .time)) (getD arrivals (t .prn - 1) 0)) sets (splice sets ((t .prn - 1) * 69) navdata)
 
-unfoldable pub timesEntered : List ℕ → Tag → List ℕ
-timesEntered times t = cond (ltb (stampOf (t .time)) (getD times (t .prn - 1) 0)) times (set times (t .prn - 1) (stampOf (t .time)))
+unfoldable pub arrivalsEntered : List ℕ → Tag → List ℕ
+arrivalsEntered arrivals t = cond (ltb (stampOf (t .time)) (getD arrivals (t .prn - 1) 0)) arrivals (set arrivals (t .prn - 1) (stampOf (t .time)))
 
--- a tag that gets an outcome: its record, and for outcome 1 its set; entries that no start leaves may name no satellite or no time
+-- a tag of this outcome marks its set: outcome 1; entries that no start leaves may name no satellite or no time
+unfoldable pub marksSet : ℕ → Tag → Bool
+marksSet outcome t = eqb outcome 1 && (prnValid (t .prn) && timeValid (t .time))
+
+-- a tag that gets an outcome: its record, and for outcome 1 its set
 unfoldable pub told : ℕ → Tag → List ℕ → Work → Work
 told outcome t navdata w =
-    let marks = eqb outcome 1 && (prnValid (t .prn) && timeValid (t .time)) in
     record {
       kept = w .kept;
       count = w .count;
-      sets = cond marks (setsEntered (w .sets) (w .times) t navdata) (w .sets);
-      times = cond marks (timesEntered (w .times) t) (w .times);
+      sets = cond (marksSet outcome t) (setsEntered (w .sets) (w .arrivals) t navdata) (w .sets);
+      arrivals = cond (marksSet outcome t) (arrivalsEntered (w .arrivals) t) (w .arrivals);
       records = w .records ++ tagRecord outcome t (recordIssue outcome navdata);
     }
 
 -- a tag that waits keeps a copy of its set
 unfoldable pub kept : List ℕ → Work → Work
-kept entry w = record { kept = w .kept ++ entry; count = w .count + 1; sets = w .sets; times = w .times; records = w .records }
+kept entry w = record { kept = w .kept ++ entry; count = w .count + 1; sets = w .sets; arrivals = w .arrivals; records = w .records }
 
 -- a waiting tag: judged if it is due, else it stays
 unfoldable pub dueJudged : Chain → Held → List ℕ → Work → Work

@@ -11,7 +11,7 @@ use Rattle.rules.specs.Gather.{statusOf, cidOf}
 use Rattle.rules.specs.PublicKeys.{withoutLower}
 use Rattle.rules.specs.Kroot.{cidkrOf, nmackOf, hfOf, mfOf, ksOf, msOf, macltFieldOf, moOf, alphaOf, krootOf, rootSecondsOf, rootWeekOf, rootHourOf}
 use Rattle.rules.specs.Kroot.{offerWaits, offerId, offerMessage, offerSignature, noOffer, chainContents, inForce, everForced}
-use Rattle.rules.specs.State.{State, Tesla, macltOf, waitingCount}
+use Rattle.rules.specs.State.{State, Tesla, waitingCount, withPublicKeys, withOffer, withChain, withTesla}
 use Rattle.rules.specs.Tags.{entryAt, entryTag}
 use Rattle.rules.specs.Times.{keySeconds}
 
@@ -42,11 +42,11 @@ namesOffer offer v =
 
 -- the CID that the chain in force has (A44)
 unfoldable pub cidInForce : State → ℕ → Bool
-cidInForce s cid = inForce (macltOf (s .config)) (s .chain) && eqb (cidkrOf (chainContents (s .chain))) cid
+cidInForce s cid = inForce (s .config) (s .chain) && eqb (cidkrOf (chainContents (s .chain))) cid
 
 -- "Contents equal to those in force (message without its header)"
 unfoldable pub sameContents : State → List ℕ → Bool
-sameContents s c = inForce (macltOf (s .config)) (s .chain) && same (chainContents (s .chain)) c
+sameContents s c = inForce (s .config) (s .chain) && same (chainContents (s .chain)) c
 
 -- row 11, verdict: "status 0; status 3 with no chain or other CID; status 1 or 2 with CIDKR not CID"
 unfoldable pub statusUnfit : State → ℕ → List ℕ → Bool
@@ -61,7 +61,7 @@ statusUnfit s header c =
 unfoldable pub rootUnfit : State → List ℕ → Bool
 rootUnfit s c =
     let last = rootSecondsOf (chainContents (s .chain)) in
-    cond (inForce (macltOf (s .config)) (s .chain))
+    cond (inForce (s .config) (s .chain))
     (ltb (rootSecondsOf c) last || (eqb (rootSecondsOf c) last && not (sameContents s c)))
     (everForced (s .chain) && leb (rootSecondsOf c) last)
 
@@ -106,7 +106,7 @@ staying root waiting (suc n) =
 -- the entries that stay at the new contents
 unfoldable pub stayingAt : State → List ℕ → List ℕ
 stayingAt s c =
-    cond (inForce (macltOf (s .config)) (s .chain) && chainUnchanged (chainContents (s .chain)) c)
+    cond (inForce (s .config) (s .chain) && chainUnchanged (chainContents (s .chain)) c)
     (staying (rootSecondsOf c) (s .tesla .waiting) (waitingCount (s .tesla .numbers)))
     []
 
@@ -127,27 +127,16 @@ tagsDropped t = record { numbers = set (t .numbers) 1 0; key = t .key; waiting =
 -- ---- the effect of a verdict that is past 14
 
 abbrev pub trusting : State → List ℕ → List ℕ → Tesla → State
-trusting s keys chain tesla =
-    record {
-      config = s .config;
-      clocks = s .clocks;
-      nav = s .nav;
-      store = s .store;
-      keys = keys;
-      offer = noOffer;
-      chain = chain;
-      tesla = tesla;
-      auth = s .auth;
-    }
+trusting s publicKeys chain tesla = withTesla (withChain (withOffer (withPublicKeys s publicKeys) noOffer) chain) tesla
 
 -- "A good one answered 0 also ends the wait."
 unfoldable pub vouched : State → Verdict → State
 vouched s v =
     let header = messageHeader (v .message) in
     let c = messageContents (v .message) in
-    let lower = withoutLower (s .keys) (v .id) in
+    let lower = withoutLower (s .publicKeys) (v .id) in
     cond (eqb (statusOf header) 3)
-    (trusting s (s .keys) (set (s .chain) 0 2) (tagsDropped (s .tesla)))
+    (trusting s (s .publicKeys) (set (s .chain) 0 2) (tagsDropped (s .tesla)))
     (cond (sameContents s c)
     (trusting s lower (s .chain) (s .tesla))
     (trusting s lower (1 ∷ c) (rootHeld s c)))
@@ -155,4 +144,4 @@ vouched s v =
 -- 14 leaves all as before; 15, 11 and 9 drop the waiting message
 unfoldable pub judgedVerdict : State → Verdict → ℕ → State
 judgedVerdict s v code =
-    unless code (vouched s v) (cond (eqb code 14) s (trusting s (s .keys) (s .chain) (s .tesla)))
+    unless code (vouched s v) (cond (eqb code 14) s (trusting s (s .publicKeys) (s .chain) (s .tesla)))

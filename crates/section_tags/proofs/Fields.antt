@@ -102,7 +102,7 @@ by-wait b o t s w = cond b (kept (tagEntry t s) (told o t s w)) (told o t s w)
 
 module _ (o : ℕ) (t : Tag) (s : List ℕ) (w : Work) where
   abbrev before : Work
-  before = start (w .count) (w .sets) (w .times)
+  before = start (w .count) (w .sets) (w .arrivals)
 
   kept-by : (b : Bool) → (by-wait b o t s w) .kept ≡ w .kept ++ (by-wait b o t s before) .kept
   unfolding kept told
@@ -119,10 +119,10 @@ module _ (o : ℕ) (t : Tag) (s : List ℕ) (w : Work) where
   sets-by true = refl
   sets-by false = refl
 
-  times-by : (b : Bool) → (by-wait b o t s w) .times ≡ (by-wait b o t s before) .times
+  arrivals-by : (b : Bool) → (by-wait b o t s w) .arrivals ≡ (by-wait b o t s before) .arrivals
   unfolding kept told
-  times-by true = refl
-  times-by false = refl
+  arrivals-by true = refl
+  arrivals-by false = refl
 
   count-by : (b : Bool) → (by-wait b o t s w) .count ≡ (by-wait b o t s before) .count
   unfolding kept told
@@ -153,7 +153,7 @@ module _ (o : ℕ) (t : Tag) (s : List ℕ) (w : Work) where
 -- the same of a field
 module _ (config : List ℕ) (n : Nav) (c : Chain) (h : Held) (x : Section) (j : ℕ) (w : Work) where
   abbrev pub one : Work
-  one = ownJudged config n c h x j (start (w .count) (w .sets) (w .times))
+  one = ownJudged config n c h x j (start (w .count) (w .sets) (w .arrivals))
 
   abbrev all : Work
   all = ownJudged config n c h x j w
@@ -179,9 +179,9 @@ module _ (config : List ℕ) (n : Nav) (c : Chain) (h : Held) (x : Section) (j :
   unfolding ownJudged
   field-sets = sets-by o t s w (eqb o 5)
 
-  pub field-times : all .times ≡ one .times
+  pub field-arrivals : all .arrivals ≡ one .arrivals
   unfolding ownJudged
-  field-times = times-by o t s w (eqb o 5)
+  field-arrivals = arrivals-by o t s w (eqb o 5)
 
   pub field-count : all .count ≡ one .count
   unfolding ownJudged
@@ -216,7 +216,7 @@ module _ (config : List ℕ) (n : Nav) (c : Chain) (h : Held) (x : Section) (wai
     (l : Leaves w count at waiting area waiting₁ sets₁ times₁ area₁ r) (g : Grows w count k r)
     (m : Leaves (ownJudged config n c h x k (start r sets₁ times₁)) r (at + k) waiting₁ area₁ waiting₂ sets₂ times₂ area₂ r₂) where
   same-work : ownJudged config n c h x k (start r sets₁ times₁) ≡ one config n c h x k w
-  same-work = rw (l .sets, l .times, l .count)
+  same-work = rw (l .sets, l .arrivals, l .count)
 
   grows : Grows (ownJudged config n c h x k w) count (k + 1) r₂
   grows =
@@ -245,7 +245,7 @@ module _ (config : List ℕ) (n : Nav) (c : Chain) (h : Held) (x : Section) (wai
             ∙ rw (same-work, l .entries, field-kept config n c h x k w)
             (right-after waiting (w .kept) ((one config n c h x k w) .kept) (count * 84) (r * 84) (omega (arith, g .more, g .kept-long)) (omega arith));
         sets = m .sets ∙ rw (same-work) (sym (field-sets config n c h x k w));
-        times = m .times ∙ rw (same-work) (sym (field-times config n c h x k w));
+        arrivals = m .arrivals ∙ rw (same-work) (sym (field-arrivals config n c h x k w));
         records =
             m .records
             ∙ rw (same-work, l .records, field-records config n c h x k w)
@@ -255,44 +255,44 @@ module _ (config : List ℕ) (n : Nav) (c : Chain) (h : Held) (x : Section) (wai
 
 -- ---- what one tag leaves
 
-tells-by : (b : Bool) (o count at : ℕ) (t : Tag) (s waiting sets times area sets′ times′ area′ : List ℕ) → b ≡ false
-    → Tells (told o t s (start 0 sets times)) (at * 12) area sets′ times′ area′
-    → Leaves (by-wait b o t s (start count sets times)) count at waiting area waiting sets′ times′ area′ count
+tells-by : (b : Bool) (o count at : ℕ) (t : Tag) (s waiting sets arrivals area sets′ arrivals′ area′ : List ℕ) → b ≡ false
+    → Tells (told o t s (start 0 sets arrivals)) (at * 12) area sets′ arrivals′ area′
+    → Leaves (by-wait b o t s (start count sets arrivals)) count at waiting area waiting sets′ arrivals′ area′ count
 unfolding told
-tells-by true o count at t s waiting sets times area sets′ times′ area′ e q = true-false e
-tells-by false o count at t s waiting sets times area sets′ times′ area′ e q =
-    record { entries = sym (splice-nil waiting (count * 84)); sets = q .sets; times = q .times; records = q .records; count = refl }
+tells-by true o count at t s waiting sets arrivals area sets′ arrivals′ area′ e q = true-false e
+tells-by false o count at t s waiting sets arrivals area sets′ arrivals′ area′ e q =
+    record { entries = sym (splice-nil waiting (count * 84)); sets = q .sets; arrivals = q .arrivals; records = q .records; count = refl }
 
-waits-by : (b : Bool) (o count at : ℕ) (t : Tag) (s waiting sets times area waiting′ sets′ times′ area′ : List ℕ) → b ≡ true
-    → Tells (told o t s (start 0 sets times)) (at * 12) area sets′ times′ area′ → waiting′ ≡ splice waiting (count * 84) (tagEntry t s)
-    → Leaves (by-wait b o t s (start count sets times)) count at waiting area waiting′ sets′ times′ area′ (count + 1)
+waits-by : (b : Bool) (o count at : ℕ) (t : Tag) (s waiting sets arrivals area waiting′ sets′ arrivals′ area′ : List ℕ) → b ≡ true
+    → Tells (told o t s (start 0 sets arrivals)) (at * 12) area sets′ arrivals′ area′ → waiting′ ≡ splice waiting (count * 84) (tagEntry t s)
+    → Leaves (by-wait b o t s (start count sets arrivals)) count at waiting area waiting′ sets′ arrivals′ area′ (count + 1)
 unfolding kept told
-waits-by true o count at t s waiting sets times area waiting′ sets′ times′ area′ e q p =
-    record { entries = p; sets = q .sets; times = q .times; records = q .records; count = refl }
-waits-by false o count at t s waiting sets times area waiting′ sets′ times′ area′ e q p = true-false (sym e)
+waits-by true o count at t s waiting sets arrivals area waiting′ sets′ arrivals′ area′ e q p =
+    record { entries = p; sets = q .sets; arrivals = q .arrivals; records = q .records; count = refl }
+waits-by false o count at t s waiting sets arrivals area waiting′ sets′ arrivals′ area′ e q p = true-false (sym e)
 
-pub told-leaves : (o count at : ℕ) (t : Tag) (s waiting sets times area sets′ times′ area′ : List ℕ) → (o ≡ 5 → ⊥)
-    → Tells (told o t s (start 0 sets times)) (at * 12) area sets′ times′ area′
-    → Leaves (settled o t s (start count sets times)) count at waiting area waiting sets′ times′ area′ count
+pub told-leaves : (o count at : ℕ) (t : Tag) (s waiting sets arrivals area sets′ arrivals′ area′ : List ℕ) → (o ≡ 5 → ⊥)
+    → Tells (told o t s (start 0 sets arrivals)) (at * 12) area sets′ arrivals′ area′
+    → Leaves (settled o t s (start count sets arrivals)) count at waiting area waiting sets′ arrivals′ area′ count
 unfolding settled
-told-leaves o count at t s waiting sets times area sets′ times′ area′ p q =
-    tells-by (eqb o 5) o count at t s waiting sets times area sets′ times′ area′ (ne-eqb o 5 p) q
+told-leaves o count at t s waiting sets arrivals area sets′ arrivals′ area′ p q =
+    tells-by (eqb o 5) o count at t s waiting sets arrivals area sets′ arrivals′ area′ (ne-eqb o 5 p) q
 
-pub waits-leaves : (o count at : ℕ) (t : Tag) (s waiting sets times area waiting′ sets′ times′ area′ : List ℕ) → o ≡ 5
-    → Tells (told o t s (start 0 sets times)) (at * 12) area sets′ times′ area′ → waiting′ ≡ splice waiting (count * 84) (tagEntry t s)
-    → Leaves (settled o t s (start count sets times)) count at waiting area waiting′ sets′ times′ area′ (count + 1)
+pub waits-leaves : (o count at : ℕ) (t : Tag) (s waiting sets arrivals area waiting′ sets′ arrivals′ area′ : List ℕ) → o ≡ 5
+    → Tells (told o t s (start 0 sets arrivals)) (at * 12) area sets′ arrivals′ area′ → waiting′ ≡ splice waiting (count * 84) (tagEntry t s)
+    → Leaves (settled o t s (start count sets arrivals)) count at waiting area waiting′ sets′ arrivals′ area′ (count + 1)
 unfolding settled
-waits-leaves o count at t s waiting sets times area waiting′ sets′ times′ area′ p q e =
-    waits-by (eqb o 5) o count at t s waiting sets times area waiting′ sets′ times′ area′ (eq-eqb o 5 p) q e
+waits-leaves o count at t s waiting sets arrivals area waiting′ sets′ arrivals′ area′ p q e =
+    waits-by (eqb o 5) o count at t s waiting sets arrivals area waiting′ sets′ arrivals′ area′ (eq-eqb o 5 p) q e
 
 -- ---- no field yet, and one more of the first fields
 
-pub none-judged : (config : List ℕ) (n : Nav) (c : Chain) (h : Held) (x : Section) (waiting sets times area : List ℕ) (count at : ℕ) → count ≤ 256
-    → Leaves (ownsJudged config n c h x 0 (start count sets times)) count at waiting area waiting sets times area count
-    × Grows (ownsJudged config n c h x 0 (start count sets times)) count 0 count
+pub none-judged : (config : List ℕ) (n : Nav) (c : Chain) (h : Held) (x : Section) (waiting sets arrivals area : List ℕ) (count at : ℕ) → count ≤ 256
+    → Leaves (ownsJudged config n c h x 0 (start count sets arrivals)) count at waiting area waiting sets arrivals area count
+    × Grows (ownsJudged config n c h x 0 (start count sets arrivals)) count 0 count
 unfolding ownsJudged
-none-judged config n c h x waiting sets times area count at p = (
-  record { entries = sym (splice-nil waiting (count * 84)); sets = refl; times = refl; records = sym (splice-nil area (at * 12)); count = refl },
+none-judged config n c h x waiting sets arrivals area count at p = (
+  record { entries = sym (splice-nil waiting (count * 84)); sets = refl; arrivals = refl; records = sym (splice-nil area (at * 12)); count = refl },
   record { places = p; more = omega arith; kept-long = rw (sub-self count); records-long = refl },
 )
 

@@ -12,23 +12,23 @@ use Rattle.rules.specs.Tags.{Work, Section, ownsJudged}
 use Rattle.rules.specs.declared.Chain.{Chain}
 use Rattle.due_tags.specs.Swept.{start, Leaves, Counts}
 use Rattle.section_tags.specs.Own.{Behind, Grows}
-use Rattle.section_tags.proofs.Fields.{one, field-kept, field-records, field-sets, field-times, field-count, right-after}
+use Rattle.section_tags.proofs.Fields.{one, field-kept, field-records, field-sets, field-arrivals, field-count, right-after}
 
 module _ (config : List ℕ) (n : Nav) (c : Chain) (h : Held) (x : Section) (w : Work) where
   abbrev alone : ℕ → Work
-  alone k = ownsJudged config n c h x k (start (w .count) (w .sets) (w .times))
+  alone k = ownsJudged config n c h x k (start (w .count) (w .sets) (w .arrivals))
 
   abbrev after : ℕ → Work
   after k = ownsJudged config n c h x k w
 
   same-one : (k : ℕ) → Behind w (alone k) (after k) → one config n c h x k (after k) ≡ one config n c h x k (alone k)
-  same-one k b = rw (b .sets-are, b .times-are, b .count-is)
+  same-one k b = rw (b .sets-are, b .arrivals-are, b .count-is)
 
   -- fields only add to what is there
   pub behind : (k : ℕ) → Behind w (alone k) (after k)
   unfolding ownsJudged
   behind zero =
-      record { kept-is = sym (append-nil (w .kept)); records-are = sym (append-nil (w .records)); sets-are = refl; times-are = refl; count-is = refl }
+      record { kept-is = sym (append-nil (w .kept)); records-are = sym (append-nil (w .records)); sets-are = refl; arrivals-are = refl; count-is = refl }
   behind (suc k) =
       let b = behind k in
       let e = same-one k b in
@@ -42,7 +42,7 @@ module _ (config : List ℕ) (n : Nav) (c : Chain) (h : Held) (x : Section) (w :
             field-records config n c h x k u
             ∙ rw (e, b .records-are, field-records config n c h x k v) (append-assoc (w .records) (v .records) ((one config n c h x k v) .records));
         sets-are = field-sets config n c h x k u ∙ rw e (sym (field-sets config n c h x k v));
-        times-are = field-times config n c h x k u ∙ rw e (sym (field-times config n c h x k v));
+        arrivals-are = field-arrivals config n c h x k u ∙ rw e (sym (field-arrivals config n c h x k v));
         count-is = field-count config n c h x k u ∙ rw e (sym (field-count config n c h x k v));
       }
 
@@ -56,7 +56,7 @@ pub both-leave : (config : List ℕ) (n : Nav) (c : Chain) (h : Held) (x : Secti
     × ((length ((ownsJudged config n c h x k w) .kept) ≡ r₂ * 84) × (length ((ownsJudged config n c h x k w) .records) ≡ (m - r + k) * 12))
 both-leave config n c h x waiting area waiting₁ sets₁ times₁ area₁ waiting₂ sets₂ times₂ area₂ m k r r₂ w lw la few l d o g =
     let v = ownsJudged config n c h x k (start r sets₁ times₁) in
-    let e : v ≡ ownsJudged config n c h x k (start (w .count) (w .sets) (w .times)) = rw (l .sets, l .times, l .count) in
+    let e : v ≡ ownsJudged config n c h x k (start (w .count) (w .sets) (w .arrivals)) = rw (l .sets, l .arrivals, l .count) in
     let b : Behind w v (ownsJudged config n c h x k w) = rw e (behind config n c h x w k) in
     let gk = g .kept-long in
     let gr = g .records-long in
@@ -69,7 +69,7 @@ both-leave config n c h x waiting area waiting₁ sets₁ times₁ area₁ waiti
             o .entries
             ∙ rw (l .entries, b .kept-is) (right-after waiting (w .kept) (v .kept) 0 (r * 84) (omega arith) (omega arith));
         sets = o .sets ∙ sym (b .sets-are);
-        times = o .times ∙ sym (b .times-are);
+        arrivals = o .arrivals ∙ sym (b .arrivals-are);
         records =
             o .records
             ∙ rw (l .records, b .records-are) (right-after area (w .records) (v .records) 0 ((m - r) * 12) (omega arith) (omega arith));

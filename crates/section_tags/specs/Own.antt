@@ -48,5 +48,5 @@ pub record Behind (w v u : Work) : Type 0 where
   pub kept-is : u .kept ≡ w .kept ++ v .kept
   pub records-are : u .records ≡ w .records ++ v .records
   pub sets-are : u .sets ≡ v .sets
-  pub times-are : u .times ≡ v .times
+  pub arrivals-are : u .arrivals ≡ v .arrivals
   pub count-is : u .count ≡ v .count

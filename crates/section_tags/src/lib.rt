@@ -123,15 +123,15 @@ fn settle(
     waiting: &mut [u8],
     count: usize,
     sets: &mut [u8],
-    times: &mut [u32],
+    arrivals: &mut [u32],
     area: &mut [u8],
     at: usize,
 ) -> usize
-    requires { ⌜ ((length (now sets) ≡ 2484) × (length (now times) ≡ 36)) × ((length (now waiting) ≡ 21504) × (length (now area) ≡ 3240)) ⌝ }
+    requires { ⌜ ((length (now sets) ≡ 2484) × (length (now arrivals) ≡ 36)) × ((length (now waiting) ≡ 21504) × (length (now area) ≡ 3240)) ⌝ }
     requires { ⌜ ((length (now set) ≡ 69) × (at < 270)) × ((count ≤ 256) × (outcome ≡ 5 → count < 256)) ⌝ }
-    ensures { λ r. ⌜ Leaves (settled outcome t (now (set .entry)) (start count (now (sets .entry)) (now (times .entry)))) count at (now (waiting .entry)) (now (area .entry)) (now (waiting .exit)) (now (sets .exit)) (now (times .exit)) (now (area .exit)) r ⌝ }
+    ensures { λ r. ⌜ Leaves (settled outcome t (now (set .entry)) (start count (now (sets .entry)) (now (arrivals .entry)))) count at (now (waiting .entry)) (now (area .entry)) (now (waiting .exit)) (now (sets .exit)) (now (arrivals .exit)) (now (area .exit)) r ⌝ }
 {
-    due_tags::tell(outcome, t, set, sets, times, area, at * 12);
+    due_tags::tell(outcome, t, set, sets, arrivals, area, at * 12);
     if outcome == 5 {
         waiting_tags::put_entry(waiting, count, t, set);
         return count + 1;
@@ -155,20 +155,20 @@ fn own_one(
     waiting: &mut [u8],
     count: usize,
     sets: &mut [u8],
-    times: &mut [u32],
+    arrivals: &mut [u32],
     area: &mut [u8],
     at: usize,
 ) -> usize
     requires { ⌜ ((length (now config) ≡ 63) × (length (now words) ≡ 2880)) × ((length (now stamps) ≡ 180) × (length (now mack) ≡ 60)) ⌝ }
-    requires { ⌜ ((length (now sets) ≡ 2484) × (length (now times) ≡ 36)) × ((length (now waiting) ≡ 21504) × (length (now area) ≡ 3240)) ⌝ }
+    requires { ⌜ ((length (now sets) ≡ 2484) × (length (now arrivals) ≡ 36)) × ((length (now waiting) ≡ 21504) × (length (now area) ≡ 3240)) ⌝ }
     requires { ⌜ (Laid c × (j < c .nmack * c .fields)) × ((count ≤ 256) × (at < 270)) ⌝ }
-    ensures { λ r. ⌜ ((h : Held) → key ≡ blockKey c h time (j / c .fields) → fits ≡ macseqFits (now (config .entry)) c h (section prn time status (now (mack .entry))) → Leaves (ownJudged (now (config .entry)) (nav (now (words .entry)) (now (stamps .entry))) c h (section prn time status (now (mack .entry))) j (start count (now (sets .entry)) (now (times .entry)))) count at (now (waiting .entry)) (now (area .entry)) (now (waiting .exit)) (now (sets .exit)) (now (times .exit)) (now (area .exit)) r) ⌝ }
+    ensures { λ r. ⌜ ((h : Held) → key ≡ blockKey c h time (j / c .fields) → fits ≡ macseqFits (now (config .entry)) c h (section prn time status (now (mack .entry))) → Leaves (ownJudged (now (config .entry)) (nav (now (words .entry)) (now (stamps .entry))) c h (section prn time status (now (mack .entry))) j (start count (now (sets .entry)) (now (arrivals .entry)))) count at (now (waiting .entry)) (now (area .entry)) (now (waiting .exit)) (now (sets .exit)) (now (arrivals .exit)) (now (area .exit)) r) ⌝ }
 {
     let t = tags::own_tag(c, prn, time, status, mack, j);
     let p = heard(t.prn);
     let set = navdata::set_of(words, p);
     let outcome = outcome_of(config, words, stamps, c, key, fits, j, t, p, &set, count);
-    settle(outcome, t, &set, waiting, count, sets, times, area, at)
+    settle(outcome, t, &set, waiting, count, sets, arrivals, area, at)
 }
 
 // The tags of a section of 60 bytes that satellite `prn` sent at `time`, in order, under the held key of this slot; `count` tags wait and
@@ -188,14 +188,14 @@ pub fn judge_own(
     waiting: &mut [u8],
     count: usize,
     sets: &mut [u8],
-    times: &mut [u32],
+    arrivals: &mut [u32],
     area: &mut [u8],
     at: usize,
 ) -> usize
     requires { ⌜ ((length (now config) ≡ 63) × (length (now words) ≡ 2880)) × ((length (now stamps) ≡ 180) × (length (now mack) ≡ 60)) ⌝ }
-    requires { ⌜ ((length (now sets) ≡ 2484) × (length (now times) ≡ 36)) × ((length (now waiting) ≡ 21504) × (length (now area) ≡ 3240)) ⌝ }
+    requires { ⌜ ((length (now sets) ≡ 2484) × (length (now arrivals) ≡ 36)) × ((length (now waiting) ≡ 21504) × (length (now area) ≡ 3240)) ⌝ }
     requires { ⌜ (Walks c × Laid c) × ((slot < 2 ^ 34) × ((count ≤ 256) × (at + c .nmack * c .fields ≤ 270))) ⌝ }
-    ensures { λ r. ⌜ Leaves (ownsJudged (now (config .entry)) (nav (now (words .entry)) (now (stamps .entry))) c (held slot (take (c .width) known)) (section prn time status (now (mack .entry))) (c .nmack * c .fields) (start count (now (sets .entry)) (now (times .entry)))) count at (now (waiting .entry)) (now (area .entry)) (now (waiting .exit)) (now (sets .exit)) (now (times .exit)) (now (area .exit)) r × Grows (ownsJudged (now (config .entry)) (nav (now (words .entry)) (now (stamps .entry))) c (held slot (take (c .width) known)) (section prn time status (now (mack .entry))) (c .nmack * c .fields) (start count (now (sets .entry)) (now (times .entry)))) count (c .nmack * c .fields) r ⌝ }
+    ensures { λ r. ⌜ Leaves (ownsJudged (now (config .entry)) (nav (now (words .entry)) (now (stamps .entry))) c (held slot (take (c .width) known)) (section prn time status (now (mack .entry))) (c .nmack * c .fields) (start count (now (sets .entry)) (now (arrivals .entry)))) count at (now (waiting .entry)) (now (area .entry)) (now (waiting .exit)) (now (sets .exit)) (now (arrivals .exit)) (now (area .exit)) r × Grows (ownsJudged (now (config .entry)) (nav (now (words .entry)) (now (stamps .entry))) c (held slot (take (c .width) known)) (section prn time status (now (mack .entry))) (c .nmack * c .fields) (start count (now (sets .entry)) (now (arrivals .entry)))) count (c .nmack * c .fields) r ⌝ }
 {
     let n = (c.nmack * c.fields) as usize;
     let mut key = block_key(c, slot, known, time, 0);
@@ -219,7 +219,7 @@ pub fn judge_own(
             waiting,
             r,
             sets,
-            times,
+            arrivals,
             area,
             at + j,
         );

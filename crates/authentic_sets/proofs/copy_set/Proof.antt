@@ -13,7 +13,7 @@ use Rattle.authentic_sets.proofs.copy_set.Tie as tie
 
 returns : tie.Need-returns
 unfolding authSet
-returns c times =
+returns c arrivals =
     let g = c .before .before .before .before .before .before .args in
     let n = length-part (now (g .sets)) ((g .prn - 1) * 69) 69 (omega arith) in
     c .before .before .copy-part .ensures ∙ splice-whole (now (g .out)) (part (now (g .sets)) ((g .prn - 1) * 69) 69) (omega arith)

@@ -1,20 +1,20 @@
 -- `authentic_sets::enter_set` meets its contract: the test is the definition's own.
 -- Assumes nothing.
 use borrow.Author.Tests.{lt-ltb, le-ltb}
-use Rattle.rules.specs.Tags.{setsEntered, timesEntered}
+use Rattle.rules.specs.Tags.{setsEntered, arrivalsEntered}
 use Rattle.rules.specs.Times.{stampOf}
 use borrow.Author.Needs.{needs}
 use Rattle.authentic_sets.proofs.enter_set.Statement.{statement}
 use Rattle.authentic_sets.proofs.enter_set.Tie as tie
 
 returns : tie.Need-returns
-unfolding setsEntered timesEntered stampOf
+unfolding setsEntered arrivalsEntered stampOf
 returns c =
     let e = lt-ltb _ _ (c .if1 .taken) in
     (rw e, rw e)
 
 returns-2 : tie.Need-returns-2
-unfolding setsEntered timesEntered stampOf
+unfolding setsEntered arrivalsEntered stampOf
 returns-2 c =
     let e = le-ltb _ _ (c .before .before .before .before .if1 .left) in
     (rw e (c .before .before .copy-at .ensures), rw e)

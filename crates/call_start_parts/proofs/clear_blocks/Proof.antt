@@ -15,7 +15,7 @@ returns c =
     blocks-clear (b .last .0) (h .last .0) (m .last .0) (t .last .0)
     (cleared (now (p .args .blocks)) (b .last .0) 3328 (p .pre .0 .0) (b .ensures))
     (cleared (now (p .args .headers)) (h .last .0) 16 (p .pre .0 .1) (h .ensures))
-    (cleared (now (p .args .marks)) (m .last .0) 16 (p .pre .1 .0) (m .ensures))
+    (cleared (now (p .args .present)) (m .last .0) 16 (p .pre .1 .0) (m .ensures))
     (cleared (now (p .args .since)) (t .last .0) 16 (p .pre .1 .1) (t .ensures))
 
 pub clear-blocks-spec : {M : Type 1} → statement M

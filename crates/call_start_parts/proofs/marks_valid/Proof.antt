@@ -11,10 +11,10 @@ use Rattle.call_start_parts.proofs.marks_valid.Statement.{statement}
 use Rattle.call_start_parts.proofs.marks_valid.Tie as tie
 
 abbrev Inv-loop : tie.InvT-loop
-Inv-loop adkds ok₀ i₀ ok i = (i ≤ 28) × (ok ≡ marksValid adkds i)
+Inv-loop marks ok₀ i₀ ok i = (i ≤ 28) × (ok ≡ marksValid marks i)
 
 abbrev μ-loop : tie.MeasureT-loop
-μ-loop adkds ok₀ i₀ ok i = 28 - i
+μ-loop marks ok₀ i₀ ok i = 28 - i
 
 loop-holds : tie.Need-loop-holds Inv-loop μ-loop
 unfolding marksValid
@@ -24,14 +24,14 @@ loop-again : tie.Need-loop-again Inv-loop μ-loop
 loop-again c =
     let l = c .before .before .before .before .loop in (
       omega arith,
-      marks-more (now (c .before .before .before .before .before .before .args .adkds)) (l .i) (l .ok) (c .before .mark-valid .result) (c .both .result) (l .inv .1) (c .before .mark-valid .ensures) (c .both .ensures),
+      marks-more (now (c .before .before .before .before .before .before .args .marks)) (l .i) (l .ok) (c .before .mark-valid .result) (c .both .result) (l .inv .1) (c .before .mark-valid .ensures) (c .both .ensures),
     )
 
 returns : tie.Need-returns Inv-loop μ-loop
 returns c =
     let l = c .before .loop in
     let h : l .i ≡ 28 = omega arith in
-    l .inv .1 ∙ ap (marksValid (now (c .before .before .before .args .adkds))) h
+    l .inv .1 ∙ ap (marksValid (now (c .before .before .before .args .marks))) h
 
 pub marks-valid-spec : {M : Type 1} → statement M
 marks-valid-spec =

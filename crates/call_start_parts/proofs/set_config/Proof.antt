@@ -32,7 +32,7 @@ returns c =
     let p = c .before .before .before .before .before .before .before .before .before .before .before in
     let a = c .before .before .before .before .before .before .copy-at in
     let b = c .before .before .copy-at2 in
-    config-set (now (p .args .config)) (a .last .0) (b .last .0) (p .args .ns) (p .args .maclt) (now (p .args .adkds)) (now (p .args .root)) (p .pre .0) (p .pre .1 .0) (p .pre .1 .1) (a .ensures) (b .ensures)
+    config-set (now (p .args .config)) (a .last .0) (b .last .0) (p .args .ns) (p .args .maclt) (now (p .args .marks)) (now (p .args .root)) (p .pre .0) (p .pre .1 .0) (p .pre .1 .1) (a .ensures) (b .ensures)
 
 pub set-config-spec : {M : Type 1} → statement M
 set-config-spec =

@@ -8,17 +8,17 @@ use Rattle.due_tags.proofs.enter.Tie as tie
 enter-set-requires : tie.Need-enter-set-requires
 enter-set-requires c κs =
     let s = c .before .before .before in
-    (search needs, s .marks .ensures .1 (c .before .before .if1 .taken))
+    (search needs, s .marks-set .ensures .1 (c .before .before .if1 .taken))
 
 returns : tie.Need-returns
 returns c =
     let s = c .before .before .before .before in
-    let e = sym (s .before .before .before .before .marks .ensures .0) ∙ s .before .before .before .if1 .taken in
+    let e = sym (s .before .before .before .before .marks-set .ensures .0) ∙ s .before .before .before .if1 .taken in
     (rw e (s .enter-set .ensures .0), rw e (s .enter-set .ensures .1))
 
 returns-2 : tie.Need-returns-2
 returns-2 c =
-    let e = sym (c .before .marks .ensures .0) ∙ c .if1 .left in
+    let e = sym (c .before .marks-set .ensures .0) ∙ c .if1 .left in
     (rw e, rw e)
 
 pub enter-spec : {M : Type 1} → statement M

@@ -15,7 +15,7 @@ returns c =
     let o = s .before .before .before .before .before .before in
     let g = o .before .before .before .before .before .before .args in
     let h = held (g .slot) (take (g .c .width) (g .known)) in
-    rw (← (all-judged (g .c) h (now (g .waiting)) (o .outcomes .result) (start 0 (now (g .sets)) (now (g .times))) (g .n) (o .outcomes .ensures))) (s .sweep .ensures)
+    rw (← (all-judged (g .c) h (now (g .waiting)) (o .outcomes .result) (start 0 (now (g .sets)) (now (g .arrivals))) (g .n) (o .outcomes .ensures))) (s .sweep .ensures)
 
 pub judge-due-spec : {M : Type 1} → statement M
 judge-due-spec =

@@ -12,18 +12,18 @@ use Rattle.due_tags.proofs.sweep.Statement.{statement}
 use Rattle.due_tags.proofs.sweep.Tie as tie
 
 abbrev Inv-loop : tie.InvT-loop
-Inv-loop outcomes waiting₀ n sets₀ times₀ area₀ kept₀ k₀ waiting sets times area kept k =
-    ((k ≤ n) × ((length waiting ≡ 21504) × ((length sets ≡ 2484) × ((length times ≡ 36) × (length area ≡ 3240)))))
-    × (Leaves (swept outcomes waiting₀ k (start 0 sets₀ times₀)) 0 0 waiting₀ area₀ waiting sets times area kept
+Inv-loop outcomes waiting₀ n sets₀ times₀ area₀ kept₀ k₀ waiting sets arrivals area kept k =
+    ((k ≤ n) × ((length waiting ≡ 21504) × ((length sets ≡ 2484) × ((length arrivals ≡ 36) × (length area ≡ 3240)))))
+    × (Leaves (swept outcomes waiting₀ k (start 0 sets₀ times₀)) 0 0 waiting₀ area₀ waiting sets arrivals area kept
     × Counts (swept outcomes waiting₀ k (start 0 sets₀ times₀)) k kept)
 
 abbrev μ-loop : tie.MeasureT-loop
-μ-loop outcomes waiting₀ n sets₀ times₀ area₀ kept₀ k₀ waiting sets times area kept k = n - k
+μ-loop outcomes waiting₀ n sets₀ times₀ area₀ kept₀ k₀ waiting sets arrivals area kept k = n - k
 
 loop-holds : tie.Need-loop-holds Inv-loop μ-loop
 loop-holds c =
     let g = c .before .before .before .before .before .args in
-    ((search needs), none-swept (now (g .outcomes)) (now (g .waiting)) (now (g .sets)) (now (g .times)) (now (g .area)))
+    ((search needs), none-swept (now (g .outcomes)) (now (g .waiting)) (now (g .sets)) (now (g .arrivals)) (now (g .area)))
 
 shared-slice-read-outcome : tie.Need-shared-slice-read-outcome Inv-loop μ-loop
 shared-slice-read-outcome c = search needs
@@ -41,9 +41,9 @@ loop-again c =
     let g = a .args in
     let p = s .«sweep-one» in (
       search needs,
-      one-swept (now (g .outcomes)) (now (g .waiting)) (now (g .area)) (l .waiting) (l .sets) (l .times) (l .area)
+      one-swept (now (g .outcomes)) (now (g .waiting)) (now (g .area)) (l .waiting) (l .sets) (l .arrivals) (l .area)
           (p .last .1 .0) (p .last .1 .1 .1 .1 .0) (p .last .1 .1 .1 .1 .1 .0) (p .last .1 .1 .1 .1 .1 .1 .0)
-          (l .k) (l .kept) (p .result) (start 0 (now (g .sets)) (now (g .times)))
+          (l .k) (l .kept) (p .result) (start 0 (now (g .sets)) (now (g .arrivals)))
           (omega (arith, a .pre)) (omega (arith, a .pre)) (omega (arith, a .pre)) (l .inv .1 .0) (l .inv .1 .1) (p .ensures),
     )
 

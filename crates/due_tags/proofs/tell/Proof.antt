@@ -12,7 +12,7 @@ returns c =
     let p = e .before .before .before .before .before in
     let i = p .before .before in
     let g = i .before .before .before .before .before .args in
-    told-leaves (g .outcome) (g .at) (i .record-issue .result) (g .t) (now (g .set)) (now (g .sets)) (now (g .times)) (now (g .area))
+    told-leaves (g .outcome) (g .at) (i .record-issue .result) (g .t) (now (g .set)) (now (g .sets)) (now (g .arrivals)) (now (g .area))
     (e .enter .last .1 .1 .1 .0) (e .enter .last .1 .1 .1 .1 .0) (p .put-record .last .0)
     (i .record-issue .ensures) (p .put-record .ensures) (e .enter .ensures .0) (e .enter .ensures .1)
 

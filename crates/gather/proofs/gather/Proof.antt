@@ -25,7 +25,7 @@ high : (c : tie.After-too-high)
     → let g = entered (read c) .args in
     c .too-high .result
     ≡ Rule.tooHigh
-    (store (now (g .blocks)) (now (g .headers)) (now (g .marks)) (now (g .times)))
+    (store (now (g .blocks)) (now (g .headers)) (now (g .present)) (now (g .since)))
     (g .t)
     (Rule.dsmIdOf (now (g .hk)))
     (now (g .hk))

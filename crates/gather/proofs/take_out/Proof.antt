@@ -27,7 +27,7 @@ returns : tie.Need-returns
 returns c = ((λ h t. without-first _ _ (sym (c .before .marked .ensures) ∙ not-true _ (c .if1 .taken))), tt)
 
 cast-if2 : tie.Need-cast-if2
-cast-if2 c = omega (arith, ones-le 16 (getD (now (c .before .before .before .before .before .before .args .marks)) (c .before .before .before .before .before .before .args .id) 0) (omega (arith, c .before .before .before .slice-known2 .given (c .before .before .before .before .before .before .args .id))))
+cast-if2 c = omega (arith, ones-le 16 (getD (now (c .before .before .before .before .before .before .args .present)) (c .before .before .before .before .before .before .args .id) 0) (omega (arith, c .before .before .before .slice-known2 .given (c .before .before .before .before .before .before .args .id))))
 
 returns-2 : tie.Need-returns-2
 returns-2 c = ((λ h t. not-counted _ _ _ (sym (c .before .before .before .marked .ensures) ∙ not-false _ (c .before .before .if1 .left)) (c .before .total-of .ensures) (c .if2 .taken)), tt)

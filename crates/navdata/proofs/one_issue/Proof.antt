@@ -8,7 +8,7 @@ use Rattle.navdata.proofs.one_issue.Tie as tie
 
 returns : tie.Need-returns
 unfolding oneIssue wordCame
-returns c times =
+returns c stamps =
     rw (
       c .both2 .ensures,
       c .before .both .ensures,

@@ -17,7 +17,7 @@ returns c =
       c .before .before .both3 .ensures,
       c .before .before .before .both2 .ensures,
       c .before .before .before .before .both .ensures,
-      c .before .before .before .before .before .one-issue .ensures (now (g .times)),
+      c .before .before .before .before .before .one-issue .ensures (now (g .stamps)),
       c .before .before .before .before .before .before .came-before5 .ensures (now (g .words)),
       c .before .before .before .before .before .before .before .came-before4 .ensures (now (g .words)),
       c .before .before .before .before .before .before .before .before .came-before3 .ensures (now (g .words)),

@@ -17,14 +17,14 @@ use Rattle.section_tags.proofs.judge_own.Statement.{statement}
 use Rattle.section_tags.proofs.judge_own.Tie as tie
 
 abbrev Inv-loop : tie.InvT-loop
-Inv-loop config words stamps c slot known prn time status mack waiting₀ count sets₀ times₀ area₀ at n key₀ fits r₀ j₀ waiting sets times area key r j =
-    ((j ≤ n) × ((length waiting ≡ 21504) × ((length sets ≡ 2484) × ((length times ≡ 36) × (length area ≡ 3240)))))
+Inv-loop config words stamps c slot known prn time status mack waiting₀ count sets₀ times₀ area₀ at n key₀ fits r₀ j₀ waiting sets arrivals area key r j =
+    ((j ≤ n) × ((length waiting ≡ 21504) × ((length sets ≡ 2484) × ((length arrivals ≡ 36) × (length area ≡ 3240)))))
     × ((key ≡ blockKey c (held slot (take (c .width) known)) time ((j - 1) / c .fields))
-    × (Leaves (ownsJudged config (nav words stamps) c (held slot (take (c .width) known)) (section prn time status mack) j (start count sets₀ times₀)) count at waiting₀ area₀ waiting sets times area r
+    × (Leaves (ownsJudged config (nav words stamps) c (held slot (take (c .width) known)) (section prn time status mack) j (start count sets₀ times₀)) count at waiting₀ area₀ waiting sets arrivals area r
     × Grows (ownsJudged config (nav words stamps) c (held slot (take (c .width) known)) (section prn time status mack) j (start count sets₀ times₀)) count j r))
 
 abbrev μ-loop : tie.MeasureT-loop
-μ-loop config words stamps c slot known prn time status mack waiting₀ count sets₀ times₀ area₀ at n key₀ fits r₀ j₀ waiting sets times area key r j = n - j
+μ-loop config words stamps c slot known prn time status mack waiting₀ count sets₀ times₀ area₀ at n key₀ fits r₀ j₀ waiting sets arrivals area key r j = n - j
 
 mul-n : tie.Need-mul-n Inv-loop μ-loop
 mul-n c = omega (arith, c .before .before .before .before .before .before .before .before .before .pre .1 .1 .0 .1 .few)
@@ -49,7 +49,7 @@ loop-holds c =
       (
         k .block-key .ensures,
         none-judged (now (g .config)) (nav (now (g .words)) (now (g .stamps))) (g .c) (held (g .slot) (take (g .c .width) (g .known))) (section (g .prn) (g .time) (g .status) (now (g .mack)))
-            (now (g .waiting)) (now (g .sets)) (now (g .times)) (now (g .area)) (g .count) (g .at) (a .pre .1 .1 .1 .1 .0),
+            (now (g .waiting)) (now (g .sets)) (now (g .arrivals)) (now (g .area)) (g .count) (g .at) (a .pre .1 .1 .1 .1 .0),
       ),
     )
 
@@ -108,9 +108,9 @@ loop-again c =
       ),
       (
         k .next-key .ensures ∙ ap (λ (i : ℕ). blockKey (g .c) h (g .time) (i / g .c .fields)) (next-block (l .j)),
-        next-judged (now (g .config)) (nav (now (g .words)) (now (g .stamps))) (g .c) h x (now (g .waiting)) (now (g .area)) (l .waiting) (l .sets) (l .times) (l .area)
+        next-judged (now (g .config)) (nav (now (g .words)) (now (g .stamps))) (g .c) h x (now (g .waiting)) (now (g .area)) (l .waiting) (l .sets) (l .arrivals) (l .area)
             (p .last .1 .1 .1 .1 .1 .1 .1 .1 .1 .1 .1 .0) (p .last .1 .1 .1 .1 .1 .1 .1 .1 .1 .1 .1 .1 .1 .0) (p .last .1 .1 .1 .1 .1 .1 .1 .1 .1 .1 .1 .1 .1 .1 .0) (p .last .1 .1 .1 .1 .1 .1 .1 .1 .1 .1 .1 .1 .1 .1 .1 .0)
-            (g .count) (g .at) (l .j) (l .r) (p .result) (start (g .count) (now (g .sets)) (now (g .times)))
+            (g .count) (g .at) (l .j) (l .r) (p .result) (start (g .count) (now (g .sets)) (now (g .arrivals)))
             (omega (arith, q .1 .1 .1 .1 .1, i .loop-test .taken)) (q .1 .0 .1 .0) (q .1 .0 .1 .1) (l .inv .1 .1 .0) (l .inv .1 .1 .1)
             (p .ensures h (k .next-key .ensures)
             (macseq-is (now (g .config)) (g .c) h x (s .block-key .result) (f .macseq-fits .result) (s .block-key .ensures) (λ v e. f .macseq-fits .ensures v (g .status) e))),
