@@ -29,7 +29,7 @@ prn-in p h k = rw (le-leb 1 p h, le-leb p 36 k)
 pub time-small : (t : ℕ) → t < 4294967296 → timeValid t ≡ true → t < 4294967295
 unfolding timeValid secondOf
 time-small t h e =
-    let k : t % 2 ^ 20 ≤ 604770 = leb-true (t % 2 ^ 20) 604770 (and-left (leb (t % 2 ^ 20) 604770) (eqb (t % 2 ^ 20 % 30) 0) e) in
+    let k : t % 2 ^ 20 ≤ 604770 = leb-true (t % 2 ^ 20) 604770 (and-left (leb (t % 2 ^ 20) 604770) _ e) in
     omega (arith, k)
 
 -- a stamp of a later time

@@ -25,8 +25,8 @@ use Rattle.rules.specs.declared.Chain.{Chain}
 use Rattle.rules.specs.declared.Tag.{Tag}
 use Rattle.navdata.proofs.Sets.{length-set-of}
 use Rattle.waiting_tags.proofs.Entries.{length-tag-entry}
-use Rattle.due_tags.specs.Swept.{start, Tells, Leaves}
-use Rattle.due_tags.proofs.Arrival.{length-record}
+use Rattle.tag_records.specs.Told.{start, Tells, Leaves}
+use Rattle.tag_records.proofs.Told.{length-record}
 use Rattle.section_tags.specs.Own.{outcomeBy, settled, Grows}
 
 -- ---- outcomes

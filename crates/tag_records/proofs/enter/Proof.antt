@@ -1,9 +1,9 @@
--- `due_tags::enter` meets its contract: the set is entered just where the definition says so.
+-- `tag_records::enter` meets its contract: the set is entered just where the definition says so.
 -- Assumes nothing.
 use mathlib.Core.Path.{sym, _∙_}
 use borrow.Author.Needs.{needs}
-use Rattle.due_tags.proofs.enter.Statement.{statement}
-use Rattle.due_tags.proofs.enter.Tie as tie
+use Rattle.tag_records.proofs.enter.Statement.{statement}
+use Rattle.tag_records.proofs.enter.Tie as tie
 
 enter-set-requires : tie.Need-enter-set-requires
 enter-set-requires c κs =

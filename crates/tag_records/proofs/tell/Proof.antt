@@ -1,10 +1,10 @@
--- `due_tags::tell` meets its contract: the record and the set are the definition's own.
+-- `tag_records::tell` meets its contract: the record and the set are the definition's own.
 -- Assumes nothing.
 use denote.Ref.{now}
-use Rattle.due_tags.proofs.Arrival.{told-leaves}
+use Rattle.tag_records.proofs.Told.{told-leaves}
 use borrow.Author.Needs.{needs}
-use Rattle.due_tags.proofs.tell.Statement.{statement}
-use Rattle.due_tags.proofs.tell.Tie as tie
+use Rattle.tag_records.proofs.tell.Statement.{statement}
+use Rattle.tag_records.proofs.tell.Tie as tie
 
 returns : tie.Need-returns
 returns c =

@@ -1,4 +1,4 @@
--- `due_tags::marks_set` meets its contract: the tests are the definition's own, and a time has room for its stamp.
+-- `tag_records::marks_set` meets its contract: the tests are the definition's own, and a time has room for its stamp.
 -- Assumes nothing.
 use mathlib.Core.Path.{sym, _∙_}
 use native.Mathlib.Omega.{arith}
@@ -6,9 +6,9 @@ use borrow.Author.Needs.{needs}
 use borrow.Author.Tests.{eq-eqb, ne-eqb}
 use Rattle.laws.proofs.Tests.{true-false}
 use Rattle.regions.proofs.Faults.{prn-low, prn-high, prn-in, time-small}
-use Rattle.due_tags.specs.Swept as S
-use Rattle.due_tags.proofs.marks_set.Statement.{statement}
-use Rattle.due_tags.proofs.marks_set.Tie as tie
+use Rattle.rules.specs.Tags as S
+use Rattle.tag_records.proofs.marks_set.Statement.{statement}
+use Rattle.tag_records.proofs.marks_set.Tie as tie
 
 returns : tie.Need-returns
 unfolding S.marksSet

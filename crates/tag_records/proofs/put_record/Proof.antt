@@ -1,10 +1,10 @@
--- `tags::put_record` meets its contract: the twelve bytes are the definition's own.
+-- `tag_records::put_record` meets its contract: the twelve bytes are the definition's own.
 -- Assumes nothing.
 use Rattle.laws.specs.Bytes.{be2, be4}
 use Rattle.rules.specs.Tags.{tagRecord}
 use borrow.Author.Needs.{needs}
-use Rattle.tags.proofs.put_record.Statement.{statement}
-use Rattle.tags.proofs.put_record.Tie as tie
+use Rattle.tag_records.proofs.put_record.Statement.{statement}
+use Rattle.tag_records.proofs.put_record.Tie as tie
 
 returns : tie.Need-returns
 unfolding tagRecord be2 be4

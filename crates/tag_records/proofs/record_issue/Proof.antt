@@ -1,10 +1,10 @@
--- `tags::record_issue` meets its contract: the tests are the definition's own.
+-- `tag_records::record_issue` meets its contract: the tests are the definition's own.
 -- Assumes nothing.
 use borrow.Author.Tests.{eq-eqb, ne-eqb}
 use Rattle.rules.specs.Tags.{recordIssue}
 use borrow.Author.Needs.{needs}
-use Rattle.tags.proofs.record_issue.Statement.{statement}
-use Rattle.tags.proofs.record_issue.Tie as tie
+use Rattle.tag_records.proofs.record_issue.Statement.{statement}
+use Rattle.tag_records.proofs.record_issue.Tie as tie
 
 returns : tie.Need-returns
 unfolding recordIssue
