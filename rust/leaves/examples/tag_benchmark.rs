@@ -2,12 +2,12 @@
 //!
 //! - `tag_benchmark proved N` or `tag_benchmark second N`: N tags, of which every other one matches; prints how many did
 
-use leaves::macs::tag_matches;
+use leaves::tag_codes::tag_matches;
 use leaves::tags::Tag;
 use portable_hash::HmacKey;
+use second_receiver::navdata::NavSet;
 use second_receiver::tags;
 use second_receiver::times::Gst;
-use second_receiver::words::NavSet;
 use std::process::ExitCode;
 
 const SET: [u8; 69] = [0x58; 69];

@@ -6,12 +6,17 @@
 
 mod raw;
 
+pub mod authentic_sets;
 pub mod chain;
-pub mod dsm;
-pub mod fields;
-pub mod keys;
-pub mod macs;
-pub mod messages;
+pub mod gather;
+pub mod kroot;
+pub mod mack;
+pub mod mack_keys;
+pub mod navdata;
+pub mod pkr;
+pub mod public_keys;
+pub mod tag_codes;
+pub mod tag_records;
 pub mod tags;
 pub mod times;
-pub mod words;
+pub mod waiting_tags;

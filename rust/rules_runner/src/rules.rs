@@ -181,10 +181,7 @@ impl Rules {
 
     /// The bytes of a public key of a type (01, "a key of 29, 33, 49 or 67 bytes").
     pub fn key_len(&self, key_type: u64) -> usize {
-        self.size(
-            "rules.PublicKeys.keyLength",
-            vec![Value::Number(key_type)],
-        )
+        self.size("rules.PublicKeys.keyLength", vec![Value::Number(key_type)])
     }
 
     /// SHA-256 and HMAC-SHA-256 as they are defined.

@@ -1,12 +1,12 @@
-//! Public keys (crates/keyring).
+//! Public keys (crates/public_keys).
 
 use crate::raw;
 
 /// The region of the public keys held: for each ID the type plus 1, or 0, and 67 bytes.
 #[derive(Clone, Debug, PartialEq, Eq)]
-pub struct Keys(pub [u8; 1088]);
+pub struct Pubkeys(pub [u8; 1088]);
 
-impl Keys {
+impl Pubkeys {
     /// Whether neither this ID nor a higher one is held.
     pub fn above_all(&self, id: u8) -> Option<bool> {
         // SAFETY: the region is lent with its length; the range is as required.

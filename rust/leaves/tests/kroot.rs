@@ -1,12 +1,96 @@
-//! The message that waits and the chain's parameters beside the second receiver.
+//! DSM-KROOT, the message that waits and the contents of a chain beside the second receiver.
 
-use leaves::messages::{chain_unchanged, chain_with, in_force, names_offer, Numbers};
+mod held;
+
+use held::{any_keys, region};
+use leaves::kroot::{chain_unchanged, chain_with, in_force, kroot_judge, names_offer, Numbers};
 use second_receiver::chain::Chain;
-use second_receiver::keys::signature_len;
-use second_receiver::kroot::RootFields;
+use second_receiver::kroot::{self, RootFields};
 use second_receiver::mack::Layout;
+use second_receiver::public_keys::signature_len;
 use second_receiver::verdict::{filled, WaitingMessage};
 use signal::rng::Rng;
+
+/// A DSM-KROOT of whole blocks, most of its fields as they must be.
+fn any_dsm(rng: &mut Rng, maclt: u8) -> Vec<u8> {
+    let mut dsm = rng.bytes(13 * 16);
+    dsm[1] = if rng.once_in(8) {
+        rng.number() as u8
+    } else {
+        (rng.below(4) << 6 | rng.range(1, 3) << 4) as u8
+    };
+    if !rng.once_in(8) {
+        dsm[2] = (rng.below(10) << 4 | rng.below(11)) as u8;
+    }
+    if !rng.once_in(8) {
+        dsm[3] = maclt;
+    }
+    if !rng.once_in(8) {
+        dsm[4] &= 0xCF;
+    }
+    if !rng.once_in(8) {
+        dsm[6] = rng.below(169) as u8;
+    }
+    if rng.once_in(20) {
+        (dsm[4], dsm[5], dsm[6]) = (dsm[4] & 0xF0, 0, 0);
+    }
+    let blocks = rng.range(7, 16) as usize;
+    dsm.truncate(13 * blocks);
+    dsm
+}
+
+#[test]
+fn a_dsm_kroot_is_judged_alike() {
+    let mut rng = Rng::new(532);
+    let mut counts = [0; 9];
+    for _ in 0..30_000 {
+        let second = any_keys(&mut rng);
+        let keys = region(second.all());
+        let maclt = rng.number() as u8;
+        let mut dsm = any_dsm(&mut rng, maclt);
+        if let Some(held) = second.all().first() {
+            if !rng.once_in(3) {
+                dsm[0] = dsm[0] & 0xF0 | held.id;
+            }
+        }
+        // Often as many blocks as the message needs.
+        let padded: Vec<Vec<u8>> = (7..=16)
+            .map(|blocks| [&dsm[..], &[0x5A; 208]].concat()[..13 * blocks].to_vec())
+            .collect();
+        if let Some(fit) = padded
+            .into_iter()
+            .find(|dsm| kroot::judge(0, dsm, &second, maclt).is_ok())
+        {
+            if !rng.once_in(4) {
+                dsm = fit;
+            }
+        }
+        let header = rng.number() as u8;
+        let mut offer = rng.array::<179>();
+        let mut expected = offer;
+        let right = kroot::judge(header, &dsm, &second, maclt);
+        if let Ok(WaitingMessage {
+            key_id,
+            message,
+            signature,
+        }) = &right
+        {
+            (expected[0], expected[1]) = (1, *key_id);
+            expected[2..47].copy_from_slice(&filled::<45>(message));
+            expected[47..].copy_from_slice(&filled::<132>(signature));
+        }
+        let number = right.err().unwrap_or(0);
+        assert_eq!(
+            kroot_judge(&keys, maclt, &mut offer, header, &dsm),
+            Some(u32::from(number))
+        );
+        assert_eq!(offer, expected);
+        counts[usize::from(number)] += 1;
+    }
+    for number in [0, 6, 7, 8] {
+        assert!(counts[number] > 300, "{number}: {}", counts[number]);
+    }
+}
 
 /// Any message that waits, and the region that holds it.
 fn any_offer(rng: &mut Rng) -> (WaitingMessage, [u8; 179]) {

@@ -1,9 +1,9 @@
 //! Words and sets beside the second receiver, on any contents of the regions.
 
-use leaves::words::{set_issue, status_and_set, Nav};
+use leaves::navdata::{set_issue, status_and_set, Nav};
+use second_receiver::navdata::{NavSet, SatelliteWords, TimedWord};
 use second_receiver::tags::Tag;
 use second_receiver::times::Gst;
-use second_receiver::words::{NavSet, SatelliteWords, TimedWord};
 use signal::rng::Rng;
 
 const ROUNDS: u32 = 3_000;
@@ -13,8 +13,8 @@ const ROUNDS: u32 = 3_000;
 fn any_nav(rng: &mut Rng) -> Nav {
     let mut words = [0; 2880];
     rng.fill(&mut words);
-    let mut times = [0; 180];
-    times.fill_with(|| match rng.below(8) {
+    let mut stamps = [0; 180];
+    stamps.fill_with(|| match rng.below(8) {
         0 => 0,
         1 => u32::MAX,
         _ => 100 + rng.below(4) as u32,
@@ -33,7 +33,7 @@ fn any_nav(rng: &mut Rng) -> Nav {
             satellite[16 * rng.below(4) as usize + bit / 8] ^= 0x80 >> (bit % 8);
         }
     }
-    Nav { words, times }
+    Nav { words, stamps }
 }
 
 fn words_of(nav: &Nav, prn: usize) -> [[u8; 16]; 5] {
@@ -51,7 +51,7 @@ fn words_of(nav: &Nav, prn: usize) -> [[u8; 16]; 5] {
 fn held(nav: &Nav, prn: usize) -> SatelliteWords {
     let mut held = SatelliteWords::default();
     for (kind, bytes) in words_of(nav, prn).into_iter().enumerate() {
-        held.words[kind] = nav.times[5 * (prn - 1) + kind]
+        held.words[kind] = nav.stamps[5 * (prn - 1) + kind]
             .checked_sub(1)
             .map(|time| TimedWord {
                 bytes,
@@ -113,7 +113,7 @@ fn a_word_changes_its_place_alone() {
         let mut expected = nav.clone();
         let place = 5 * (prn - 1) + kind - 1;
         expected.words[16 * place..16 * place + 16].copy_from_slice(&word);
-        expected.times[place] = stamp;
+        expected.stamps[place] = stamp;
         nav.store(prn, kind, &word, stamp).unwrap();
         assert_eq!(nav, expected);
     }

@@ -1,6 +1,6 @@
 //! Sub-frames taken apart and DSM blocks gathered beside the second receiver.
 
-use leaves::dsm::{hkroot_of, mack_of, Store};
+use leaves::gather::{hkroot_of, mack_of, Store};
 use second_receiver::gather::{block_count, DsmStore, Gathered, Hkroot, TimedBlock};
 use second_receiver::times::Gst;
 use signal::rng::Rng;
@@ -22,11 +22,11 @@ fn a_subframe_is_taken_apart() {
 /// regions keep the first alone.
 fn held(store: &Store, id: usize) -> DsmStore {
     let mut held = DsmStore::default();
-    for k in (0..16).filter(|k| store.marks[id] >> k & 1 == 1) {
+    for k in (0..16).filter(|k| store.present[id] >> k & 1 == 1) {
         held.header = Some(store.headers[id]);
         held.blocks[k] = Some(TimedBlock {
             bytes: block(store, id, k),
-            time: Gst(store.times[id]),
+            time: Gst(store.since[id]),
         });
     }
     held
@@ -52,10 +52,10 @@ fn expected(
     };
     next.blocks[208 * id + 13 * k..][..13].copy_from_slice(&hk[2..]);
     next.headers[id] = hk[0];
-    next.marks[id] = after.marks();
+    next.present[id] = after.present();
     // A complete DSM leaves the time of its first block behind.
     if let Some(first) = after.blocks.iter().flatten().map(|b| b.time.0).min() {
-        next.times[id] = first;
+        next.since[id] = first;
     }
     let len = complete.as_ref().map_or(0, Vec::len);
     if let Some(bytes) = complete {
@@ -71,23 +71,23 @@ fn any_store(rng: &mut Rng, t: u32) -> Store {
     rng.fill(&mut store.blocks);
     rng.fill(&mut store.headers);
     for id in 0..16 {
-        store.marks[id] = match rng.below(4) {
+        store.present[id] = match rng.below(4) {
             0 => 0,
             1 => rng.number() as u16,
             _ => (rng.number() | rng.number() | rng.number()) as u16,
         };
-        store.times[id] = t - 30 * rng.below(140) as u32;
-        if store.marks[id] & 1 == 1 {
+        store.since[id] = t - 30 * rng.below(140) as u32;
+        if store.present[id] & 1 == 1 {
             let nb = rng.range(1, 10) as u8;
             let first = &mut store.blocks[208 * id];
             *first = *first & 15 | nb << 4;
-            store.marks[id] &= ((1u32 << (nb + 6)) - 1) as u16;
+            store.present[id] &= ((1u32 << (nb + 6)) - 1) as u16;
         }
         // Often one block is missing.
         let count = block_count(&block(&store, id, 0));
         if let (Some(count), true) = (count, rng.once_in(3)) {
             let all = ((1u32 << count) - 1) as u16;
-            store.marks[id] = all & !(1 << rng.below(count.into()));
+            store.present[id] = all & !(1 << rng.below(count.into()));
         }
     }
     store
@@ -110,7 +110,7 @@ fn a_block_comes_to_any_store() {
             hk[2..].copy_from_slice(&block(&store, id, k));
         }
         let mut after = held(&store, id);
-        let before = after.marks().count_ones();
+        let before = after.present().count_ones();
         let right = after.add(&Hkroot::read(&hk), Gst(t));
         let (next, answer) = expected(&store, &hk, &after, &right);
         assert_eq!(store.gather(t, &hk), answer);
@@ -118,7 +118,7 @@ fn a_block_comes_to_any_store() {
         refused += u32::from(right.is_err());
         complete += u32::from(matches!(right, Ok(Some(_))));
         dropped +=
-            u32::from(before > 1 && matches!(right, Ok(None)) && after.marks().count_ones() == 1);
+            u32::from(before > 1 && matches!(right, Ok(None)) && after.present().count_ones() == 1);
     }
     assert!(
         refused > 500 && complete > 500 && dropped > 500,

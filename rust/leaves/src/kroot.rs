@@ -1,12 +1,12 @@
-//! DSM-KROOT, DSM-PKR, the message that waits and the chain (crates/messages, crates/tree).
+//! DSM-KROOT, the message that waits and the contents of a chain (crates/kroot).
 
-use crate::keys::Keys;
+use crate::public_keys::Pubkeys;
 use crate::raw;
 
 /// A complete DSM-KROOT that came under `header` is judged: 01's number. What then waits for a verdict
 /// is in `offer`.
 pub fn kroot_judge(
-    keys: &Keys,
+    pubkeys: &Pubkeys,
     maclt: u8,
     offer: &mut [u8; 179],
     header: u8,
@@ -16,8 +16,8 @@ pub fn kroot_judge(
     // SAFETY: each region is lent with its length; lengths are as required.
     (91 <= dsm.len()).then(|| unsafe {
         raw::leaf_kroot_judge(
-            keys.0.as_ptr(),
-            keys.0.len(),
+            pubkeys.0.as_ptr(),
+            pubkeys.0.len(),
             maclt,
             offer,
             offer_len,
@@ -26,27 +26,6 @@ pub fn kroot_judge(
             dsm.len(),
         )
     })
-}
-
-/// A complete DSM-PKR is judged by the installed root: 01's number, and whether it stops the receiver. A
-/// key that it brings is then in `keys`.
-pub fn pkr_judge(keys: &mut Keys, root: &[u8], dsm: &[u8]) -> Option<(u32, bool)> {
-    if !(91..=208).contains(&dsm.len()) {
-        return None;
-    }
-    let (root, root_len) = (root.as_ptr(), root.len());
-    let (dsm, dsm_len) = (dsm.as_ptr(), dsm.len());
-    let mut again = keys.clone();
-    // SAFETY: as above.
-    let (code, stops) = unsafe {
-        let (one, other) = (keys.0.as_mut_ptr(), again.0.as_mut_ptr());
-        (
-            raw::leaf_pkr_code(one, 1088, root, root_len, dsm, dsm_len),
-            raw::leaf_pkr_stops(other, 1088, root, root_len, dsm, dsm_len),
-        )
-    };
-    assert_eq!(*keys, again);
-    Some((code, stops == 1))
 }
 
 /// Whether a verdict names what waits in `offer`.

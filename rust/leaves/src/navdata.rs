@@ -7,7 +7,7 @@ use crate::raw;
 #[derive(Clone, Debug, PartialEq, Eq)]
 pub struct Nav {
     pub words: [u8; 2880],
-    pub times: [u32; 180],
+    pub stamps: [u32; 180],
 }
 
 fn is_prn(prn: usize) -> bool {
@@ -16,14 +16,14 @@ fn is_prn(prn: usize) -> bool {
 
 impl Nav {
     pub fn store(&mut self, prn: usize, kind: usize, word: &[u8; 16], stamp: u32) -> Option<()> {
-        let (words, times) = (&mut self.words, &mut self.times);
+        let (words, stamps) = (&mut self.words, &mut self.stamps);
         // SAFETY: each pointer is lent with its length; lengths and ranges are as required.
         (is_prn(prn) && (1..=5).contains(&kind)).then(|| unsafe {
             raw::leaf_store_word(
                 words.as_mut_ptr(),
                 words.len(),
-                times.as_mut_ptr(),
-                times.len(),
+                stamps.as_mut_ptr(),
+                stamps.len(),
                 prn,
                 kind,
                 word.as_ptr(),
@@ -35,14 +35,14 @@ impl Nav {
 
     /// Whether the satellite's set can be used for a section of sub-frame `t`.
     pub fn usable(&self, prn: usize, t: u32) -> Option<bool> {
-        let (words, times) = (&self.words, &self.times);
+        let (words, stamps) = (&self.words, &self.stamps);
         // SAFETY: as above.
         is_prn(prn).then(|| unsafe {
             raw::leaf_usable(
                 words.as_ptr(),
                 words.len(),
-                times.as_ptr(),
-                times.len(),
+                stamps.as_ptr(),
+                stamps.len(),
                 prn,
                 t,
             ) == 1

@@ -1,10 +1,11 @@
-//! The codes of tags (crates/macs).
+//! The codes of tags and MACSEQ (crates/tag_codes).
 
+use crate::mack::{Layout, Section};
 use crate::raw;
-use crate::tags::Tag;
+use crate::tags::{Config, Tag};
 
 /// The longest key that the proved HMAC takes, and one byte more.
-pub(crate) const KEY_LIMIT: usize = 1 << 61;
+const KEY_LIMIT: usize = 1 << 61;
 
 /// The first n bits of the code of a message under a key.
 pub fn mac_bits(n: usize, key: &[u8], message: &[u8]) -> Option<u64> {
@@ -33,4 +34,28 @@ pub fn tag_matches(ms: u64, key: &[u8], first: bool, tag: &Tag, set: &[u8; 69]) 
             set.len(),
         ) == 1
     })
+}
+
+impl Layout {
+    /// Whether MACSEQ fits the section's flexible fields under a key.
+    pub fn macseq_fits(&self, config: &Config, section: &Section, key: &[u8]) -> Option<bool> {
+        let Layout { nmack, ms, fields } = *self;
+        let mack = &section.mack;
+        // SAFETY: as above.
+        (self.in_range() && key.len() < KEY_LIMIT).then(|| unsafe {
+            raw::leaf_macseq_fits(
+                config.as_ptr(),
+                config.len(),
+                nmack,
+                ms,
+                fields,
+                section.prn,
+                section.time,
+                mack.as_ptr(),
+                mack.len(),
+                key.as_ptr(),
+                key.len(),
+            ) == 1
+        })
+    }
 }

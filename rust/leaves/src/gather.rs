@@ -19,21 +19,21 @@ pub fn mack_of(f: &[u8; 75]) -> [u8; 60] {
 }
 
 /// The regions of the DSM blocks: 16 blocks of 13 bytes for each of 16 IDs, and for each ID the NMA
-/// header, the marks of the blocks present and the time of the first.
+/// header, the blocks present in sixteen bits and GST_SF of the block that came first.
 #[derive(Clone, Debug, PartialEq, Eq)]
 pub struct Store {
     pub blocks: [u8; 3328],
     pub headers: [u8; 16],
-    pub marks: [u16; 16],
-    pub times: [u32; 16],
+    pub present: [u16; 16],
+    pub since: [u32; 16],
 }
 
 impl Store {
     pub const EMPTY: Store = Store {
         blocks: [0; 3328],
         headers: [0; 16],
-        marks: [0; 16],
-        times: [0; 16],
+        present: [0; 16],
+        since: [0; 16],
     };
 
     /// A block comes at time `t`: 01's number, and how many bytes of a complete DSM stand in its ID's
@@ -46,10 +46,10 @@ impl Store {
                 self.blocks.len(),
                 self.headers.as_mut_ptr(),
                 self.headers.len(),
-                self.marks.as_mut_ptr(),
-                self.marks.len(),
-                self.times.as_mut_ptr(),
-                self.times.len(),
+                self.present.as_mut_ptr(),
+                self.present.len(),
+                self.since.as_mut_ptr(),
+                self.since.len(),
                 t,
                 hk,
             )
