@@ -1,4 +1,4 @@
--- `hash_edge::put_words` meets its contract: after i turns the first i words are spliced in.
+-- `test_hash::put_words` meets its contract: after i turns the first i words are spliced in.
 -- Assumes nothing.
 use mathlib.Core.Path.{_≡_, refl, ap, _∙_}
 use Prim.Native.Nat.{_-_, _≤_}
@@ -8,8 +8,8 @@ use Rattle.laws.specs.Lists.{splice}
 use Rattle.laws.proofs.Splice.{length-splice, splice-none, splice-more, splice-all}
 use borrow.Author.Needs.{needs}
 use native.Mathlib.Omega.{arith}
-use Rattle.hash_edge.proofs.put_words.Statement.{statement}
-use Rattle.hash_edge.proofs.put_words.Tie as tie
+use Rattle.test_hash.proofs.put_words.Statement.{statement}
+use Rattle.test_hash.proofs.put_words.Tie as tie
 
 abbrev Inv-loop : tie.InvT-loop
 Inv-loop dst₀ at w i₀ dst i = (i ≤ 8) × ((length w ≡ 8) × (dst ≡ splice dst₀ at (take i w)))

@@ -1,9 +1,9 @@
--- `hash_edge::get_key` meets its contract: the words are read one after the other.
+-- `test_hash::get_key` meets its contract: the words are read one after the other.
 -- Assumes nothing.
-use Rattle.hash_edge.proofs.Results.{key-read}
+use Rattle.test_hash.proofs.Results.{key-read}
 use borrow.Author.Needs.{needs}
-use Rattle.hash_edge.proofs.get_key.Statement.{statement}
-use Rattle.hash_edge.proofs.get_key.Tie as tie
+use Rattle.test_hash.proofs.get_key.Statement.{statement}
+use Rattle.test_hash.proofs.get_key.Tie as tie
 
 returns : tie.Need-returns
 returns c = key-read _ (c .before .before .before .before .before .before .before .before .before .before .before .before .before .before .before .before .pre)

@@ -1,15 +1,15 @@
--- `hash_edge::osnma_sha256` meets its contract: each refusal, and the result.
+-- `test_hash::osnma_sha256` meets its contract: each refusal, and the result.
 -- Assumes nothing.
 use mathlib.Core.Path.{_≡_}
 use lib.ListN.{length}
 use denote.Ref.{now}
 use borrow.Author.Tests.{eq-eqb, ne-eqb, le-leb, lt-leb}
-use Rattle.hash_edge.specs.Edge.{sha256Call}
-use Rattle.hash_edge.proofs.Results.{written}
+use Rattle.test_hash.specs.Calls.{sha256Call}
+use Rattle.test_hash.proofs.Results.{written}
 use borrow.Author.Needs.{needs}
 use native.Mathlib.Omega.{arith}
-use Rattle.hash_edge.proofs.osnma_sha256.Statement.{statement}
-use Rattle.hash_edge.proofs.osnma_sha256.Tie as tie
+use Rattle.test_hash.proofs.osnma_sha256.Statement.{statement}
+use Rattle.test_hash.proofs.osnma_sha256.Tie as tie
 
 returns : tie.Need-returns
 unfolding sha256Call

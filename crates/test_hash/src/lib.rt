@@ -1,5 +1,6 @@
-// SHA-256 and HMAC for C and Rust. Each call lends everything and keeps nothing; a slice is a pointer and a count of elements.
-// Each answers 0, or 1 where a length is not as it must be, and then leaves everything as it was (specs/Edge.antt).
+// SHA-256 and HMAC as exported functions. Each call lends everything and keeps nothing; a slice is a pointer and a count of elements.
+// Each answers 0, or 1 where a length is not as it must be, and then leaves everything as it was (specs/Calls.antt).
+// For the tests and the benchmark; it is no part of the receiver's own boundary.
 //   osnma_sha256          the digest of m, into 32 bytes
 //   osnma_sha256_of_two   the digest of a and then b, into 32 bytes
 //   osnma_hmac            the code of m under a key, into 32 bytes
@@ -11,7 +12,7 @@ ghost use Prim.Native.Nat.{_+_, _≤_};
 ghost use lib.ListN.{length};
 ghost use Rattle.laws.specs.Lists.{splice};
 ghost use Rattle.sha256.specs.Sha256.{compress};
-ghost use Rattle.hash_edge.specs.Edge.{
+ghost use Rattle.test_hash.specs.Calls.{
   answer,
   sha256Call,
   sha256OfTwoCall,
@@ -25,19 +26,23 @@ ghost use Rattle.hash_edge.specs.Edge.{
 // 2 ^ 61 bytes: SHA-256 takes messages of fewer.
 const LIMIT: usize = 2305843009213693952;
 
+// The answers.
+const WRITTEN: u32 = 0;
+const REFUSED: u32 = 1;
+
 #[no_mangle]
 pub extern "C" fn osnma_sha256(m: &[u8], out: &mut [u8]) -> u32
     ensures { λ r. ⌜ answer r (now (out .exit)) ≡ sha256Call (now (m .entry)) (now (out .entry)) ⌝ }
 {
     if out.len() != 32 {
-        return 1;
+        return REFUSED;
     }
     if LIMIT <= m.len() {
-        return 1;
+        return REFUSED;
     }
     let d = sha256::sha256(m);
     buffer::copy_at(out, 0, &d);
-    0
+    WRITTEN
 }
 
 #[no_mangle]
@@ -45,20 +50,20 @@ pub extern "C" fn osnma_sha256_of_two(a: &[u8], b: &[u8], out: &mut [u8]) -> u32
     ensures { λ r. ⌜ answer r (now (out .exit)) ≡ sha256OfTwoCall (now (a .entry)) (now (b .entry)) (now (out .entry)) ⌝ }
 {
     if out.len() != 32 {
-        return 1;
+        return REFUSED;
     }
     if LIMIT <= a.len() {
-        return 1;
+        return REFUSED;
     }
     if LIMIT <= b.len() {
-        return 1;
+        return REFUSED;
     }
     if LIMIT <= a.len() + b.len() {
-        return 1;
+        return REFUSED;
     }
     let d = sha256::sha256_of_two(a, b);
     buffer::copy_at(out, 0, &d);
-    0
+    WRITTEN
 }
 
 #[no_mangle]
@@ -66,17 +71,17 @@ pub extern "C" fn osnma_hmac(key: &[u8], m: &[u8], out: &mut [u8]) -> u32
     ensures { λ r. ⌜ answer r (now (out .exit)) ≡ hmacCall (now (key .entry)) (now (m .entry)) (now (out .entry)) ⌝ }
 {
     if out.len() != 32 {
-        return 1;
+        return REFUSED;
     }
     if LIMIT <= key.len() {
-        return 1;
+        return REFUSED;
     }
     if LIMIT - 64 <= m.len() {
-        return 1;
+        return REFUSED;
     }
     let d = hmac::hmac(key, m);
     buffer::copy_at(out, 0, &d);
-    0
+    WRITTEN
 }
 
 #[no_mangle]
@@ -84,13 +89,13 @@ pub extern "C" fn osnma_hmac_key(key: &[u8], state: &mut [u32]) -> u32
     ensures { λ r. ⌜ answer r (now (state .exit)) ≡ hmacKeyCall (now (key .entry)) (now (state .entry)) ⌝ }
 {
     if state.len() != 16 {
-        return 1;
+        return REFUSED;
     }
     if LIMIT <= key.len() {
-        return 1;
+        return REFUSED;
     }
     put_key(state, hmac::hmac_key(key));
-    0
+    WRITTEN
 }
 
 #[no_mangle]
@@ -98,17 +103,17 @@ pub extern "C" fn osnma_hmac_with(state: &[u32], m: &[u8], out: &mut [u8]) -> u3
     ensures { λ r. ⌜ answer r (now (out .exit)) ≡ hmacWithCall (now (state .entry)) (now (m .entry)) (now (out .entry)) ⌝ }
 {
     if state.len() != 16 {
-        return 1;
+        return REFUSED;
     }
     if out.len() != 32 {
-        return 1;
+        return REFUSED;
     }
     if LIMIT - 64 <= m.len() {
-        return 1;
+        return REFUSED;
     }
     let d = hmac::hmac_with(get_key(state), m);
     buffer::copy_at(out, 0, &d);
-    0
+    WRITTEN
 }
 
 #[no_mangle]

@@ -10,7 +10,7 @@ use Rattle.laws.specs.Lists.{part, splice}
 use Rattle.laws.proofs.Elements.{written-out}
 use Rattle.laws.proofs.Splice.{splice-whole, splice-append}
 use Rattle.hmac.specs.declared.HmacKey.{HmacKey}
-use Rattle.hash_edge.specs.Edge.{words, keyIn}
+use Rattle.test_hash.specs.Calls.{words, keyIn}
 
 pub written : (n : ℕ) (out d x r : List ℕ) → length out ≡ n → length d ≡ n → d ≡ x → r ≡ splice out 0 d → r ≡ x
 written n out d x r e f p q = q ∙ splice-whole out d (omega arith) ∙ p

@@ -1,12 +1,12 @@
--- `hash_edge::put_key` meets its contract: the outer words are written where the inner ones end.
+-- `test_hash::put_key` meets its contract: the outer words are written where the inner ones end.
 -- Assumes nothing.
 use mathlib.Core.Path.{_≡_}
 use lib.ListN.{length}
 use denote.Ref.{now}
-use Rattle.hash_edge.proofs.Results.{words-written}
+use Rattle.test_hash.proofs.Results.{words-written}
 use borrow.Author.Needs.{needs}
-use Rattle.hash_edge.proofs.put_key.Statement.{statement}
-use Rattle.hash_edge.proofs.put_key.Tie as tie
+use Rattle.test_hash.proofs.put_key.Statement.{statement}
+use Rattle.test_hash.proofs.put_key.Tie as tie
 
 length-inner : (c : tie.Start) → length (c .args .k .inner) ≡ 8
 length-inner c = search needs
