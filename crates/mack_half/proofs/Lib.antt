@@ -1,2 +1,2 @@
 -- Laws of the MACK half.
-mod Sections
+pub mod Sections

@@ -2,26 +2,30 @@
 -- Assumes nothing.
 use mathlib.Core.Path.{_≡_, refl, sym, ap, _∙_}
 use mathlib.Core.Bool.{Bool, true, false, not, _&&_, _||_}
-use mathlib.Core.List.{List, []}
+use mathlib.Core.List.{List, [], _∷_}
 use Prim.Native.Nat.{ℕ, zero, suc, _*_, _<_, _≤_}
 use native.Mathlib.Omega.{arith}
 use lib.Dec.{leb, ltb, eqb}
-use lib.ListN.{length}
-use borrow.Author.Tests.{le-leb, lt-leb, eq-eqb, ne-eqb}
+use lib.ListN.{length, getD, set}
+use borrow.Author.Tests.{le-leb, lt-leb, eq-eqb, ne-eqb, not-true}
 use Rattle.laws.specs.Lists.{splice}
 use Rattle.laws.specs.Refusal.{unless}
 use Rattle.laws.proofs.Splice.{splice-nil}
-use Rattle.laws.proofs.Tests.{or-false}
+use Rattle.laws.proofs.Tests.{or-false, and-right}
 use Rattle.rules.specs.Bits.{within}
 use Rattle.rules.specs.Calls.{MackDone, chainOf, heldOf, sectionUnfit, sectionProved, tagsWorked, sectionTaken, mackHalf}
 use Rattle.rules.specs.Gather.{statusOf, cidOf}
-use Rattle.rules.specs.Kroot.{inForce, cidkrOf, rootSecondsOf, chainContents, chainWith}
+use Rattle.rules.specs.Kroot.{inForce, parametersBad, cidkrOf, rootSecondsOf, chainContents, chainWith}
 use Rattle.rules.specs.Mack.{Proved, keysProved}
 use Rattle.rules.specs.State.{State, Tesla, Auth}
 use Rattle.rules.specs.Verdict.{cidInForce}
 use Rattle.rules.specs.Times.{secondsOf}
 use Rattle.rules.specs.Tags.{Work}
-use Rattle.tags.specs.Layout.{section}
+use Rattle.rules.specs.declared.Chain.{Chain}
+use Rattle.chain.specs.Sound.{Sound}
+use Rattle.chain.proofs.Bounds.{chain-sound}
+use Rattle.section_tags.proofs.Forced.{chain-laid}
+use Rattle.tags.specs.Layout.{Laid, section}
 use Rattle.mack_half.specs.Half.{judging, Gives}
 
 -- the same regions are the same state
@@ -87,3 +91,19 @@ module _ (s : State) (config chain : List ℕ) (t header : ℕ) (ec : s .config 
       by-root q =
           rw (ec, eh, e, le-leb 1 (statusOf header) l, le-leb (statusOf header) 2 h, eq-eqb _ _ q)
           (sym (or-false (ltb (secondsOf t) (rootSecondsOf (chainContents chain)))))
+
+-- ---- the chain in force, and what is held
+
+-- the numbers of a chain in force are in range, and its blocks are laid out
+pub chain-fits : (config chain : List ℕ) (ns : ℕ) (c : Chain) → c ≡ chainWith ns (chainContents chain) → 1 ≤ ns → ns ≤ 36 → inForce config chain ≡ true → Sound c × Laid c
+unfolding inForce
+chain-fits config chain ns c e l h f =
+    let b = not-true (parametersBad config (chainContents chain)) (and-right (eqb (getD chain 0 0) 1) (not (parametersBad config (chainContents chain))) f) in
+    rw e (chain-sound ns config (chainContents chain) l h b, chain-laid ns config (chainContents chain) l h b)
+
+-- two numbers are all of their region
+pub two-numbers : (l : List ℕ) (a b : ℕ) → length l ≡ 2 → set (set l 0 a) 1 b ≡ a ∷ b ∷ []
+two-numbers (x ∷ y ∷ []) a b e = refl
+two-numbers [] a b e = absurd (omega (arith, e))
+two-numbers (x ∷ []) a b e = absurd (omega (arith, e))
+two-numbers (x ∷ y ∷ z ∷ l) a b e = absurd (omega (arith, e))

@@ -63,7 +63,7 @@ returns c =
         _ _ _ _ (g .n) (g .c .nmack * g .c .fields) (d .judge-due .result) (o .judge-own .result) w
         (a .pre .1 .0 .1 .0) (a .pre .1 .0 .1 .1) (omega (arith, few d, a .pre .1 .1 .0 .1 .few))
         (d .judge-due .ensures .0) (d .judge-due .ensures .1) (o .judge-own .ensures .0) (o .judge-own .ensures .1) in
-    (r .0, r .1 .1)
+    (r .0, (r .1 .1, omega (arith, few d, a .pre .1 .1 .0 .1 .few, a .pre .1 .1 .1 .1)))
 
 pub judge-tags-spec : {M : Type 1} → statement M
 judge-tags-spec =
