@@ -9,6 +9,7 @@ ghost use Prim.Native.Nat.{_+_, _≤_, _<_};
 ghost use lib.ListN.{length, getD};
 ghost use Rattle.rules.specs.PublicKeys as K;
 ghost use Rattle.rules.specs.Pkr as S;
+ghost use Rattle.rules.specs.State.{pubkeysLength};
 
 // What a complete DSM-PKR is answered: its number, and whether it stops the core (an emergency message that is proved).
 pub struct Renewal {
@@ -18,7 +19,7 @@ pub struct Renewal {
 
 // The number (6, 10, 9 or 0) of a complete DSM-PKR; with 0 a new key is added to those held.
 pub fn pkr_judge(pubkeys: &mut [u8], root: &[u8], d: &[u8]) -> Renewal
-    requires { ⌜ (length (now pubkeys) ≡ 1088) × ((91 ≤ length (now d)) × (length (now d) ≤ 208)) ⌝ }
+    requires { ⌜ (length (now pubkeys) ≡ pubkeysLength) × ((91 ≤ length (now d)) × (length (now d) ≤ 208)) ⌝ }
     ensures { λ r. ⌜ (r .code ≡ (S.pkrJudged (now (pubkeys .entry)) (now (root .entry)) (now (d .entry))) .code) × ((r .stops ≡ (S.pkrJudged (now (pubkeys .entry)) (now (root .entry)) (now (d .entry))) .stops) × (now (pubkeys .exit) ≡ (S.pkrJudged (now (pubkeys .entry)) (now (root .entry)) (now (d .entry))) .pubkeys)) ⌝ }
 {
     if size_bad(d) {
@@ -47,7 +48,7 @@ pub fn pkr_judge(pubkeys: &mut [u8], root: &[u8], d: &[u8]) -> Renewal
 
 // A proved key: 0 where it is the same as one held, or has an ID above all held and is added; else 9.
 fn renew(pubkeys: &mut [u8], d: &[u8]) -> u32
-    requires { ⌜ (length (now pubkeys) ≡ 1088) × ((S.newTypeOf (now d) < 4) × (130 + K.keyLength (S.newTypeOf (now d)) ≤ length (now d))) ⌝ }
+    requires { ⌜ (length (now pubkeys) ≡ pubkeysLength) × ((S.newTypeOf (now d) < 4) × (130 + K.keyLength (S.newTypeOf (now d)) ≤ length (now d))) ⌝ }
     ensures { λ r. ⌜ (r ≡ cond (S.keyWelcome (now (pubkeys .entry)) (now (d .entry))) 0 9) × (now (pubkeys .exit) ≡ cond (S.keyWelcome (now (pubkeys .entry)) (now (d .entry))) (S.keyAdded (now (pubkeys .entry)) (now (d .entry))) (now (pubkeys .entry))) ⌝ }
 {
     let id = new_id(d);
