@@ -28,6 +28,7 @@ const LIMIT: usize = 2305843009213693952;
 
 // The answers.
 const WRITTEN: u32 = 0;
+
 const REFUSED: u32 = 1;
 
 #[no_mangle]

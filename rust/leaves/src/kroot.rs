@@ -2,12 +2,13 @@
 
 use crate::public_keys::Pubkeys;
 use crate::raw;
+use crate::tags::Config;
 
-/// A complete DSM-KROOT that came under `header` is judged: 01's number. What then waits for a verdict
-/// is in `offer`.
+/// A complete DSM-KROOT that came under `header` is judged under these settings: 01's number. What then
+/// waits for a verdict is in `offer`.
 pub fn kroot_judge(
     pubkeys: &Pubkeys,
-    maclt: u8,
+    config: &Config,
     offer: &mut [u8; 179],
     header: u8,
     dsm: &[u8],
@@ -18,7 +19,8 @@ pub fn kroot_judge(
         raw::leaf_kroot_judge(
             pubkeys.0.as_ptr(),
             pubkeys.0.len(),
-            maclt,
+            config.as_ptr(),
+            config.len(),
             offer,
             offer_len,
             header,
@@ -44,10 +46,10 @@ pub fn names_offer(offer: &[u8; 179], id: u8, message: &[u8], signature: &[u8]) 
     }
 }
 
-/// Whether the region of the chain holds one in force.
-pub fn in_force(maclt: u8, chain: &[u8; 45]) -> bool {
-    // SAFETY: the region is lent with its length, which is as required.
-    unsafe { raw::leaf_in_force(maclt, chain.as_ptr(), chain.len()) == 1 }
+/// Whether the region of the chain holds one in force, under these settings.
+pub fn in_force(config: &Config, chain: &[u8; 45]) -> bool {
+    // SAFETY: both regions are lent with their lengths, which are as required.
+    unsafe { raw::leaf_in_force(config.as_ptr(), config.len(), chain.as_ptr(), chain.len()) == 1 }
 }
 
 /// The numbers of a chain.

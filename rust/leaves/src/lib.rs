@@ -1,14 +1,16 @@
-//! The proved leaves of the core, for tests: safe calls over the regions that the core lends them.
+//! The proved leaves of the core, for tests and measurements: safe calls over the regions that the core lends them.
 //!
-//! Each call tests what its leaf requires, and gives `None` where that does not hold; lengths hold by
-//! the regions' types. What a leaf gives is said by its contract in src/lib.rt of the boundary crate that
-//! `raw` names over it.
+//! A module is called as the crate whose functions it has. Each call tests what its leaf requires, and
+//! gives `None` where that does not hold; lengths hold by the regions' types. What a leaf gives is said by
+//! its contract in crates/test_leaves, and for the hashes in crates/test_hash.
 
-mod raw;
+#[doc(hidden)]
+pub mod raw;
 
 pub mod authentic_sets;
 pub mod chain;
 pub mod gather;
+pub mod hash;
 pub mod kroot;
 pub mod mack;
 pub mod mack_keys;
@@ -19,4 +21,5 @@ pub mod tag_codes;
 pub mod tag_records;
 pub mod tags;
 pub mod times;
+pub mod vectors;
 pub mod waiting_tags;

@@ -72,14 +72,16 @@ fn keys_of_table_24_fit() {
 fn a_1_4_dsm_kroot() {
     let mut keys = Pubkeys([0; 1088]);
     let mut offer = [0xA5; 179];
+    let mut config = [0; 63];
+    config[1] = 11;
     assert_eq!(
-        kroot_judge(&keys, 11, &mut offer, HEADER_A, &hex(DSM_KROOT)),
+        kroot_judge(&keys, &config, &mut offer, HEADER_A, &hex(DSM_KROOT)),
         Some(7)
     );
     assert_eq!(offer, [0xA5; 179]);
     keys.add(0, 1, &[2; 33]).unwrap();
     assert_eq!(
-        kroot_judge(&keys, 11, &mut offer, HEADER_A, &hex(DSM_KROOT)),
+        kroot_judge(&keys, &config, &mut offer, HEADER_A, &hex(DSM_KROOT)),
         Some(0)
     );
     assert_eq!(offer[..2], [1, 0]);

@@ -66,6 +66,8 @@ fn a_dsm_kroot_is_judged_alike() {
             }
         }
         let header = rng.number() as u8;
+        let mut config = rng.array();
+        config[1] = maclt;
         let mut offer = rng.array::<179>();
         let mut expected = offer;
         let right = kroot::judge(header, &dsm, &second, maclt);
@@ -81,7 +83,7 @@ fn a_dsm_kroot_is_judged_alike() {
         }
         let number = right.err().unwrap_or(0);
         assert_eq!(
-            kroot_judge(&keys, maclt, &mut offer, header, &dsm),
+            kroot_judge(&keys, &config, &mut offer, header, &dsm),
             Some(u32::from(number))
         );
         assert_eq!(offer, expected);
@@ -192,9 +194,15 @@ fn chains_are_in_force_alike() {
         if rng.once_in(6) {
             region[0] = *rng.pick(&[0, 2, 3, 255]);
         }
+        let mut config = rng.array();
+        config[1] = maclt;
         let passes = RootFields::read(&contents).check(maclt).is_ok();
         let right = region[0] == 1 && passes;
-        assert_eq!(in_force(maclt, &region), right, "{region:?}, MACLT {maclt}");
+        assert_eq!(
+            in_force(&config, &region),
+            right,
+            "{region:?}, MACLT {maclt}"
+        );
         held += u32::from(right);
         refused += u32::from(region[0] == 1 && !passes);
     }
