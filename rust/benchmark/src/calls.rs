@@ -1,103 +1,171 @@
-//! The calls of the core.
+//! The calls of the core beside the second receiver's.
 //!
+//! - `calls time SLICES`: a half minute of 36 satellites, a section of it with nothing due, and a section
+//!   after a gap of 1,000,000 slots with 256 tags due, beside the proved walk over the gap alone
+//! - `calls count WHO TURNS`: half minutes alone, to be counted by callgrind
+//! - `calls tags TURNS`: what these half minutes have: sections, and tags judged by their codes
 //! - `calls stack`: the bytes of a core and the deepest stack of each call
+//!
+//! The answers of both are compared before anything is measured.
 
-use crate::stack::of_call;
-use osnma::regions::Regions;
+use crate::call_stacks::stacks;
+use crate::sky::{Answer, Gap, HalfMinutes, Who, ALL};
+use crate::time::{by_turns, timed, Work};
+use leaves::chain::Chain;
+use leaves::times::Slots;
+use std::hint::black_box;
+use std::time::Duration;
 
-pub const USAGE: &str = "calls stack";
+pub const USAGE: &str = "calls time SLICES | count WHO TURNS | tags TURNS | stack";
 
-/// A message with this NMA header: CIDKR 1, NMACK 1, KS 128, MS 40, MACLT 27, at this hour of week 1000.
-fn message(header: u8, hour: u8) -> [u8; 45] {
-    let mut message = [0; 45];
-    message[..7].copy_from_slice(&[header, 0x50, 0x49, 27, 0x03, 0xE8, hour]);
-    message[7..29].fill(0x6B);
-    message
+/// Half minutes that are compared, and that a slice takes: all of the run.
+const HALVES: u32 = 36;
+
+/// The answers to the half minutes' calls.
+fn answers(who: Who) -> Vec<Answer> {
+    let (mut half_minutes, mut answers) = (HalfMinutes::new(who), Vec::new());
+    for _ in 0..HALVES {
+        half_minutes.hear(|_, answer, _| answers.push(answer));
+    }
+    answers
 }
 
-/// The deepest stack of verdicts: a first root, a later one at which 256 waiting tags are looked at, the
-/// same again, a bad verdict, and a drop of the chain.
-fn verdicts(core: &mut Regions) -> usize {
-    let signature = [0x2A; 132];
-    let told = [
-        (1, 0x50, 1),
-        (1, 0x50, 2),
-        (1, 0x50, 2),
-        (0, 0x50, 3),
-        (1, 0xD0, 3),
-    ];
-    let mut deepest = 0;
-    for (good, header, hour) in told {
-        let message = message(header, hour);
-        core.offer[..2].copy_from_slice(&[1, 0]);
-        core.offer[2..47].copy_from_slice(&message);
-        core.offer[47..].copy_from_slice(&signature);
-        core.numbers[1] = 256;
-        let bytes = of_call(core, |core| {
-            let answer = core.lend().verdict(good, 0, &message, &signature);
-            assert_eq!(answer, if good == 1 { 0 } else { 15 });
-        });
-        deepest = deepest.max(bytes);
+/// Whether both answer alike, also after the gap.
+fn compare() -> Result<(), String> {
+    if answers(Who::Proved) != answers(Who::Second) {
+        return Err("the second receiver answers otherwise".into());
     }
-    deepest
+    for (who, name) in ALL {
+        let Gap {
+            mut before,
+            section,
+        } = Gap::new(who);
+        let answer = before.call(&section);
+        if (answer.hkroot, answer.mack, answer.records) != (0, 0, 270) {
+            return Err(format!("after the gap: {answer:?} by {name}"));
+        }
+    }
+    Ok(())
 }
 
-/// Prints a Markdown table.
-fn stacks() {
-    let mut marks = [255; 28];
-    (marks[0], marks[14]) = (0, 0);
-    let (root, key) = ([3; 32], [5; 67]);
-    let mut core = Box::new(Regions::zeroed());
-    let core = &mut *core;
-    let time = 1000 << 20;
+/// Prints the rows of contenders whose slices are taken by turns.
+fn rows(row: &str, names: &[&str], slices: usize, mut works: Vec<Work<'_>>) {
+    for (name, told) in names.iter().zip(by_turns(slices, &mut works)) {
+        println!(
+            "| {row} | {name} | {:.2} | {:.3} | {:.3} |",
+            told.best * 1e6,
+            told.median,
+            told.best_ratio
+        );
+    }
+}
 
-    let start = of_call(core, |core| {
-        assert_eq!(core.lend().start(36, 0, 1, 27, &marks, &root, &key), 0);
-    });
+fn half_minute(who: Who) -> Work<'static> {
+    let mut half_minutes = HalfMinutes::new(who);
+    Box::new(move || timed(|| half_minutes.hear_all(HALVES.into())) / HALVES)
+}
 
-    let mut word = 0;
-    for kind in 1..=6u8 {
-        let mut bytes = [0; 16];
-        bytes[0] = kind << 2;
-        bytes[2] = 11 << 2; // the SVID of word 4
-        let bytes = of_call(core, |core| {
-            assert_eq!(core.lend().word(11, time, &bytes), 0);
+/// Sections of the half minutes that judge their own tags alone.
+fn section(who: Who) -> Work<'static> {
+    let own = answers(who).into_iter().map(|answer| answer.records);
+    let own = own.filter(|&records| records > 0).min();
+    let mut half_minutes = HalfMinutes::new(who);
+    Box::new(move || {
+        let (mut all, mut count) = (Duration::ZERO, 0);
+        for _ in 0..HALVES {
+            half_minutes.hear(|call, answer, took| {
+                if call[0] == 3 && Some(answer.records) == own {
+                    all += took;
+                    count += 1;
+                }
+            });
+        }
+        all / count.max(1)
+    })
+}
+
+fn gap(who: Who) -> Work<'static> {
+    let Gap { before, section } = Gap::new(who);
+    Box::new(move || {
+        let mut heard = before.clone();
+        timed(|| {
+            black_box(heard.call(&section));
+        })
+    })
+}
+
+/// The proved walk from the key of the section after the gap down to the one held before.
+fn walk() -> Work<'static> {
+    let Gap {
+        mut before,
+        section,
+    } = Gap::new(Who::Second);
+    let held = |second: &second_receiver::Receiver| second.chain().expect("a chain").held_slot;
+    let low = held(&before.second);
+    before.call(&section);
+    let steps = held(&before.second) - low;
+    let chain = before.second.chain().expect("a chain").clone();
+    let leaf = Chain {
+        slots: Slots {
+            ns: chain.slots.ns.into(),
+            nmack: chain.slots.nmack.into(),
+            root: chain.slots.start,
+        },
+        alpha: chain.parameters.alpha,
+        width: chain.held.as_slice().len(),
+        ms: 10,
+    };
+    let mut key = [0; 32];
+    key[..leaf.width].copy_from_slice(chain.held.as_slice());
+    Box::new(move || {
+        let mut key = key;
+        timed(|| {
+            leaf.walk(black_box(steps), low, &mut key)
+                .expect("in range")
+        })
+    })
+}
+
+fn times(slices: usize) {
+    let names = ALL.map(|(_, name)| name);
+    println!("| Work | Contender | µs, best slice | proved / contender, median | proved / contender, best slices |");
+    println!("|---|---|---|---|---|");
+    let works = ALL.map(|(who, _)| half_minute(who)).into();
+    rows("half minute of 36 satellites", &names, slices, works);
+    let works = ALL.map(|(who, _)| section(who)).into();
+    rows("section, nothing due", &names, slices, works);
+    let works = vec![gap(Who::Proved), walk(), gap(Who::Second)];
+    let names = ["proved", "the walk alone", "second"];
+    rows("section, gap of 1,000,000, 256 due", &names, slices, works);
+}
+
+/// Sections that were answered 0, and tags that were judged by their codes.
+fn tags(turns: u64) {
+    let (mut half_minutes, mut sections, mut tags) = (HalfMinutes::new(Who::Second), 0, 0);
+    for _ in 0..turns {
+        half_minutes.hear(|call, answer, _| {
+            sections += u64::from(call[0] == 3 && answer.mack == 0);
+            tags += answer.judged;
         });
-        word = word.max(bytes);
     }
-
-    core.arrivals[10] = time + 1;
-    let read_set = of_call(core, |core| {
-        let (mut set, mut issue, mut at) = ([0; 69], 0, 0);
-        let view = core.view();
-        assert_eq!(view.read_set(11, &mut set, &mut issue, &mut at), 0);
-    });
-
-    core.offer[0] = 1;
-    let read_message = of_call(core, |core| {
-        let (mut told, mut signed, mut public) = ([0; 45], [0; 132], [0; 67]);
-        let (mut id, mut kind) = (0, 0);
-        let view = core.view();
-        let answer = view.read_message(&mut told, &mut signed, &mut public, &mut id, &mut kind);
-        assert_eq!(answer, 0);
-    });
-
-    println!("| Call | Deepest stack, bytes |");
-    println!("|---|---|");
-    for (name, bytes) in [
-        ("start", start),
-        ("word", word),
-        ("verdict", verdicts(core)),
-        ("read of an authentic set", read_set),
-        ("read of what waits", read_message),
-    ] {
-        println!("| {name} | {bytes} |");
-    }
-    println!("\nA core has {} bytes.", size_of::<Regions>());
+    println!("{sections} {tags}");
 }
 
 pub fn command(words: &[&str]) -> Option<Result<(), String>> {
     match words {
+        ["time", slices] => {
+            let slices = slices.parse().ok()?;
+            Some(compare().map(|()| times(slices)))
+        }
+        ["count", who, turns] => {
+            let (who, _) = ALL.into_iter().find(|(_, name)| name == who)?;
+            HalfMinutes::new(who).hear_all(turns.parse().ok()?);
+            Some(Ok(()))
+        }
+        ["tags", turns] => {
+            tags(turns.parse().ok()?);
+            Some(Ok(()))
+        }
         ["stack"] => {
             stacks();
             Some(Ok(()))

@@ -8,7 +8,7 @@
 //! `portable` and `openssl` walk as the proved code does: the block of a step stays filled, and only
 //! the key and the time in it change. `second` is the second receiver's walk, which hashes a message.
 
-use crate::time::{by_turns, Work};
+use crate::time::{by_turns, timed, Work};
 use leaves::chain::Chain;
 use leaves::times::Slots;
 use second_receiver::{chain, times};
@@ -124,7 +124,9 @@ fn times(slices: usize, steps: u64) {
     for bits in KEY_BITS {
         let work = |&(_, walk): &(&str, Walk)| -> Work<'_> {
             Box::new(move || {
-                black_box(walk(bits, black_box(steps)));
+                timed(|| {
+                    black_box(walk(bits, black_box(steps)));
+                })
             })
         };
         let mut all: Vec<Work<'_>> = WALKS.iter().map(work).collect();

@@ -9,7 +9,7 @@
 //! Results of all contenders are compared before anything is measured.
 
 use crate::stack;
-use crate::time::{by_turns, Work};
+use crate::time::{by_turns, timed, Work};
 use leaves::{hash, raw};
 use std::hint::black_box;
 
@@ -167,7 +167,9 @@ fn times(slices: usize, turns: u64) {
         let work = |contender: &Contender| -> Work<'_> {
             let run = contender.run;
             Box::new(move || {
-                black_box(run(row, black_box(turns)));
+                timed(|| {
+                    black_box(run(row, black_box(turns)));
+                })
             })
         };
         let mut all: Vec<Work<'_>> = CONTENDERS.iter().map(work).collect();

@@ -3,11 +3,13 @@
 
 #[cfg(has_bearssl)]
 mod bearssl;
+mod call_stacks;
 mod calls;
 mod chain;
 mod hash;
 #[cfg(has_openssl)]
 mod openssl;
+mod sky;
 mod stack;
 mod tag;
 mod time;

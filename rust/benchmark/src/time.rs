@@ -1,10 +1,17 @@
 //! Times, as ratios: all contenders take turns in slices, so that the machine's other load falls on
 //! each alike.
 
-use std::time::Instant;
+use std::time::{Duration, Instant};
 
-/// A contender's slice of work.
-pub type Work<'a> = Box<dyn FnMut() + 'a>;
+/// A contender's slice of work, which says its time.
+pub type Work<'a> = Box<dyn FnMut() -> Duration + 'a>;
+
+/// The time that some work takes.
+pub fn timed(work: impl FnOnce()) -> Duration {
+    let began = Instant::now();
+    work();
+    began.elapsed()
+}
 
 /// A contender beside the first one.
 pub struct Compared {
@@ -30,9 +37,7 @@ pub fn by_turns(slices: usize, contenders: &mut [Work<'_>]) -> Vec<Compared> {
     let mut times = vec![Vec::with_capacity(slices); contenders.len()];
     for _ in 0..slices.max(1) {
         for (work, times) in contenders.iter_mut().zip(&mut times) {
-            let began = Instant::now();
-            work();
-            times.push(began.elapsed().as_secs_f64());
+            times.push(work().as_secs_f64());
         }
     }
     let first = &times[0];
