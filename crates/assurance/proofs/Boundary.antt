@@ -29,7 +29,7 @@ start-asks-nothing κs args = tt
 
 abbrev start-rule : (κs : Lfts 19) (args : Dens κs start-kinds.ps) (r : ℕ) (last : AtExit (endedOf 19 start-kinds.ps start-kinds.r) κs) → Type 0
 start-rule κs (config, (clocks, (words, (stamps, (blocks, (headers, (present, (since, (pubkeys, (offer, (chain, (numbers, (heldkey, (waiting, (sets, (arrivals, (ns, (id, (kind, (maclt, (marks, (root, (pubkey, _))))))))))))))))))))))) r (config′, (clocks′, (words′, (stamps′, (blocks′, (headers′, (present′, (since′, (pubkeys′, (offer′, (chain′, (numbers′, (heldkey′, (waiting′, (sets′, (arrivals′, (_, (_, (_, (_, (_, (_, (_, _))))))))))))))))))))))) =
-    told r (state (now config′) (now clocks′) (now words′) (now stamps′) (now blocks′) (now headers′) (now present′) (now since′) (now pubkeys′) (now offer′) (now chain′) (now numbers′) (now heldkey′) (now waiting′) (now sets′) (now arrivals′)) ≡ startCall (state (now config) (now clocks) (now words) (now stamps) (now blocks) (now headers) (now present) (now since) (now pubkeys) (now offer) (now chain) (now numbers) (now heldkey) (now waiting) (now sets) (now arrivals)) (record { ns = ns; id = id; type = kind; maclt = maclt; present = now marks; root = now root; key = now pubkey })
+    told r (state (now config′) (now clocks′) (now words′) (now stamps′) (now blocks′) (now headers′) (now present′) (now since′) (now pubkeys′) (now offer′) (now chain′) (now numbers′) (now heldkey′) (now waiting′) (now sets′) (now arrivals′)) ≡ startCall (state (now config) (now clocks) (now words) (now stamps) (now blocks) (now headers) (now present) (now since) (now pubkeys) (now offer) (now chain) (now numbers) (now heldkey) (now waiting) (now sets) (now arrivals)) (record { ns = ns; id = id; type = kind; maclt = maclt; marks = now marks; root = now root; key = now pubkey })
 
 pub start-is : (κs : Lfts 19) (args : Dens κs start-kinds.ps) (r : ℕ) (last : AtExit (endedOf 19 start-kinds.ps start-kinds.r) κs) → start-reads.Learnt κs args r last → start-rule κs args r last
 start-is κs args r last d = d
