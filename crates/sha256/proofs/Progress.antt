@@ -4,7 +4,7 @@ use mathlib.Core.Path.{_≡_, refl, sym, ap, subst, _∙_}
 use mathlib.Core.List.{List, [], _∷_, _++_}
 use mathlib.Core.Logic.{⊎-elim}
 use Prim.Native.Nat.{ℕ, zero, suc, _+_, _-_, _*_, _≤_, _<_}
-use native.Mathlib.Nat.{add-suc, add-zero}
+use native.Mathlib.Nat.{add-suc, add-zero, zero-add}
 use native.Mathlib.Omega.{arith}
 use lib.ListN.{length, getD, set, length-set, length-append, List·getD-append}
 use lib.Seq.{getD-set-same, getD-set-other}
@@ -42,25 +42,21 @@ words-length : (b : List ℕ) → length (S.words b) ≡ 16
 unfolding S.words
 words-length b = refl
 
+-- n words of the bytes b, from word i on
+abbrev words-from : List ℕ → ℕ → ℕ → List ℕ
+words-from b i zero = []
+words-from b i (suc n) = u32at b (4 * i) ∷ words-from b (suc i) n
+
+getD-words : (b : List ℕ) (i n t : ℕ) → t < n → getD (words-from b i n) t 0 ≡ u32at b (4 * (i + t))
+getD-words b i zero t h = absurd (omega arith)
+getD-words b i (suc n) zero h = rw (add-zero i)
+getD-words b i (suc n) (suc t) h =
+    let e : suc i + t ≡ i + suc t = omega arith in
+    getD-words b (suc i) n t (omega arith) ∙ rw e
+
 block-word : (b : List ℕ) (t : ℕ) → t < 16 → getD (S.words b) t 0 ≡ u32at b (4 * t)
 unfolding S.words
-block-word b zero h = refl
-block-word b (suc zero) h = refl
-block-word b (suc (suc zero)) h = refl
-block-word b (suc (suc (suc zero))) h = refl
-block-word b (suc (suc (suc (suc zero)))) h = refl
-block-word b (suc (suc (suc (suc (suc zero))))) h = refl
-block-word b (suc (suc (suc (suc (suc (suc zero)))))) h = refl
-block-word b (suc (suc (suc (suc (suc (suc (suc zero))))))) h = refl
-block-word b (suc (suc (suc (suc (suc (suc (suc (suc zero)))))))) h = refl
-block-word b (suc (suc (suc (suc (suc (suc (suc (suc (suc zero))))))))) h = refl
-block-word b (suc (suc (suc (suc (suc (suc (suc (suc (suc (suc zero)))))))))) h = refl
-block-word b (suc (suc (suc (suc (suc (suc (suc (suc (suc (suc (suc zero))))))))))) h = refl
-block-word b (suc (suc (suc (suc (suc (suc (suc (suc (suc (suc (suc (suc zero)))))))))))) h = refl
-block-word b (suc (suc (suc (suc (suc (suc (suc (suc (suc (suc (suc (suc (suc zero))))))))))))) h = refl
-block-word b (suc (suc (suc (suc (suc (suc (suc (suc (suc (suc (suc (suc (suc (suc zero)))))))))))))) h = refl
-block-word b (suc (suc (suc (suc (suc (suc (suc (suc (suc (suc (suc (suc (suc (suc (suc zero))))))))))))))) h = refl
-block-word b (suc (suc (suc (suc (suc (suc (suc (suc (suc (suc (suc (suc (suc (suc (suc (suc n)))))))))))))))) h = omega arith
+block-word b t h = getD-words b 0 16 t h ∙ rw (zero-add t)
 
 -- a word of the block
 pub first-word : (b : List ℕ) (t w : ℕ) → t < 16 → w ≡ u32at b (4 * t) → w ≡ getD (S.schedule b) t 0
