@@ -4,6 +4,8 @@
 //! - `chain_benchmark names`: who walks
 //! - `chain_benchmark walk WHO KS STEPS`: the walk alone, to be counted by callgrind
 //! - `chain_benchmark compare STEPS`: whether all come to the same keys, and the time of each walk
+//! - `chain_benchmark time SLICES STEPS`: times as ratios; all walks take turns in slices, so that the
+//!   machine's other load falls on each alike
 //!
 //! `portable` and `openssl` walk as the proved code does: the block of a step stays filled, and only
 //! the key and the time in it change. `second` is the second receiver's walk, which hashes a message.
@@ -11,6 +13,7 @@
 use leaves::chain::Chain;
 use leaves::times::Slots;
 use second_receiver::{chain, times};
+use std::hint::black_box;
 use std::process::ExitCode;
 use std::time::Instant;
 
@@ -59,7 +62,7 @@ fn proved(bits: usize, steps: u64) -> [u8; 32] {
 }
 
 /// The walk with somebody's compression of one block.
-fn walk(bits: usize, steps: u64, compress: impl Fn(&mut [u32; 8], &[u8; 64])) -> [u8; 32] {
+fn walk(bits: usize, steps: u64, mut compress: impl FnMut(&mut [u32; 8], &[u8; 64])) -> [u8; 32] {
     let (second, width) = (second(bits), bits / 8);
     let slots: times::Slots = second.slots;
     let mut block = [0; 64];
@@ -108,16 +111,18 @@ mod openssl {
     }
 
     pub fn walk(bits: usize, steps: u64) -> [u8; 32] {
-        super::walk(bits, steps, |state, block| {
-            let mut context = Context {
-                h: *state,
-                rest: [0; 20],
-            };
+        let mut context = Context {
+            h: portable_hash::INITIAL,
+            rest: [0; 20],
+        };
+        let key = super::walk(bits, steps, |state, block| {
+            context.h = *state;
             // SAFETY: the context is OpenSSL's SHA256_CTX (112 bytes, checked by build.rs).
             unsafe { SHA256_Transform(&mut context, block.as_ptr()) };
-            std::hint::black_box(context.rest);
             *state = context.h;
-        })
+        });
+        super::black_box(context.rest);
+        key
     }
 }
 
@@ -130,6 +135,36 @@ const WALKS: &[(&str, Walk)] = &[
     #[cfg(has_openssl)]
     ("openssl", openssl::walk),
 ];
+
+fn best(times: &[f64]) -> f64 {
+    times.iter().copied().fold(f64::INFINITY, f64::min)
+}
+
+fn median(mut values: Vec<f64>) -> f64 {
+    values.sort_by(f64::total_cmp);
+    values[values.len() / 2]
+}
+
+/// Prints rows in Markdown: for each walk the best slice, and the proved walk's ratio to it.
+fn rows(bits: usize, slices: usize, steps: u64) {
+    let mut times = vec![Vec::with_capacity(slices); WALKS.len()];
+    for _ in 0..slices {
+        for ((_, walk), times) in WALKS.iter().zip(&mut times) {
+            let began = Instant::now();
+            black_box(walk(bits, black_box(steps)));
+            times.push(began.elapsed().as_nanos() as f64 / steps as f64);
+        }
+    }
+    for ((name, _), of) in WALKS.iter().zip(&times) {
+        let ratios = times[0].iter().zip(of).map(|(p, o)| p / o).collect();
+        println!(
+            "| {bits} | {name} | {:.0} | {:.3} | {:.3} |",
+            best(of),
+            median(ratios),
+            best(&times[0]) / best(of)
+        );
+    }
+}
 
 fn command(words: &[&str]) -> Option<ExitCode> {
     match words {
@@ -157,6 +192,12 @@ fn command(words: &[&str]) -> Option<ExitCode> {
                 }
             }
         }
+        ["time", slices, steps] => {
+            let (slices, steps) = (slices.parse().ok()?, steps.parse().ok()?);
+            for bits in KEY_BITS {
+                rows(bits, std::cmp::max(slices, 1), std::cmp::max(steps, 1));
+            }
+        }
         _ => return None,
     }
     Some(ExitCode::SUCCESS)
@@ -166,7 +207,7 @@ fn main() -> ExitCode {
     let arguments: Vec<String> = std::env::args().skip(1).collect();
     let words: Vec<&str> = arguments.iter().map(String::as_str).collect();
     command(&words).unwrap_or_else(|| {
-        eprintln!("chain_benchmark names | walk WHO KS STEPS | compare STEPS");
+        eprintln!("chain_benchmark names | walk WHO KS STEPS | compare STEPS | time SLICES STEPS");
         ExitCode::FAILURE
     })
 }
