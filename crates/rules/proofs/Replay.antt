@@ -35,7 +35,7 @@ line place first second = (48 + place) ∷ 32 ∷ (48 + first) ∷ 32 ∷ (48 + 
 
 -- "A good start, a word for PRN 37, and 75 zero bytes from PRN 18 at 947/432000 print: 1 0 0 0, 2 2 0 0, 3 5 5 0"
 pub example : replay (start36 ++ (wordFor 37 ++ zerosFrom 18)) ≡ line 1 0 0 ++ (line 2 2 0 ++ line 3 5 5)
-unfolding be4 u32at part splice same bit bits filled markValid marksValid startUnfit startLengths startChecks startCall wordUnfit wordChecks wordCall subframeChecks subframeCall wordType svidOf shaped stopped lastSubframe lastSubframeOf lastWordOf prnValid gst weekOf secondOf timeValid stampOf fresh keyLength withKey noOffer replay Replay.kindOf Replay.startOf Replay.wordOf Replay.subframeOf Replay.startAnswered Replay.wordAnswered Replay.subframeAnswered Replay.answered Replay.digit Replay.lastDigits Replay.decimal Replay.answerLine Replay.recordLines Replay.replayed Replay.replayedUpTo Replay.recordCount Replay.unread
+unfolding be4 u32at part splice same bit bits filled markValid marksValid startUnfit startLengths startChecks startCall wordUnfit wordChecks wordCall subframeChecks subframeCall wordType svidOf shaped stopped lastSubframe lastSubframeOf lastWordOf prnValid gst weekOf secondOf timeValid stampOf fresh keyLength withKey noOffer replay Replay.kindOf Replay.startOf Replay.wordOf Replay.subframeOf Replay.startAnswered Replay.wordAnswered Replay.subframeAnswered Replay.answered Replay.digit Replay.digitsOf Replay.decimal Replay.ended Replay.answerLine Replay.recordLines Replay.linesOf Replay.replayed Replay.replayedUpTo Replay.recordCount Replay.blankCore Replay.unread
 example = refl
 
 -- before a start: a word, a sub-frame, a verdict, kinds 0 and 5; then a start of which one byte is missing
@@ -48,7 +48,7 @@ pub own-numbers : replay unstarted
     ++ ((50 ∷ 32 ∷ 49 ∷ 49 ∷ 32 ∷ 49 ∷ 49 ∷ 32 ∷ 48 ∷ 10 ∷ [])
     ++ ((51 ∷ 32 ∷ 49 ∷ 49 ∷ 32 ∷ 48 ∷ 32 ∷ 48 ∷ 10 ∷ [])
     ++ (line 4 2 0 ++ (line 5 2 0 ++ line 6 1 0))))
-unfolding be4 part filled gst replay Replay.kindOf Replay.wordAnswered Replay.subframeAnswered Replay.verdictAnswered Replay.answered Replay.digit Replay.lastDigits Replay.decimal Replay.answerLine Replay.recordLines Replay.replayed Replay.replayedUpTo Replay.recordCount Replay.unread
+unfolding be4 part filled gst replay Replay.kindOf Replay.wordAnswered Replay.subframeAnswered Replay.verdictAnswered Replay.answered Replay.digit Replay.digitsOf Replay.decimal Replay.ended Replay.answerLine Replay.recordLines Replay.linesOf Replay.replayed Replay.replayedUpTo Replay.recordCount Replay.blankCore Replay.unread
 own-numbers = refl
 
 -- "each tag record .. as 24 hexadecimal digits in capitals": the second record of an area

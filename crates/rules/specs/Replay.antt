@@ -1,14 +1,14 @@
 -- The replay program (01, "The replay program"): the records of a recorded run as calls, and the calls' answers as lines of text.
 -- `replayed` is one record, `replay` a whole input. Text is a list of ASCII bytes.
 use Prim.Native.Nat.{ℕ, zero, suc, _+_, _*_, _/_, _%_}
-use mathlib.Core.Bool.{Bool, true, false, cond, not}
+use mathlib.Core.Bool.{cond}
 use mathlib.Core.List.{List, [], _∷_, _++_}
 use lib.Dec.{ltb, eqb}
 use lib.ListN.{length, getD, replicate}
 use Rattle.laws.specs.Bytes.{u32at}
 use Rattle.laws.specs.Lists.{part}
 use Rattle.laws.specs.Refusal.{unless, neb}
-use Rattle.rules.specs.Calls.{Start, Word, Subframe, Told, SubframeTold, startCall, wordCall, subframeCall, verdictCall}
+use Rattle.rules.specs.Calls.{Start, Word, Subframe, startCall, wordCall, subframeCall, verdictCall}
 use Rattle.rules.specs.State.{State}
 use Rattle.rules.specs.State.{configLength, clocksLength, wordsLength, stampsLength, blocksLength, dsmIds, publicKeysLength, offerLength, chainLength, numbersLength, heldKeyLength, waitingLength, setsLength, satellites}
 use Rattle.rules.specs.Verdict.{Verdict}
@@ -42,59 +42,53 @@ verdictOf r = record { good = getD r 1 0; id = getD r 2 0; message = part r 3 45
 
 -- ---- the answers to a record
 
--- what the program keeps between records
-pub record Replay : Type 0 where
+-- the core, the area for tag records that is lent to every sub-frame, and whether a start was accepted: 0 until then, 1 after
+pub record Session : Type 0 where
   pub core : State
-  -- the area for tag records that it lends to every sub-frame
   pub area : List ℕ
-  -- 0 until a start is accepted, then 1
   pub started : ℕ
-  -- how many records it has read
-  pub place : ℕ
 
 -- the two answers, the count of tag records, and what the record leaves
 pub record Answered : Type 0 where
   pub first : ℕ
   pub second : ℕ
   pub count : ℕ
-  pub core : State
-  pub area : List ℕ
-  pub started : ℕ
+  pub next : Session
 
 -- "second 0 unless a sub-frame": one number, and the core that the call leaves
-abbrev pub single : Replay → ℕ → State → Answered
-single s n core = record { first = n; second = 0; count = 0; core = core; area = s .area; started = s .started }
+abbrev pub single : Session → ℕ → State → Answered
+single s n core = record { first = n; second = 0; count = 0; next = record { core = core; area = s .area; started = s .started } }
 
 -- numbers that the program gives itself: no call is made, and nothing changes
-abbrev pub uncalled : Replay → ℕ → ℕ → Answered
-uncalled s n m = record { first = n; second = m; count = 0; core = s .core; area = s .area; started = s .started }
+abbrev pub uncalled : Session → ℕ → ℕ → Answered
+uncalled s n m = record { first = n; second = m; count = 0; next = s }
 
-unfoldable pub startAnswered : Replay → List ℕ → Answered
+unfoldable pub startAnswered : Session → List ℕ → Answered
 startAnswered s r =
     let t = startCall (s .core) (startOf r) in
-    record { first = t .code; second = 0; count = 0; core = t .state; area = s .area; started = unless (t .code) 1 (s .started) }
+    record { first = t .code; second = 0; count = 0; next = record { core = t .state; area = s .area; started = unless (t .code) 1 (s .started) } }
 
 -- "anything of kinds 2 to 4 before a start 11": before the first accepted one (A76)
-unfoldable pub wordAnswered : Replay → List ℕ → Answered
+unfoldable pub wordAnswered : Session → List ℕ → Answered
 wordAnswered s r =
     let t = wordCall (s .core) (wordOf r) in
     cond (eqb (s .started) 0) (uncalled s 11 0) (single s (t .code) (t .state))
 
 -- "(twice for a sub-frame)"
-unfoldable pub subframeAnswered : Replay → List ℕ → Answered
+unfoldable pub subframeAnswered : Session → List ℕ → Answered
 subframeAnswered s r =
     let t = subframeCall (s .core) (s .area) (subframeOf r) in
     cond (eqb (s .started) 0)
     (uncalled s 11 11)
-    (record { first = t .hkroot; second = t .mack; count = t .count; core = t .state; area = t .area; started = s .started })
+    (record { first = t .hkroot; second = t .mack; count = t .count; next = record { core = t .state; area = t .area; started = s .started } })
 
-unfoldable pub verdictAnswered : Replay → List ℕ → Answered
+unfoldable pub verdictAnswered : Session → List ℕ → Answered
 verdictAnswered s r =
     let t = verdictCall (s .core) (verdictOf r) in
     cond (eqb (s .started) 0) (uncalled s 11 0) (single s (t .code) (t .state))
 
 -- "A last record under 256 bytes is 1 and 0" whatever its kind (A77), "another kind 2", before a start too (A78)
-unfoldable pub answered : Replay → List ℕ → Answered
+unfoldable pub answered : Session → List ℕ → Answered
 answered s r =
     cond (neb (length r) recordLength) (uncalled s 1 0)
     (cond (eqb (kindOf r) 1) (startAnswered s r)
@@ -115,25 +109,28 @@ lineFeed = 10
 unfoldable pub digit : ℕ → ℕ
 digit d = cond (ltb d 10) (48 + d) (55 + d)
 
--- the last k decimal digits of n, fewer where n has fewer
-unfoldable pub lastDigits : ℕ → ℕ → List ℕ
-lastDigits zero n = []
-lastDigits (suc k) n = cond (ltb n 10) (digit n ∷ []) (lastDigits k (n / 10) ++ (digit (n % 10) ∷ []))
+-- the decimal digits of n without leading zeros, none for 0; k bounds how many
+unfoldable pub digitsOf : ℕ → ℕ → List ℕ
+digitsOf zero n = []
+digitsOf (suc k) n = let digits = digitsOf k (n / 10) ++ (digit (n % 10) ∷ []) in cond (eqb n 0) [] digits
 
--- n in decimal, no leading zeros: n has at most n + 1 digits
+-- n in decimal: its last digit behind those before it, at most n of them
 unfoldable pub decimal : ℕ → List ℕ
-decimal n = lastDigits (suc n) n
+decimal n = digitsOf n (n / 10) ++ (digit (n % 10) ∷ [])
 
 -- bytes "as .. hexadecimal digits in capitals", two a byte
 unfoldable pub hexadecimal : List ℕ → List ℕ
 hexadecimal [] = []
 hexadecimal (b ∷ bs) = digit (b / 16) ∷ digit (b % 16) ∷ hexadecimal bs
 
+-- a number and the character that ends it
+unfoldable pub ended : ℕ → ℕ → List ℕ
+ended n c = decimal n ++ (c ∷ [])
+
 -- "a line: its place in the input from 1, two answers .. and the tag record count, parted by single spaces"; every line ends with one line feed
 -- (A81)
 unfoldable pub answerLine : ℕ → ℕ → ℕ → ℕ → List ℕ
-answerLine place first second count =
-    decimal place ++ (space ∷ (decimal first ++ (space ∷ (decimal second ++ (space ∷ (decimal count ++ (lineFeed ∷ [])))))))
+answerLine place first second count = ended place space ++ (ended first space ++ (ended second space ++ ended count lineFeed))
 
 -- "each tag record on a line of its own as 24 hexadecimal digits in capitals": the record at place k of the area, from 0
 unfoldable pub recordLine : List ℕ → ℕ → List ℕ
@@ -144,20 +141,29 @@ unfoldable pub recordLines : List ℕ → ℕ → List ℕ
 recordLines area zero = []
 recordLines area (suc n) = recordLines area n ++ recordLine area n
 
+-- "Per record it prints a line ..; then each tag record on a line of its own"
+unfoldable pub linesOf : ℕ → ℕ → ℕ → ℕ → List ℕ → List ℕ
+linesOf place first second count area = answerLine place first second count ++ recordLines area count
+
 -- ---- one record, and a whole input
 
--- the lines, and what is kept for the next record
+-- what the program keeps between records: the session, and how many records it has read
+pub record Replay : Type 0 where
+  pub session : Session
+  pub place : ℕ
+
+-- the lines of a record, and what is kept for the next
 pub record Replayed : Type 0 where
   pub lines : List ℕ
   pub next : Replay
 
--- "Per record it prints a line ..; then each tag record"
 unfoldable pub replayed : Replay → List ℕ → Replayed
 replayed s r =
-    let a = answered s r in
+    let a = answered (s .session) r in
+    let place = s .place + 1 in
     record {
-      lines = answerLine (s .place + 1) (a .first) (a .second) (a .count) ++ recordLines (a .area) (a .count);
-      next = record { core = a .core; area = a .area; started = a .started; place = s .place + 1 };
+      lines = linesOf place (a .first) (a .second) (a .count) (a .next .area);
+      next = record { session = a .next; place = place };
     }
 
 -- the first n records of an input
@@ -172,26 +178,24 @@ replayedUpTo s input (suc n) =
 unfoldable pub recordCount : List ℕ → ℕ
 recordCount input = (length input + 255) / recordLength
 
--- before the first record; a start takes regions of any contents
-unfoldable pub unread : Replay
-unread =
+-- regions of zeros; a start takes regions of any contents
+unfoldable pub blankCore : State
+blankCore =
     record {
-      core =
-          record {
-            config = replicate configLength 0;
-            clocks = replicate clocksLength 0;
-            nav = record { words = replicate wordsLength 0; stamps = replicate stampsLength 0 };
-            store = record { blocks = replicate blocksLength 0; headers = replicate dsmIds 0; present = replicate dsmIds 0; since = replicate dsmIds 0 };
-            publicKeys = replicate publicKeysLength 0;
-            offer = replicate offerLength 0;
-            chain = replicate chainLength 0;
-            tesla = record { numbers = replicate numbersLength 0; key = replicate heldKeyLength 0; waiting = replicate waitingLength 0 };
-            auth = record { sets = replicate setsLength 0; arrivals = replicate satellites 0 };
-          };
-      area = replicate 3240 0;
-      started = 0;
-      place = 0;
+      config = replicate configLength 0;
+      clocks = replicate clocksLength 0;
+      nav = record { words = replicate wordsLength 0; stamps = replicate stampsLength 0 };
+      store = record { blocks = replicate blocksLength 0; headers = replicate dsmIds 0; present = replicate dsmIds 0; since = replicate dsmIds 0 };
+      publicKeys = replicate publicKeysLength 0;
+      offer = replicate offerLength 0;
+      chain = replicate chainLength 0;
+      tesla = record { numbers = replicate numbersLength 0; key = replicate heldKeyLength 0; waiting = replicate waitingLength 0 };
+      auth = record { sets = replicate setsLength 0; arrivals = replicate satellites 0 };
     }
+
+-- before the first record
+unfoldable pub unread : Replay
+unread = record { session = record { core = blankCore; area = replicate 3240 0; started = 0 }; place = 0 }
 
 -- what the program prints for an input of any length
 unfoldable pub replay : List ℕ → List ℕ
