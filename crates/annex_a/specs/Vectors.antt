@@ -15,6 +15,7 @@ use Rattle.rules.specs.Chain as Chain
 use Rattle.rules.specs.PublicKeys as Keys
 use Rattle.rules.specs.Kroot as Kroot
 use Rattle.rules.specs.Pkr as Pkr
+use Rattle.rules.specs.State as State
 use Rattle.rules.specs.Tags as Tags
 use Rattle.rules.specs.Times as Times
 use Rattle.rules.specs.Navdata as Words
@@ -29,8 +30,8 @@ pub message-signed : Kroot.signedMessage 0x82 dsmKroot ≡ 0x82 ∷ 0x20 ∷ 0x4
 unfolding Bits.bit Bits.bits Bits.bitList Bits.bytesAt Bits.octet Bits.packed Bits.filled Kroot.cidkrOf Kroot.nmackOf Kroot.hfOf Kroot.mfOf Kroot.ksOf Kroot.msOf Kroot.macltFieldOf Kroot.moOf Kroot.rootWeekOf Kroot.rootHourOf Kroot.alphaOf Kroot.keyWidth Kroot.tagWidth Kroot.krootOf Kroot.rootSecondsOf Kroot.blockBits Kroot.fieldsFor Kroot.parametersBad Kroot.pkidOf Kroot.contentsOf Kroot.leastBlocks Kroot.krootBlocks Kroot.krootChecks Kroot.signedMessage Kroot.signatureOf Kroot.offered Kroot.offerWaits Kroot.offerId Kroot.offerMessage Kroot.offerSignature Kroot.noOffer Kroot.krootJudged Kroot.chainWith Kroot.chainContents Kroot.inForce Kroot.everForced Lists.part Lists.splice Lists.same
 message-signed = refl
 
-pub parameters-fit : Kroot.parametersBad 11 (Kroot.contentsOf dsmKroot) ≡ false
-unfolding Bits.bit Bits.bits Bits.bitList Bits.bytesAt Bits.octet Bits.packed Bits.filled Kroot.cidkrOf Kroot.nmackOf Kroot.hfOf Kroot.mfOf Kroot.ksOf Kroot.msOf Kroot.macltFieldOf Kroot.moOf Kroot.rootWeekOf Kroot.rootHourOf Kroot.alphaOf Kroot.keyWidth Kroot.tagWidth Kroot.krootOf Kroot.rootSecondsOf Kroot.blockBits Kroot.fieldsFor Kroot.parametersBad Kroot.pkidOf Kroot.contentsOf Kroot.leastBlocks Kroot.krootBlocks Kroot.krootChecks Kroot.signedMessage Kroot.signatureOf Kroot.offered Kroot.offerWaits Kroot.offerId Kroot.offerMessage Kroot.offerSignature Kroot.noOffer Kroot.krootJudged Kroot.chainWith Kroot.chainContents Kroot.inForce Kroot.everForced Lists.part Lists.splice Lists.same
+pub parameters-fit : Kroot.parametersBad (0 ∷ 11 ∷ []) (Kroot.contentsOf dsmKroot) ≡ false
+unfolding State.macltOf Bits.bit Bits.bits Bits.bitList Bits.bytesAt Bits.octet Bits.packed Bits.filled Kroot.cidkrOf Kroot.nmackOf Kroot.hfOf Kroot.mfOf Kroot.ksOf Kroot.msOf Kroot.macltFieldOf Kroot.moOf Kroot.rootWeekOf Kroot.rootHourOf Kroot.alphaOf Kroot.keyWidth Kroot.tagWidth Kroot.krootOf Kroot.rootSecondsOf Kroot.blockBits Kroot.fieldsFor Kroot.parametersBad Kroot.pkidOf Kroot.contentsOf Kroot.leastBlocks Kroot.krootBlocks Kroot.krootChecks Kroot.signedMessage Kroot.signatureOf Kroot.offered Kroot.offerWaits Kroot.offerId Kroot.offerMessage Kroot.offerSignature Kroot.noOffer Kroot.krootJudged Kroot.chainWith Kroot.chainContents Kroot.inForce Kroot.everForced Lists.part Lists.splice Lists.same
 parameters-fit = refl
 
 -- the chain that it puts in force: NS 36, NMACK 2, KS 128, MS 12, root at 947, hour 120
@@ -79,11 +80,11 @@ abbrev pub tag0 : Tag
 tag0 = record { sender = 18; prn = 18; adkd = 0; block = 1; position = 1; time = 0x3B36_979E; status = 2; bits = 0xE58 }
 
 pub tag0-matches : Tags.macBits 12 key73 (Tags.firstMessage tag0 navdata) ≡ tag0 .bits
-unfolding Bits.bit Bits.bits Bits.bitList Bits.bytesAt Bits.octet Bits.packed Bits.filled Words.wordType Words.svidOf Words.wordIssue Words.heldType Words.wordPlace Words.wordAt Words.wordStored Words.setBits Words.setBytes Words.setOf Words.setIssue Words.wordCame Words.cameBefore Words.oneIssue Words.setUsable Words.usable Tags.macBits Tags.statusAndSet Tags.firstMessage Tags.tagMessage Tags.tagKey Tags.tagMatches Tags.tagRecord Tags.recordIssue Tags.tagEntry Tags.entryAt Tags.entryTag Tags.entrySet Tags.isDue Tags.setsEntered Tags.timesEntered Tags.told Tags.kept Tags.dueJudged Tags.duesJudged Tags.secondHalf Tags.flexible Tags.ownTag Tags.macseqMessage Tags.macseqFits Tags.notAllowed Tags.ownOutcome Tags.ownJudged Tags.ownsJudged Sha256.add Sha256.complement Sha256.shr Sha256.rotr Sha256.ch Sha256.maj Sha256.Σ0 Sha256.Σ1 Sha256.σ0 Sha256.σ1 Sha256.K Sha256.tail Sha256.pad Sha256.block Sha256.words Sha256.H0 Sha256.next Sha256.extended Sha256.schedule Sha256.round Sha256.rounds Sha256.sums Sha256.compress Sha256.hashed Sha256.bytes Sha256.digest Sha256.sha256 Sha256.finished Hmac.zeroPadded Hmac.keyBlock Hmac.xored Hmac.innerPad Hmac.outerPad Hmac.hmac Hmac.keyOf Hmac.hmacWith Bytes.be2 Bytes.be4 Bytes.be8 Bytes.u16at Bytes.u32at Lists.part Lists.splice Lists.same
+unfolding Bits.bit Bits.bits Bits.bitList Bits.bytesAt Bits.octet Bits.packed Bits.filled Words.wordType Words.svidOf Words.wordIssue Words.heldType Words.wordPlace Words.wordAt Words.wordStored Words.setBits Words.setBytes Words.setOf Words.setIssue Words.wordCame Words.cameBefore Words.oneIssue Words.setUsable Words.usable Tags.macBits Tags.statusAndSet Tags.firstMessage Tags.tagMessage Tags.tagKey Tags.tagMatches Tags.tagRecord Tags.recordIssue Tags.tagEntry Tags.entryAt Tags.entryTag Tags.entrySet Tags.isDue Tags.setsEntered Tags.arrivalsEntered Tags.marksSet Tags.told Tags.kept Tags.dueJudged Tags.duesJudged Tags.secondHalf Tags.flexible Tags.ownTag Tags.macseqMessage Tags.macseqFits Tags.notAllowed Tags.ownOutcome Tags.ownJudged Tags.ownsJudged Sha256.add Sha256.complement Sha256.shr Sha256.rotr Sha256.ch Sha256.maj Sha256.Σ0 Sha256.Σ1 Sha256.σ0 Sha256.σ1 Sha256.K Sha256.tail Sha256.pad Sha256.block Sha256.words Sha256.H0 Sha256.next Sha256.extended Sha256.schedule Sha256.round Sha256.rounds Sha256.sums Sha256.compress Sha256.hashed Sha256.bytes Sha256.digest Sha256.sha256 Sha256.finished Hmac.zeroPadded Hmac.keyBlock Hmac.xored Hmac.innerPad Hmac.outerPad Hmac.hmac Hmac.keyOf Hmac.hmacWith Bytes.be2 Bytes.be4 Bytes.be8 Bytes.u16at Bytes.u32at Lists.part Lists.splice Lists.same
 tag0-matches = refl
 
 pub macseq-matches : Tags.macBits 12 key73 (0x12 ∷ 0x3B ∷ 0x36 ∷ 0x97 ∷ 0x9E ∷ 0xFF ∷ 0x40 ∷ 0x12 ∷ 0xB0 ∷ []) ≡ 0xC24
-unfolding Bits.bit Bits.bits Bits.bitList Bits.bytesAt Bits.octet Bits.packed Bits.filled Tags.macBits Tags.statusAndSet Tags.firstMessage Tags.tagMessage Tags.tagKey Tags.tagMatches Tags.tagRecord Tags.recordIssue Tags.tagEntry Tags.entryAt Tags.entryTag Tags.entrySet Tags.isDue Tags.setsEntered Tags.timesEntered Tags.told Tags.kept Tags.dueJudged Tags.duesJudged Tags.secondHalf Tags.flexible Tags.ownTag Tags.macseqMessage Tags.macseqFits Tags.notAllowed Tags.ownOutcome Tags.ownJudged Tags.ownsJudged Sha256.add Sha256.complement Sha256.shr Sha256.rotr Sha256.ch Sha256.maj Sha256.Σ0 Sha256.Σ1 Sha256.σ0 Sha256.σ1 Sha256.K Sha256.tail Sha256.pad Sha256.block Sha256.words Sha256.H0 Sha256.next Sha256.extended Sha256.schedule Sha256.round Sha256.rounds Sha256.sums Sha256.compress Sha256.hashed Sha256.bytes Sha256.digest Sha256.sha256 Sha256.finished Hmac.zeroPadded Hmac.keyBlock Hmac.xored Hmac.innerPad Hmac.outerPad Hmac.hmac Hmac.keyOf Hmac.hmacWith Bytes.be2 Bytes.be4 Bytes.be8 Bytes.u16at Bytes.u32at Lists.part Lists.splice Lists.same
+unfolding Bits.bit Bits.bits Bits.bitList Bits.bytesAt Bits.octet Bits.packed Bits.filled Tags.macBits Tags.statusAndSet Tags.firstMessage Tags.tagMessage Tags.tagKey Tags.tagMatches Tags.tagRecord Tags.recordIssue Tags.tagEntry Tags.entryAt Tags.entryTag Tags.entrySet Tags.isDue Tags.setsEntered Tags.arrivalsEntered Tags.marksSet Tags.told Tags.kept Tags.dueJudged Tags.duesJudged Tags.secondHalf Tags.flexible Tags.ownTag Tags.macseqMessage Tags.macseqFits Tags.notAllowed Tags.ownOutcome Tags.ownJudged Tags.ownsJudged Sha256.add Sha256.complement Sha256.shr Sha256.rotr Sha256.ch Sha256.maj Sha256.Σ0 Sha256.Σ1 Sha256.σ0 Sha256.σ1 Sha256.K Sha256.tail Sha256.pad Sha256.block Sha256.words Sha256.H0 Sha256.next Sha256.extended Sha256.schedule Sha256.round Sha256.rounds Sha256.sums Sha256.compress Sha256.hashed Sha256.bytes Sha256.digest Sha256.sha256 Sha256.finished Hmac.zeroPadded Hmac.keyBlock Hmac.xored Hmac.innerPad Hmac.outerPad Hmac.hmac Hmac.keyOf Hmac.hmacWith Bytes.be2 Bytes.be4 Bytes.be8 Bytes.u16at Bytes.u32at Lists.part Lists.splice Lists.same
 macseq-matches = refl
 
 -- ---- A.1.7: the DSM-PKR of table 27, leaf 0, under the tree's root

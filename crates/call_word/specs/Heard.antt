@@ -1,18 +1,7 @@
 -- A state after a word: its clocks and words may be others.
 use mathlib.Core.List.{List}
 use Prim.Native.Nat.{ℕ}
-use Rattle.rules.specs.State.{State, Nav}
+use Rattle.rules.specs.State.{State, Nav, withClocks, withNav}
 
 abbrev pub heard : State → List ℕ → Nav → State
-heard s clocks nav =
-    record {
-      config = s .config;
-      clocks = clocks;
-      nav = nav;
-      store = s .store;
-      publicKeys = s .publicKeys;
-      offer = s .offer;
-      chain = s .chain;
-      tesla = s .tesla;
-      auth = s .auth;
-    }
+heard s clocks nav = withNav (withClocks s clocks) nav

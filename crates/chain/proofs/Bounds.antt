@@ -17,6 +17,7 @@ use Rattle.rules.specs.Bits.{bits}
 use Rattle.rules.specs.Times as T
 use Rattle.rules.specs.Chain as S
 use Rattle.rules.specs.Kroot as K
+use Rattle.rules.specs.State.{macltOf}
 use Rattle.rules.specs.declared.Chain.{Chain}
 use Rattle.chain.specs.Sound.{Walks, Sound}
 
@@ -55,17 +56,17 @@ unfolding K.tagWidth
 tag-widths code = table-range 10 40 40 (10 ∷ 12 ∷ 14 ∷ 16 ∷ 18 ∷ 20 ∷ 24 ∷ 28 ∷ 32 ∷ 40 ∷ []) tt (omega arith) (omega arith) code .1
 
 -- parameters that are not bad: NMACK is not 0, and a block holds a field and the key
-params-good : (maclt : ℕ) (d : List ℕ) → K.parametersBad maclt d ≡ false
+params-good : (config d : List ℕ) → K.parametersBad config d ≡ false
     → (K.nmackOf d ≡ 0 → ⊥) × (8 * K.keyWidth (K.ksOf d) + K.tagWidth (K.msOf d) + 16 ≤ K.blockBits (K.nmackOf d))
 unfolding K.parametersBad
-params-good maclt d e =
+params-good config d e =
     let e1 = neither (neb (K.hfOf d) 0) _ e in
     let e2 = neither (neb (K.mfOf d) 0) _ (e1 .1) in
     let e3 = neither (neb (K.moOf d) 0) _ (e2 .1) in
     let e4 = neither (eqb (K.nmackOf d) 0) _ (e3 .1) in
     let e5 = neither (ltb 8 (K.ksOf d)) _ (e4 .1) in
     let e6 = neither (ltb 9 (K.msOf d)) _ (e5 .1) in
-    let e7 = neither (neb (K.macltFieldOf d) maclt) _ (e6 .1) in
+    let e7 = neither (neb (K.macltFieldOf d) (macltOf config)) _ (e6 .1) in
     let e8 = neither (ltb (K.blockBits (K.nmackOf d)) (8 * K.keyWidth (K.ksOf d) + K.tagWidth (K.msOf d) + 16)) _ (e7 .1) in
     (eqb-false _ _ (e4 .0), ltb-false _ _ (e8 .0))
 
@@ -77,10 +78,10 @@ positive : (n : ℕ) → (n ≡ 0 → ⊥) → 1 ≤ n
 positive zero f = absurd (f refl)
 positive (suc n) f = omega arith
 
-pub chain-sound : (ns maclt : ℕ) (d : List ℕ) → 1 ≤ ns → ns ≤ 36 → K.parametersBad maclt d ≡ false → Sound (K.chainWith ns d)
+pub chain-sound : (ns : ℕ) (config d : List ℕ) → 1 ≤ ns → ns ≤ 36 → K.parametersBad config d ≡ false → Sound (K.chainWith ns d)
 unfolding K.chainWith K.rootSecondsOf K.rootWeekOf K.rootHourOf
-chain-sound ns maclt d h k e =
-    let g = params-good maclt d e in
+chain-sound ns config d h k e =
+    let g = params-good config d e in
     let w = key-widths (K.ksOf d) in
     let n : K.nmackOf d < 4 = nmack-below d in
     record {

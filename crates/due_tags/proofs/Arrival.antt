@@ -7,17 +7,14 @@ use Prim.Native.Nat.{ℕ, zero, suc, _+_, _-_, _*_, _≤_, _<_}
 use native.Mathlib.Omega.{arith}
 use native.Mathlib.Numerals.{add-one}
 use lib.ListN.{length, getD, length-append}
-use Rattle.laws.specs.Bytes.{be2, be4}
 use Rattle.laws.specs.Lists.{splice}
 use Rattle.laws.proofs.Splice.{splice-append, splice-nil}
-use Rattle.rules.specs.Tags.{Work, told, kept, setsEntered, arrivalsEntered, tagRecord, recordIssue, entryAt, entryTag, entrySet}
+use Rattle.rules.specs.Tags.{Work, told, kept, recordIssue, entryAt, entryTag, entrySet}
 use Rattle.rules.specs.declared.Tag.{Tag}
+use Rattle.tag_records.proofs.Told.{length-record}
 use Rattle.waiting_tags.proofs.Entries.{untouched, length-entry}
-use Rattle.due_tags.specs.Swept.{start, marks, sweptOne, swept, Tells, Leaves, Counts}
-
-pub length-record : (o : ℕ) (t : Tag) (i : ℕ) → length (tagRecord o t i) ≡ 12
-unfolding tagRecord be2 be4
-length-record o t i = refl
+use Rattle.tag_records.specs.Told.{start, Tells, Leaves, Counts}
+use Rattle.due_tags.specs.Swept.{sweptOne, swept}
 
 -- a part right after the one at the front
 after-front : (d s t : List ℕ) (a : ℕ) → length s ≡ a → a + length t ≤ length d → splice (splice d 0 s) a t ≡ splice d 0 (s ++ t)
@@ -111,14 +108,6 @@ module _ (waiting area waiting₁ sets₁ times₁ area₁ waiting₂ sets₂ ti
       rw (more .count) (counts-more o (entryAt waiting k) w k r (length-entry waiting k (omega arith)) (l .count) n)
 
 -- ---- what one entry leaves
-
--- the record and the set of a tag
-pub told-leaves : (o at issue : ℕ) (t : Tag) (set sets arrivals area sets′ arrivals′ area′ : List ℕ)
-    → issue ≡ recordIssue o set → area′ ≡ splice area at (tagRecord o t issue)
-    → sets′ ≡ cond (marks o t) (setsEntered sets arrivals t set) sets → arrivals′ ≡ cond (marks o t) (arrivalsEntered arrivals t) arrivals
-    → Tells (told o t set (start 0 sets arrivals)) at area sets′ arrivals′ area′
-unfolding told marks
-told-leaves o at issue t set sets arrivals area sets′ arrivals′ area′ ei ea eu ev = record { sets = eu; arrivals = ev; records = ea ∙ rw ei }
 
 -- an entry that is not due stays, and no record is written
 pub stays-leaves : (o m kept : ℕ) (e waiting sets arrivals area waiting′ : List ℕ) → o ≡ 0 → waiting′ ≡ splice waiting (kept * 84) e

@@ -3,7 +3,6 @@
 // Public calls:
 //   judge_due   the whole: keys, outcomes, records, sets and places
 //   sweep       the same for outcomes that are known
-//   tell        the record and the set of one tag of any outcome
 use rules::Chain;
 use rules::Tag;
 ghost use mathlib.Core.Path.{_≡_};
@@ -11,59 +10,14 @@ ghost use mathlib.Core.Bool.{true, cond};
 ghost use Prim.Native.Nat.{_+_, _-_, _*_, _^_, _≤_, _<_};
 ghost use lib.ListN.{length, take};
 ghost use Rattle.rules.specs.Chain.{held};
-ghost use Rattle.rules.specs.Tags.{entryAt, entryTag, entrySet, setsEntered, arrivalsEntered, told, duesJudged};
+ghost use Rattle.rules.specs.Tags.{entryAt, entryTag, entrySet, told, duesJudged};
 ghost use Rattle.chain.specs.Sound.{Sound};
-ghost use Rattle.due_tags.specs.Swept as S;
-ghost use Rattle.due_tags.specs.Swept.{start, sweptOne, swept, Tells, Leaves, Counts};
+ghost use Rattle.tag_records.specs.Told.{start, Tells, Leaves, Counts};
+ghost use Rattle.due_tags.specs.Swept.{sweptOne, swept};
 
 // ---- a tag that is due
 
-// Whether a tag's set becomes authentic: outcome 1, and the entry names a satellite and a time.
-fn marks_set(outcome: u8, t: Tag) -> bool
-    ensures { λ r. ⌜ (r ≡ S.marksSet outcome t) × (r ≡ true → ((1 ≤ t .prn) × (t .prn ≤ 36)) × (t .time < 4294967295)) ⌝ }
-{
-    let prn = t.prn;
-    if outcome != 1 {
-        return false;
-    }
-    if prn < 1 {
-        return false;
-    }
-    if 36 < prn {
-        return false;
-    }
-    times::time_valid(t.time)
-}
-
-// The set of an authentic tag enters its satellite's place.
-fn enter(outcome: u8, t: Tag, set: &[u8], sets: &mut [u8], arrivals: &mut [u32])
-    requires { ⌜ ((length (now sets) ≡ 2484) × (length (now arrivals) ≡ 36)) × (length (now set) ≡ 69) ⌝ }
-    ensures { λ _. ⌜ (now (sets .exit) ≡ cond (S.marksSet outcome t) (setsEntered (now (sets .entry)) (now (arrivals .entry)) t (now (set .entry))) (now (sets .entry))) × (now (arrivals .exit) ≡ cond (S.marksSet outcome t) (arrivalsEntered (now (arrivals .entry)) t) (now (arrivals .entry))) ⌝ }
-{
-    if marks_set(outcome, t) {
-        authentic_sets::enter_set(sets, arrivals, t, set);
-    }
-}
-
-// A tag has this outcome: its record goes to place `at` of the area, and for outcome 1 its set to its satellite's place.
-pub fn tell(
-    outcome: u8,
-    t: Tag,
-    set: &[u8],
-    sets: &mut [u8],
-    arrivals: &mut [u32],
-    area: &mut [u8],
-    at: usize,
-)
-    requires { ⌜ ((length (now sets) ≡ 2484) × (length (now arrivals) ≡ 36)) × ((length (now set) ≡ 69) × (at + 12 ≤ length (now area))) ⌝ }
-    ensures { λ _. ⌜ Tells (told outcome t (now (set .entry)) (start 0 (now (sets .entry)) (now (arrivals .entry)))) at (now (area .entry)) (now (sets .exit)) (now (arrivals .exit)) (now (area .exit)) ⌝ }
-{
-    let issue = tags::record_issue(outcome, set);
-    tags::put_record(area, at, outcome, t, issue);
-    enter(outcome, t, set, sets, arrivals);
-}
-
-// The same for the tag of entry k and the copy of its set.
+// The record and the set of the tag of entry k, with the copy of its set.
 fn tell_entry(
     outcome: u8,
     waiting: &[u8],
@@ -79,7 +33,7 @@ fn tell_entry(
     let t = waiting_tags::entry_tag(waiting, k);
     let mut set = [0u8; 69];
     waiting_tags::copy_set(waiting, k, &mut set);
-    tell(outcome, t, &set, sets, arrivals, area, at);
+    tag_records::tell(outcome, t, &set, sets, arrivals, area, at);
 }
 
 // ---- arrival order

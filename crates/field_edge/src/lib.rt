@@ -182,7 +182,7 @@ pub extern "C" fn leaf_record_issue(outcome: u8, set: &[u8]) -> u16
     requires { ⌜ length (now set) ≡ 69 ⌝ }
     ensures { λ r. ⌜ r ≡ recordIssue outcome (now (set .entry)) ⌝ }
 {
-    tags::record_issue(outcome, set)
+    tag_records::record_issue(outcome, set)
 }
 
 #[no_mangle]
@@ -211,7 +211,7 @@ pub extern "C" fn leaf_put_record(
         status: 0,
         bits: 0,
     };
-    tags::put_record(area, at, outcome, t, issue);
+    tag_records::put_record(area, at, outcome, t, issue);
 }
 
 // ---- due tags

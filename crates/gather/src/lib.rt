@@ -66,7 +66,7 @@ pub fn header_of(hk: &[u8; 15]) -> u8
 pub fn status_of(header: u8) -> u8
     ensures { λ r. ⌜ r ≡ Rule.statusOf header ⌝ }
 {
-    header / 64
+    header / 64 % 4
 }
 
 // The CID of a header.
@@ -80,7 +80,7 @@ pub fn cid_of(header: u8) -> u8
 pub fn dsm_id_of(hk: &[u8; 15]) -> usize
     ensures { λ r. ⌜ (r ≡ Rule.dsmIdOf (now (hk .entry))) × (r < 16) ⌝ }
 {
-    bitfields::index(hk[1]) / 16
+    bitfields::index(hk[1]) / 16 % 16
 }
 
 // The block ID.

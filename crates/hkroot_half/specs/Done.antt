@@ -2,7 +2,7 @@
 use mathlib.Core.List.{List}
 use Prim.Native.Nat.{ℕ}
 use Rattle.rules.specs.Calls.{HkrootDone}
-use Rattle.rules.specs.State.{State, Store}
+use Rattle.rules.specs.State.{State, Store, withConfig, withStore, withPubkeys, withOffer}
 use Rattle.hkroot_half.specs.declared.Half.{Half}
 
 -- the number, whether the core stops, and the state that is left
@@ -10,15 +10,4 @@ abbrev pub done : Half → State → HkrootDone
 done h s = record { code = h .code; stops = h .stops; state = s }
 
 abbrev pub gathering : State → List ℕ → Store → List ℕ → List ℕ → State
-gathering s config store public-keys offer =
-    record {
-      config = config;
-      clocks = s .clocks;
-      nav = s .nav;
-      store = store;
-      publicKeys = public-keys;
-      offer = offer;
-      chain = s .chain;
-      tesla = s .tesla;
-      auth = s .auth;
-    }
+gathering s config store pubkeys offer = withOffer (withPubkeys (withStore (withConfig s config) store) pubkeys) offer

@@ -12,6 +12,7 @@ ghost use lib.ListN.{length};
 ghost use Rattle.laws.specs.Lists.{part};
 ghost use Rattle.rules.specs.Bits.{filled};
 ghost use Rattle.rules.specs.Kroot as S;
+ghost use Rattle.rules.specs.State.{configLength, pubkeysLength, offerLength, chainLength};
 ghost use Rattle.rules.specs.Verdict.{namesOffer, chainUnchanged};
 ghost use Rattle.kroot.specs.Groups as G;
 use rules::Chain;
@@ -19,19 +20,19 @@ use rules::Chain;
 // ---- a complete DSM-KROOT
 
 // Its number (7, 8, 6 or 0); with 0 it waits for a verdict, in place of one that waited.
-pub fn kroot_judge(public_keys: &[u8], maclt: u8, offer: &mut [u8], header: u8, d: &[u8]) -> u32
-    requires { ⌜ (length (now public-keys) ≡ 1088) × ((length (now offer) ≡ 179) × (91 ≤ length (now d))) ⌝ }
-    ensures { λ r. ⌜ (r ≡ (S.krootJudged (now (public-keys .entry)) maclt (now (offer .entry)) header (now (d .entry))) .code) × (now (offer .exit) ≡ (S.krootJudged (now (public-keys .entry)) maclt (now (offer .entry)) header (now (d .entry))) .offer) ⌝ }
+pub fn kroot_judge(pubkeys: &[u8], config: &[u8], offer: &mut [u8], header: u8, d: &[u8]) -> u32
+    requires { ⌜ ((length (now pubkeys) ≡ pubkeysLength) × (length (now config) ≡ configLength)) × ((length (now offer) ≡ offerLength) × (91 ≤ length (now d))) ⌝ }
+    ensures { λ r. ⌜ (r ≡ (S.krootJudged (now (pubkeys .entry)) (now (config .entry)) (now (offer .entry)) header (now (d .entry))) .code) × (now (offer .exit) ≡ (S.krootJudged (now (pubkeys .entry)) (now (config .entry)) (now (offer .entry)) header (now (d .entry))) .offer) ⌝ }
 {
     let id = pkid(d);
-    if !public_keys::key_held(public_keys, id) {
+    if !public_keys::key_held(pubkeys, id) {
         return 7;
     }
-    if parameters_bad(maclt, &d[1..45]) {
+    if parameters_bad(config, &d[1..45]) {
         return 8;
     }
     let width = key_width(ks(&d[1..45]));
-    let signed = public_keys::signature_length(public_keys::key_type(public_keys, id));
+    let signed = public_keys::signature_length(public_keys::key_type(pubkeys, id));
     if d.len() != 13 * least_blocks(13 + width + signed) {
         return 6;
     }
@@ -41,7 +42,7 @@ pub fn kroot_judge(public_keys: &[u8], maclt: u8, offer: &mut [u8], header: u8, 
 
 // The message that waits: 1, key ID, message in 45 bytes, signature in 132.
 fn store_offer(offer: &mut [u8], id: u8, header: u8, d: &[u8], width: usize, signed: usize)
-    requires { ⌜ ((length (now offer) ≡ 179) × (width ≤ 32)) × ((signed ≤ 132) × (13 + width + signed ≤ length (now d))) ⌝ }
+    requires { ⌜ ((length (now offer) ≡ offerLength) × (width ≤ 32)) × ((signed ≤ 132) × (13 + width + signed ≤ length (now d))) ⌝ }
     ensures { λ _. ⌜ now (offer .exit) ≡ S.offered id (filled 45 (header ∷ part (now (d .entry)) 1 (12 + width))) (filled 132 (part (now (d .entry)) (13 + width) signed)) ⌝ }
 {
     offer[0] = 1;
@@ -75,14 +76,14 @@ pub fn least_blocks(n: usize) -> usize
 // ---- the chain
 
 // Whether a chain is in force.
-pub fn in_force(maclt: u8, chain: &[u8]) -> bool
-    requires { ⌜ length (now chain) ≡ 45 ⌝ }
-    ensures { λ r. ⌜ r ≡ S.inForce maclt (now (chain .entry)) ⌝ }
+pub fn in_force(config: &[u8], chain: &[u8]) -> bool
+    requires { ⌜ (length (now config) ≡ configLength) × (length (now chain) ≡ chainLength) ⌝ }
+    ensures { λ r. ⌜ r ≡ S.inForce (now (config .entry)) (now (chain .entry)) ⌝ }
 {
     if chain[0] != 1 {
         return false;
     }
-    !parameters_bad(maclt, &chain[1..45])
+    !parameters_bad(config, &chain[1..45])
 }
 
 // The chain's numbers.
@@ -111,7 +112,7 @@ pub fn chain_with(ns: u64, c: &[u8]) -> Chain
 
 // Whether a verdict names what waits: key ID, message and signature.
 pub fn names_offer(offer: &[u8], id: u8, message: &[u8], signature: &[u8]) -> bool
-    requires { ⌜ length (now offer) ≡ 179 ⌝ }
+    requires { ⌜ length (now offer) ≡ offerLength ⌝ }
     ensures { λ r. ⌜ ((good : ℕ) → r ≡ namesOffer (now (offer .entry)) (record { good = good; id = id; message = now (message .entry); signature = now (signature .entry) })) ⌝ }
 {
     if offer[0] != 1 {
@@ -153,11 +154,11 @@ fn widths_same(a: &[u8], b: &[u8]) -> bool
 // ---- row 8 of the table
 
 // Whether contents have a parameter that is refused.
-pub fn parameters_bad(maclt: u8, c: &[u8]) -> bool
-    requires { ⌜ 44 ≤ length (now c) ⌝ }
-    ensures { λ r. ⌜ r ≡ S.parametersBad maclt (now (c .entry)) ⌝ }
+pub fn parameters_bad(config: &[u8], c: &[u8]) -> bool
+    requires { ⌜ (length (now config) ≡ configLength) × (44 ≤ length (now c)) ⌝ }
+    ensures { λ r. ⌜ r ≡ S.parametersBad (now (config .entry)) (now (c .entry)) ⌝ }
 {
-    functions_bad(c) | (widths_bad(maclt, c) | root_time_bad(c))
+    functions_bad(c) | (widths_bad(config, c) | root_time_bad(c))
 }
 
 // HF, MF or MO not 0; NMACK 0.
@@ -169,14 +170,15 @@ fn functions_bad(c: &[u8]) -> bool
 }
 
 // KS code above 8, MS code above 9; other MACLT; block shorter than KS + MS + 16.
-fn widths_bad(maclt: u8, c: &[u8]) -> bool
-    requires { ⌜ 44 ≤ length (now c) ⌝ }
-    ensures { λ r. ⌜ r ≡ G.widthsBad maclt (now (c .entry)) ⌝ }
+fn widths_bad(config: &[u8], c: &[u8]) -> bool
+    requires { ⌜ (length (now config) ≡ configLength) × (44 ≤ length (now c)) ⌝ }
+    ensures { λ r. ⌜ r ≡ G.widthsBad (now (config .entry)) (now (c .entry)) ⌝ }
 {
     let k = ks(c);
     let m = ms(c);
     let used = 8 * (key_width(k) as u64) + tag_width(m) + 16;
     let block = bitfields::block_bits(bitfields::wide(nmack(c)));
+    let maclt = regions::maclt_of(config);
     (8 < k) | ((9 < m) | ((maclt_field(c) != maclt) | (block < used)))
 }
 

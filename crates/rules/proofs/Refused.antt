@@ -24,7 +24,7 @@ by-number : {A : Type 0} (P : A → Type 0) (n : ℕ) {x y : A} → (n ≡ 0 →
 by-number P zero f g = f refl
 by-number P (suc n) f g = g λ e. absurd (omega (arith, e))
 
-same-keys : (s s' : State) → s' .publicKeys ≡ s .publicKeys → KeysKept s s'
+same-keys : (s s' : State) → s' .pubkeys ≡ s .pubkeys → KeysKept s s'
 same-keys s s' e = record { keys = e }
 
 kept : (s : State) → ChainKept s s
@@ -50,12 +50,12 @@ read-offer-kept s m g k = refl
 
 -- ---- verdict
 
-judged-kept : (P : State → Type 0) (s : State) (v : Verdict) (code : ℕ) → P s → P (trusting s (s .publicKeys) (s .chain) (s .tesla)) → code ≢ 0 → P (judgedVerdict s v code)
+judged-kept : (P : State → Type 0) (s : State) (v : Verdict) (code : ℕ) → P s → P (trusting s (s .pubkeys) (s .chain) (s .tesla)) → code ≢ 0 → P (judgedVerdict s v code)
 unfolding judgedVerdict
 judged-kept P s v code whole dropped h =
     by-number P code (λ z. absurd (h z)) λ _. by-test P (eqb code 14) (λ _. whole) (λ _. dropped)
 
-verdict-kept : (P : State → Type 0) (s : State) (v : Verdict) → P s → P (trusting s (s .publicKeys) (s .chain) (s .tesla)) → (verdictCall s v) .code ≢ 0 → P ((verdictCall s v) .state)
+verdict-kept : (P : State → Type 0) (s : State) (v : Verdict) → P s → P (trusting s (s .pubkeys) (s .chain) (s .tesla)) → (verdictCall s v) .code ≢ 0 → P ((verdictCall s v) .state)
 unfolding verdictCall
 verdict-kept P s v whole dropped h =
     let code = firstOf (verdictChecks s v) in
@@ -63,28 +63,28 @@ verdict-kept P s v whole dropped h =
 
 -- ---- the halves
 
-mack-keys : (s : State) (prn t header : ℕ) (mack : List ℕ) → (mackHalf s prn t header mack) .state .publicKeys ≡ s .publicKeys
+mack-keys : (s : State) (prn t header : ℕ) (mack : List ℕ) → (mackHalf s prn t header mack) .state .pubkeys ≡ s .pubkeys
 unfolding mackHalf sectionTaken
 mack-keys s prn t header mack =
-    by-number (λ (m : MackDone). m .state .publicKeys ≡ s .publicKeys) ((sectionProved s prn t header mack) .code) (λ _. refl) λ _. refl
+    by-number (λ (m : MackDone). m .state .pubkeys ≡ s .pubkeys) ((sectionProved s prn t header mack) .code) (λ _. refl) λ _. refl
 
 mack-kept : (s : State) (prn t header : ℕ) (mack : List ℕ) → (mackHalf s prn t header mack) .code ≢ 0 → (mackHalf s prn t header mack) .state ≡ s
 unfolding mackHalf
 mack-kept s prn t header mack =
     by-number (λ (m : MackDone). m .code ≢ 0 → m .state ≡ s) ((sectionProved s prn t header mack) .code) (λ _ h. absurd (h refl)) λ _ _. refl
 
-pkr-keys : (keys root d : List ℕ) → (pkrJudged keys root d) .code ≢ 0 → (pkrJudged keys root d) .publicKeys ≡ keys
+pkr-keys : (keys root d : List ℕ) → (pkrJudged keys root d) .code ≢ 0 → (pkrJudged keys root d) .pubkeys ≡ keys
 unfolding pkrJudged
 pkr-keys keys root d =
-    by-number (λ (j : Renewed). j .code ≢ 0 → j .publicKeys ≡ keys) (firstOf (pkrChecks keys root d)) (λ _ h. absurd (h refl)) λ _ _. refl
+    by-number (λ (j : Renewed). j .code ≢ 0 → j .pubkeys ≡ keys) (firstOf (pkrChecks keys root d)) (λ _ h. absurd (h refl)) λ _ _. refl
 
 -- the HKROOT half changes a public key only where it is answered 0
-hkroot-keys : (s : State) (t : ℕ) (hk : List ℕ) → (hkrootHalf s t hk) .code ≢ 0 → (hkrootHalf s t hk) .state .publicKeys ≡ s .publicKeys
+hkroot-keys : (s : State) (t : ℕ) (hk : List ℕ) → (hkrootHalf s t hk) .code ≢ 0 → (hkrootHalf s t hk) .state .pubkeys ≡ s .pubkeys
 unfolding hkrootHalf storeDone krootDone pkrDone
 hkroot-keys s t hk =
-    let P : HkrootDone → Type 0 = λ a. a .code ≢ 0 → a .state .publicKeys ≡ s .publicKeys in
+    let P : HkrootDone → Type 0 = λ a. a .code ≢ 0 → a .state .pubkeys ≡ s .pubkeys in
     let g = gathered (s .store) t hk in
-    by-test P (eqb (length (g .dsm)) 0) (λ _ _. refl) λ _. by-test P (leb (dsmIdOf hk) 11) (λ _ _. refl) λ _. pkr-keys (s .publicKeys) (treeRoot (s .config)) (g .dsm)
+    by-test P (eqb (length (g .dsm)) 0) (λ _ _. refl) λ _. by-test P (leb (dsmIdOf hk) 11) (λ _ _. refl) λ _. pkr-keys (s .pubkeys) (treeRoot (s .config)) (g .dsm)
 
 -- and never the chain, the held key or an authentic set
 hkroot-kept : (s : State) (t : ℕ) (hk : List ℕ) → ChainKept s ((hkrootHalf s t hk) .state)
@@ -100,12 +100,12 @@ hkroot-kept s t hk =
 
 -- ---- sub-frame
 
-halves-keys : (s : State) (area : List ℕ) (x : Subframe) → (halvesDone s area x) .hkroot ≢ 0 → (halvesDone s area x) .state .publicKeys ≡ s .publicKeys
+halves-keys : (s : State) (area : List ℕ) (x : Subframe) → (halvesDone s area x) .hkroot ≢ 0 → (halvesDone s area x) .state .pubkeys ≡ s .pubkeys
 unfolding halvesDone
 halves-keys s area x =
     let hk = hkrootOf (x .bytes) 15 in
     let a = hkrootHalf s (x .time) hk in
-    by-test (λ (r : SubframeTold). r .hkroot ≢ 0 → r .state .publicKeys ≡ s .publicKeys) (a .stops)
+    by-test (λ (r : SubframeTold). r .hkroot ≢ 0 → r .state .pubkeys ≡ s .pubkeys) (a .stops)
     (λ _ h. hkroot-keys s (x .time) hk h)
     λ _ h. rw (mack-keys (a .state) (x .prn) (x .time) (headerOf hk) (mackOf (x .bytes) 15)) (hkroot-keys s (x .time) hk h)
 
@@ -118,13 +118,13 @@ halves-kept s area x =
     (λ _ _. hkroot-kept s (x .time) hk)
     λ _ h. rw (mack-kept (a .state) (x .prn) (x .time) (headerOf hk) (mackOf (x .bytes) 15) h) (hkroot-kept s (x .time) hk)
 
-subframe-keys : (s : State) (area : List ℕ) (x : Subframe) → (subframeCall s area x) .hkroot ≢ 0 → (subframeCall s area x) .state .publicKeys ≡ s .publicKeys
+subframe-keys : (s : State) (area : List ℕ) (x : Subframe) → (subframeCall s area x) .hkroot ≢ 0 → (subframeCall s area x) .state .pubkeys ≡ s .pubkeys
 unfolding subframeCall noted
 subframe-keys s area x =
     let code = firstOf (subframeChecks s area x) in
-    by-number (λ (r : SubframeTold). r .hkroot ≢ 0 → r .state .publicKeys ≡ s .publicKeys) code
+    by-number (λ (r : SubframeTold). r .hkroot ≢ 0 → r .state .pubkeys ≡ s .pubkeys) code
     (λ _ h. halves-keys (noted s x) area x h)
-    λ _ _. by-test (λ (s' : State). s' .publicKeys ≡ s .publicKeys) (eqb code 5) (λ _. refl) (λ _. refl)
+    λ _ _. by-test (λ (s' : State). s' .pubkeys ≡ s .pubkeys) (eqb code 5) (λ _. refl) (λ _. refl)
 
 section-kept : (s : State) (area : List ℕ) (x : Subframe) → (subframeCall s area x) .mack ≢ 0 → ChainKept s ((subframeCall s area x) .state)
 unfolding subframeCall noted
@@ -140,8 +140,8 @@ section-kept s area x =
 
 keys-kept : (s : State) (c : Call) → (step s c) .reply .code ≢ 0 → KeysKept s ((step s c) .state)
 unfolding step
-keys-kept s (start x) h = record { keys = ap (λ (s' : State). s' .publicKeys) (start-kept s x h) }
-keys-kept s (word w) h = record { keys = ap (λ (s' : State). s' .publicKeys) (word-kept s w h) }
+keys-kept s (start x) h = record { keys = ap (λ (s' : State). s' .pubkeys) (start-kept s x h) }
+keys-kept s (word w) h = record { keys = ap (λ (s' : State). s' .pubkeys) (word-kept s w h) }
 keys-kept s (subframe area x) h = record { keys = subframe-keys s area x h }
 keys-kept s (verdict v) h = verdict-kept (KeysKept s) s v (record { keys = refl }) (record { keys = refl }) h
 keys-kept s (readSet prn out) h = record { keys = refl }

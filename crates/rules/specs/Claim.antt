@@ -79,9 +79,9 @@ pub record Vouched (origin : Start) (v : Verdict) (x : Entry) (older : Log) : Ty
   -- the public key with the verdict's ID that was held then, and is handed out by a read of what waits
   pub key : PublicKey
   pub key-id : key .id ≡ v .id
-  pub held : keyHeld ((stateAt origin older) .publicKeys) (v .id) ≡ true
-  pub held-type : keyType ((stateAt origin older) .publicKeys) (v .id) ≡ key .type
-  pub held-bytes : keyBytes ((stateAt origin older) .publicKeys) (v .id) ≡ key .bytes
+  pub held : keyHeld ((stateAt origin older) .pubkeys) (v .id) ≡ true
+  pub held-type : keyType ((stateAt origin older) .pubkeys) (v .id) ≡ key .type
+  pub held-bytes : keyBytes ((stateAt origin older) .pubkeys) (v .id) ≡ key .bytes
   pub known : KeyKnown origin key older
 
 -- the chain that a verdict's message puts in force
@@ -174,7 +174,7 @@ pub record Fair (origin : Start) (x : Entry) (older : Log) : Type 0 where
 -- "Public keys, the chain in force with its root, the held key and authentic sets are then as before that call or half": of a sub-frame the HKROOT
 -- half alone touches public keys, and the MACK half alone the rest
 pub record KeysKept (s s' : State) : Type 0 where
-  pub keys : s' .publicKeys ≡ s .publicKeys
+  pub keys : s' .pubkeys ≡ s .pubkeys
 
 pub record ChainKept (s s' : State) : Type 0 where
   pub chain : s' .chain ≡ s .chain

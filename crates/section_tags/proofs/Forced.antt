@@ -19,7 +19,7 @@ ms-low : (ns : ℕ) (d : List ℕ) → 10 ≤ (K.chainWith ns d) .ms
 unfolding K.chainWith
 ms-low ns d = tag-wide (K.msOf d)
 
-pub chain-laid : (ns maclt : ℕ) (d : List ℕ) → 1 ≤ ns → ns ≤ 36 → K.parametersBad maclt d ≡ false → Laid (K.chainWith ns d)
-chain-laid ns maclt d h k e =
-    let s = chain-sound ns maclt d h k e in
+pub chain-laid : (ns : ℕ) (config d : List ℕ) → 1 ≤ ns → ns ≤ 36 → K.parametersBad config d ≡ false → Laid (K.chainWith ns d)
+chain-laid ns config d h k e =
+    let s = chain-sound ns config d h k e in
     laid (K.chainWith ns d) (s .walks .nmack-low) (s .walks .nmack-high) (ms-low ns d) (s .ms-high) (s .walks .width-low) (s .fields-are) (s .block-fits)

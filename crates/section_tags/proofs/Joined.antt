@@ -10,7 +10,7 @@ use Rattle.rules.specs.Chain.{Held}
 use Rattle.rules.specs.State.{Nav}
 use Rattle.rules.specs.Tags.{Work, Section, ownsJudged}
 use Rattle.rules.specs.declared.Chain.{Chain}
-use Rattle.due_tags.specs.Swept.{start, Leaves, Counts}
+use Rattle.tag_records.specs.Told.{start, Leaves, Counts}
 use Rattle.section_tags.specs.Own.{Behind, Grows}
 use Rattle.section_tags.proofs.Fields.{one, field-kept, field-records, field-sets, field-arrivals, field-count, right-after}
 

@@ -18,7 +18,7 @@ ghost use Rattle.rules.specs.Navdata.{usable};
 ghost use Rattle.chain.specs.Sound.{Walks};
 ghost use Rattle.navdata.specs.Pieces.{nav};
 ghost use Rattle.tags.specs.Layout.{Laid, section};
-ghost use Rattle.due_tags.specs.Swept.{start, Leaves};
+ghost use Rattle.tag_records.specs.Told.{start, Leaves};
 ghost use Rattle.section_tags.specs.Own.{blockKey, outcomeBy, settled, Grows};
 
 // ---- keys
@@ -131,7 +131,7 @@ fn settle(
     requires { ⌜ ((length (now set) ≡ 69) × (at < 270)) × ((count ≤ 256) × (outcome ≡ 5 → count < 256)) ⌝ }
     ensures { λ r. ⌜ Leaves (settled outcome t (now (set .entry)) (start count (now (sets .entry)) (now (arrivals .entry)))) count at (now (waiting .entry)) (now (area .entry)) (now (waiting .exit)) (now (sets .exit)) (now (arrivals .exit)) (now (area .exit)) r ⌝ }
 {
-    due_tags::tell(outcome, t, set, sets, arrivals, area, at * 12);
+    tag_records::tell(outcome, t, set, sets, arrivals, area, at * 12);
     if outcome == 5 {
         waiting_tags::put_entry(waiting, count, t, set);
         return count + 1;

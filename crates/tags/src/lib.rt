@@ -1,11 +1,10 @@
-// The fields of a MACK section, its tags, the marks that say which ADKD a field has, and tag records (01, "MACK"; 000, 4).
+// The fields of a MACK section, its tags, and the marks that say which ADKD a field has (01, "MACK"; 000, 4).
 // Fields are read at any bit of the 60 bytes; one proof serves every tag width.
 // Public calls:
 //   field_tag, field_info, macseq_of   the parts of a field
 //   own_tag                            a field as a tag
 //   flexible, not_allowed              what a field's mark says
 //   own_outcome, judged                what becomes of a tag
-//   record_issue, put_record           the record of a tag
 use rules::Chain;
 use rules::Outcome;
 use rules::Tag;
@@ -19,7 +18,7 @@ ghost use Rattle.laws.specs.Refusal.{refuse, firstOf};
 ghost use Rattle.rules.specs.Answers.{outcomeNumber};
 ghost use Rattle.rules.specs.Mack.{fieldAt, fieldTag, fieldInfo, macseqOf};
 ghost use Rattle.rules.specs.State.{markOf};
-ghost use Rattle.rules.specs.Tags.{ownTag, secondHalf, notAllowed, tagRecord, recordIssue};
+ghost use Rattle.rules.specs.Tags.{ownTag, secondHalf, notAllowed};
 ghost use Rattle.rules.specs.Tags as rules;
 ghost use Rattle.tags.specs.Layout.{Laid, section};
 
@@ -189,46 +188,4 @@ pub fn outcome_number(o: Outcome) -> u8
         Outcome::SequenceUnfit => 6,
         Outcome::NoPlace => 7,
     }
-}
-
-// ---- records
-
-// The IODnav of a record: that of the set, or 0 for outcomes 3, 4 and 6.
-pub fn record_issue(outcome: u8, set: &[u8]) -> u16
-    requires { ⌜ length (now set) ≡ 69 ⌝ }
-    ensures { λ r. ⌜ r ≡ recordIssue outcome (now (set .entry)) ⌝ }
-{
-    if outcome == 3 {
-        return 0;
-    }
-    if outcome == 4 {
-        return 0;
-    }
-    if outcome == 6 {
-        return 0;
-    }
-    navdata::set_issue(set)
-}
-
-// A tag's record into the area, 12 bytes from place `at`.
-pub fn put_record(area: &mut [u8], at: usize, outcome: u8, t: Tag, issue: u16)
-    requires { ⌜ at + 12 ≤ length (now area) ⌝ }
-    ensures { λ _. ⌜ now (area .exit) ≡ splice (now (area .entry)) at (tagRecord outcome t issue) ⌝ }
-{
-    let time = t.time;
-    let bytes = [
-        outcome,
-        t.sender,
-        t.prn,
-        t.adkd,
-        t.block,
-        t.position,
-        (issue / 256 % 256) as u8,
-        (issue % 256) as u8,
-        (time / 16777216 % 256) as u8,
-        (time / 65536 % 256) as u8,
-        (time / 256 % 256) as u8,
-        (time % 256) as u8,
-    ];
-    buffer::copy_at(area, at, &bytes);
 }

@@ -5,8 +5,8 @@ use mathlib.Core.Bool.{Bool, true, false, cond, _&&_}
 use Prim.Native.Nat.{ℕ, _+_, _-_, _*_, _/_, _%_, _^_, _≤_, _<_}
 use native.Mathlib.Nat.{mul-le-mul, mul-pos, mod-lt, div-le-self}
 use native.Mathlib.Omega.{arith}
-use lib.Dec.{leb, eqb}
-use borrow.Author.Tests.{leb-true}
+use lib.Dec.{ltb, leb, eqb}
+use borrow.Author.Tests.{leb-true, lt-ltb}
 use Rattle.laws.specs.Bytes.{be4}
 use Rattle.rules.specs.Times as S
 
@@ -59,7 +59,7 @@ pub stamp-bound : (g : ℕ) → g < 2 ^ 32 → S.timeValid g ≡ true → S.stam
 unfolding S.timeValid S.stampOf S.secondOf
 stamp-bound g h v = go (leb (g % 2 ^ 20) 604770) refl v
   where
-    go : (b : Bool) → leb (g % 2 ^ 20) 604770 ≡ b → b && eqb (g % 2 ^ 20 % 30) 0 ≡ true → g + 1 < 2 ^ 32
+    go : (b : Bool) → leb (g % 2 ^ 20) 604770 ≡ b → b && (eqb (g % 2 ^ 20 % 30) 0 && ltb (S.weekOf g) 4096) ≡ true → g + 1 < 2 ^ 32
     go true e v = let k = leb-true (g % 2 ^ 20) 604770 e in omega arith
     go false e v = let z : _≡_ {A = ℕ} 0 1 = cc in absurd (omega arith)
 
@@ -87,3 +87,8 @@ slot-quotient ns nmack root m a b d e =
     let q : 0 < ns * nmack = mul-pos a d in
     let r = div-le-self (m - 1) (ns * nmack) in
     (omega arith, (q, omega arith))
+
+-- a GST_SF of 32 bits has a week of 12
+pub week-bound : (g : ℕ) → g < 2 ^ 32 → ltb (S.weekOf g) 4096 ≡ true
+unfolding S.weekOf
+week-bound g h = lt-ltb (g / 2 ^ 20) 4096 (omega arith)

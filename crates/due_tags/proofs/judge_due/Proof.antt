@@ -3,7 +3,7 @@
 use lib.ListN.{take}
 use denote.Ref.{now}
 use Rattle.rules.specs.Chain.{held}
-use Rattle.due_tags.specs.Swept.{start}
+use Rattle.tag_records.specs.Told.{start}
 use Rattle.due_tags.proofs.Judged.{all-judged}
 use borrow.Author.Needs.{needs}
 use Rattle.due_tags.proofs.judge_due.Statement.{statement}

@@ -5,7 +5,8 @@ use Prim.Native.Nat.{_-_, _≤_}
 use native.Mathlib.Omega.{arith}
 use lib.ListN.{length}
 use denote.Ref.{now}
-use Rattle.due_tags.specs.Swept.{start, swept, Leaves, Counts}
+use Rattle.tag_records.specs.Told.{start, Leaves, Counts}
+use Rattle.due_tags.specs.Swept.{swept}
 use Rattle.due_tags.proofs.Arrival.{none-swept, one-swept}
 use borrow.Author.Needs.{needs}
 use Rattle.due_tags.proofs.sweep.Statement.{statement}

@@ -5,7 +5,7 @@ use Rattle.leaf_edge.proofs.leaf_keys_code.Statement.{statement}
 use Rattle.leaf_edge.proofs.leaf_keys_code.Tie as tie
 
 returns : tie.Need-returns
-returns c = (c .keys-proved .ensures .code-is, c .keys-proved .ensures .key-is)
+returns c = (c .keys-proved .ensures .0 .code-is, c .keys-proved .ensures .0 .key-is)
 
 pub leaf-keys-code-spec : {M : Type 1} → statement M
 leaf-keys-code-spec = tie.close (tie.spec (λ c κs. search needs) returns)

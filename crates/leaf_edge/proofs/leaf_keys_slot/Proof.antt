@@ -5,7 +5,7 @@ use Rattle.leaf_edge.proofs.leaf_keys_slot.Statement.{statement}
 use Rattle.leaf_edge.proofs.leaf_keys_slot.Tie as tie
 
 returns : tie.Need-returns
-returns c = (c .keys-proved .ensures .slot-is, c .keys-proved .ensures .key-is)
+returns c = (c .keys-proved .ensures .0 .slot-is, c .keys-proved .ensures .0 .key-is)
 
 pub leaf-keys-slot-spec : {M : Type 1} → statement M
 leaf-keys-slot-spec = tie.close (tie.spec (λ c κs. search needs) returns)

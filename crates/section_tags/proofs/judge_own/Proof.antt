@@ -9,7 +9,7 @@ use Rattle.rules.specs.Chain.{held}
 use Rattle.rules.specs.Tags.{ownsJudged}
 use Rattle.navdata.specs.Pieces.{nav}
 use Rattle.tags.specs.Layout.{section}
-use Rattle.due_tags.specs.Swept.{start, Leaves}
+use Rattle.tag_records.specs.Told.{start, Leaves}
 use Rattle.section_tags.specs.Own.{blockKey, Grows}
 use Rattle.section_tags.proofs.Keys.{next-block, macseq-is}
 use Rattle.section_tags.proofs.Fields.{none-judged, next-judged}

@@ -7,6 +7,8 @@ use mathlib.Core.Bool.{true, false}
 use lib.Dec.{leb}
 use borrow.Author.Tests.{le-leb, lt-leb}
 use borrow.Author.Needs.{needs}
+use Rattle.laws.proofs.Tests.{and-true}
+use Rattle.times.proofs.Times.{week-bound}
 use Rattle.times.proofs.time_valid.Statement.{statement}
 use Rattle.times.proofs.time_valid.Tie as tie
 
@@ -15,7 +17,7 @@ unfolding S.timeValid
 returns c =
     let r : ℕ = c .before .second-of .result in
     let h : leb r 604770 ≡ true = le-leb r 604770 (c .if1 .taken) in
-    rw (← (c .before .second-of .ensures), h)
+    rw (← (c .before .second-of .ensures), h, week-bound (c .before .before .args .g) (search needs), and-true)
 
 returns-2 : tie.Need-returns-2
 unfolding S.timeValid

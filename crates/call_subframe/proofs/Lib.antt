@@ -1,0 +1,2 @@
+-- Laws of the sub-frame call.
+mod Subframes

@@ -1,0 +1,2 @@
+-- Laws of the MACK half.
+pub mod Sections

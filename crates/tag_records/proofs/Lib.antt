@@ -1,0 +1,2 @@
+-- Laws of tag records.
+pub mod Told

@@ -1,0 +1,2 @@
+-- What the contracts of tag records speak of.
+pub mod Told
