@@ -10,7 +10,7 @@ use Rattle.laws.specs.Lists.{part}
 use Rattle.laws.specs.Refusal.{unless, neb}
 use Rattle.rules.specs.Calls.{Start, Word, Subframe, startCall, wordCall, subframeCall, verdictCall}
 use Rattle.rules.specs.State.{State}
-use Rattle.rules.specs.State.{configLength, clocksLength, wordsLength, stampsLength, blocksLength, dsmIds, publicKeysLength, offerLength, chainLength, numbersLength, heldKeyLength, waitingLength, setsLength, satellites}
+use Rattle.rules.specs.State.{configLength, clocksLength, wordsLength, stampsLength, blocksLength, dsmIds, pubkeysLength, offerLength, chainLength, numbersLength, heldkeyLength, waitingLength, setsLength, satellites}
 use Rattle.rules.specs.Verdict.{Verdict}
 
 -- ---- a record as a call
@@ -186,10 +186,10 @@ blankCore =
       clocks = replicate clocksLength 0;
       nav = record { words = replicate wordsLength 0; stamps = replicate stampsLength 0 };
       store = record { blocks = replicate blocksLength 0; headers = replicate dsmIds 0; present = replicate dsmIds 0; since = replicate dsmIds 0 };
-      publicKeys = replicate publicKeysLength 0;
+      pubkeys = replicate pubkeysLength 0;
       offer = replicate offerLength 0;
       chain = replicate chainLength 0;
-      tesla = record { numbers = replicate numbersLength 0; key = replicate heldKeyLength 0; waiting = replicate waitingLength 0 };
+      tesla = record { numbers = replicate numbersLength 0; key = replicate heldkeyLength 0; waiting = replicate waitingLength 0 };
       auth = record { sets = replicate setsLength 0; arrivals = replicate satellites 0 };
     }
 
