@@ -13,7 +13,7 @@ pub mod Mack
 pub mod Tags
 pub mod Verdict
 pub mod Calls
-pub mod Answers
+pub mod Outcomes
 pub mod Log
 pub mod Claim
 pub mod Points
