@@ -35,7 +35,7 @@ pub struct Tag {
     pub bits: u64,
 }
 
-// What becomes of a tag (01, "Tag outcomes"). The definition `outcomeNumber` of specs/Answers.antt gives the number of its record.
+// What becomes of a tag (01, "Tag outcomes"). The definition `outcomeNumber` of specs/Outcomes.antt gives the number of its record.
 pub enum Outcome {
     Authentic,
     Wrong,
