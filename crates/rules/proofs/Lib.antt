@@ -2,3 +2,4 @@
 pub mod Refused
 pub mod Points
 pub mod Worked
+pub mod Replay

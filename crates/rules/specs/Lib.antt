@@ -18,3 +18,4 @@ pub mod Log
 pub mod Claim
 pub mod Points
 pub mod Orders
+pub mod Replay
