@@ -60,13 +60,13 @@ extern "C" {
 #define OSNMA_STAMPS_COUNT 180u
 #define OSNMA_BLOCKS_COUNT 3328u
 #define OSNMA_HEADERS_COUNT 16u
-#define OSNMA_BLOCK_MARKS_COUNT 16u
+#define OSNMA_PRESENT_COUNT 16u
 #define OSNMA_SINCE_COUNT 16u
-#define OSNMA_KEYS_COUNT 1088u
+#define OSNMA_PUBKEYS_COUNT 1088u
 #define OSNMA_OFFER_COUNT 179u
 #define OSNMA_CHAIN_COUNT 45u
 #define OSNMA_NUMBERS_COUNT 2u
-#define OSNMA_HELD_KEY_COUNT 32u
+#define OSNMA_HELDKEY_COUNT 32u
 #define OSNMA_WAITING_COUNT 21504u
 #define OSNMA_SETS_COUNT 2484u
 #define OSNMA_ARRIVALS_COUNT 36u
@@ -145,31 +145,31 @@ struct osnma_core {
     uint32_t clocks[OSNMA_CLOCKS_COUNT];
     /* By PRN: words 1 to 5. */
     uint8_t words[OSNMA_WORDS_COUNT];
-    /* By PRN: the stamp of each word. */
+    /* By PRN: the stamp of the sub-frame that each word came in. */
     uint32_t stamps[OSNMA_STAMPS_COUNT];
     /* By DSM ID: 16 blocks of 13 bytes. */
     uint8_t blocks[OSNMA_BLOCKS_COUNT];
     /* By DSM ID: the NMA header that its blocks came with. */
     uint8_t headers[OSNMA_HEADERS_COUNT];
     /* By DSM ID: the blocks present, block 0 in the lowest bit. */
-    uint16_t marks[OSNMA_BLOCK_MARKS_COUNT];
-    /* By DSM ID: GST_SF of the block that came first. */
+    uint16_t present[OSNMA_PRESENT_COUNT];
+    /* By DSM ID: GST_SF of the block that came first; no stamp. */
     uint32_t since[OSNMA_SINCE_COUNT];
     /* By key ID: the type plus 1 (0 where none is held), and the public key in 67 bytes. */
-    uint8_t keys[OSNMA_KEYS_COUNT];
+    uint8_t pubkeys[OSNMA_PUBKEYS_COUNT];
     /* 1 where a message waits, its key ID, message and signature. */
     uint8_t offer[OSNMA_OFFER_COUNT];
     /* 1 in force, 2 dropped, 0 where there was none; then the contents put in force last. */
     uint8_t chain[OSNMA_CHAIN_COUNT];
     /* The held TESLA key's slot, and the count of waiting tags. */
     uint64_t numbers[OSNMA_NUMBERS_COUNT];
-    /* The held TESLA key. */
-    uint8_t key[OSNMA_HELD_KEY_COUNT];
-    /* 256 waiting tags of 84 bytes, in order of arrival. */
+    /* The held TESLA key, zeros after a short one. */
+    uint8_t heldkey[OSNMA_HELDKEY_COUNT];
+    /* 256 places for waiting tags, 84 bytes each, in order of arrival. */
     uint8_t waiting[OSNMA_WAITING_COUNT];
     /* By PRN: the authentic set. */
     uint8_t sets[OSNMA_SETS_COUNT];
-    /* By PRN: the stamp of that set's tag. */
+    /* By PRN: the stamp of the sub-frame that brought that set's tag. */
     uint32_t arrivals[OSNMA_ARRIVALS_COUNT];
 };
 
@@ -300,20 +300,20 @@ uint32_t osnma_regions_start(
     uint32_t *stamps, size_t stamps_count,
     uint8_t *blocks, size_t blocks_count,
     uint8_t *headers, size_t headers_count,
-    uint16_t *marks, size_t marks_count,
+    uint16_t *present, size_t present_count,
     uint32_t *since, size_t since_count,
-    uint8_t *keys, size_t keys_count,
+    uint8_t *pubkeys, size_t pubkeys_count,
     uint8_t *offer, size_t offer_count,
     uint8_t *chain, size_t chain_count,
     uint64_t *numbers, size_t numbers_count,
-    uint8_t *key, size_t key_count,
+    uint8_t *heldkey, size_t heldkey_count,
     uint8_t *waiting, size_t waiting_count,
     uint8_t *sets, size_t sets_count,
     uint32_t *arrivals, size_t arrivals_count,
-    uint8_t ns, uint8_t key_id, uint8_t key_type, uint8_t maclt,
-    const uint8_t *adkds, size_t adkds_count,
-    const uint8_t *tree_root, size_t tree_root_count,
-    const uint8_t *first_key, size_t first_key_count);
+    uint8_t ns, uint8_t id, uint8_t kind, uint8_t maclt,
+    const uint8_t *marks, size_t marks_count,
+    const uint8_t *root, size_t root_count,
+    const uint8_t *pubkey, size_t pubkey_count);
 
 uint32_t osnma_regions_word(
     const uint8_t *config, size_t config_count,
@@ -322,18 +322,18 @@ uint32_t osnma_regions_word(
     uint32_t *stamps, size_t stamps_count,
     const uint8_t *blocks, size_t blocks_count,
     const uint8_t *headers, size_t headers_count,
-    const uint16_t *marks, size_t marks_count,
+    const uint16_t *present, size_t present_count,
     const uint32_t *since, size_t since_count,
-    const uint8_t *keys, size_t keys_count,
+    const uint8_t *pubkeys, size_t pubkeys_count,
     const uint8_t *offer, size_t offer_count,
     const uint8_t *chain, size_t chain_count,
     const uint64_t *numbers, size_t numbers_count,
-    const uint8_t *key, size_t key_count,
+    const uint8_t *heldkey, size_t heldkey_count,
     const uint8_t *waiting, size_t waiting_count,
     const uint8_t *sets, size_t sets_count,
     const uint32_t *arrivals, size_t arrivals_count,
     uint8_t prn, uint32_t time,
-    const uint8_t *word, size_t word_count);
+    const uint8_t *bytes, size_t bytes_count);
 
 uint32_t osnma_regions_verdict(
     const uint8_t *config, size_t config_count,
@@ -342,17 +342,17 @@ uint32_t osnma_regions_verdict(
     const uint32_t *stamps, size_t stamps_count,
     const uint8_t *blocks, size_t blocks_count,
     const uint8_t *headers, size_t headers_count,
-    const uint16_t *marks, size_t marks_count,
+    const uint16_t *present, size_t present_count,
     const uint32_t *since, size_t since_count,
-    uint8_t *keys, size_t keys_count,
+    uint8_t *pubkeys, size_t pubkeys_count,
     uint8_t *offer, size_t offer_count,
     uint8_t *chain, size_t chain_count,
     uint64_t *numbers, size_t numbers_count,
-    uint8_t *key, size_t key_count,
+    uint8_t *heldkey, size_t heldkey_count,
     uint8_t *waiting, size_t waiting_count,
     const uint8_t *sets, size_t sets_count,
     const uint32_t *arrivals, size_t arrivals_count,
-    uint8_t good, uint8_t key_id,
+    uint8_t good, uint8_t id,
     const uint8_t *message, size_t message_count,
     const uint8_t *signature, size_t signature_count);
 
@@ -363,19 +363,19 @@ uint32_t osnma_regions_read_set(
     const uint32_t *stamps, size_t stamps_count,
     const uint8_t *blocks, size_t blocks_count,
     const uint8_t *headers, size_t headers_count,
-    const uint16_t *marks, size_t marks_count,
+    const uint16_t *present, size_t present_count,
     const uint32_t *since, size_t since_count,
-    const uint8_t *keys, size_t keys_count,
+    const uint8_t *pubkeys, size_t pubkeys_count,
     const uint8_t *offer, size_t offer_count,
     const uint8_t *chain, size_t chain_count,
     const uint64_t *numbers, size_t numbers_count,
-    const uint8_t *key, size_t key_count,
+    const uint8_t *heldkey, size_t heldkey_count,
     const uint8_t *waiting, size_t waiting_count,
     const uint8_t *sets, size_t sets_count,
     const uint32_t *arrivals, size_t arrivals_count,
     uint8_t prn,
-    uint8_t *set, size_t set_count,
-    uint16_t *iodnav, uint32_t *time);
+    uint8_t *out, size_t out_count,
+    uint16_t *issue, uint32_t *time);
 
 uint32_t osnma_regions_read_message(
     const uint8_t *config, size_t config_count,
@@ -384,31 +384,32 @@ uint32_t osnma_regions_read_message(
     const uint32_t *stamps, size_t stamps_count,
     const uint8_t *blocks, size_t blocks_count,
     const uint8_t *headers, size_t headers_count,
-    const uint16_t *marks, size_t marks_count,
+    const uint16_t *present, size_t present_count,
     const uint32_t *since, size_t since_count,
-    const uint8_t *keys, size_t keys_count,
+    const uint8_t *pubkeys, size_t pubkeys_count,
     const uint8_t *offer, size_t offer_count,
     const uint8_t *chain, size_t chain_count,
     const uint64_t *numbers, size_t numbers_count,
-    const uint8_t *key, size_t key_count,
+    const uint8_t *heldkey, size_t heldkey_count,
     const uint8_t *waiting, size_t waiting_count,
     const uint8_t *sets, size_t sets_count,
     const uint32_t *arrivals, size_t arrivals_count,
     uint8_t *message, size_t message_count,
     uint8_t *signature, size_t signature_count,
-    uint8_t *public_key, size_t public_key_count,
-    uint8_t *key_id, uint8_t *key_type);
+    uint8_t *pubkey, size_t pubkey_count,
+    uint8_t *id, uint8_t *kind);
 
 /* ---- the calls over a core, by those over its regions */
 
 #define OSNMA_REGIONS_OF(core)                                                                     \
-    (core)->config, OSNMA_CONFIG_COUNT, (core)->clocks, OSNMA_CLOCKS_COUNT, (core)->words,         \
-        OSNMA_WORDS_COUNT, (core)->stamps, OSNMA_STAMPS_COUNT, (core)->blocks, OSNMA_BLOCKS_COUNT, \
-        (core)->headers, OSNMA_HEADERS_COUNT, (core)->marks, OSNMA_BLOCK_MARKS_COUNT,              \
-        (core)->since, OSNMA_SINCE_COUNT, (core)->keys, OSNMA_KEYS_COUNT, (core)->offer,           \
-        OSNMA_OFFER_COUNT, (core)->chain, OSNMA_CHAIN_COUNT, (core)->numbers, OSNMA_NUMBERS_COUNT, \
-        (core)->key, OSNMA_HELD_KEY_COUNT, (core)->waiting, OSNMA_WAITING_COUNT, (core)->sets,     \
-        OSNMA_SETS_COUNT, (core)->arrivals, OSNMA_ARRIVALS_COUNT
+    (core)->config, OSNMA_CONFIG_COUNT, (core)->clocks, OSNMA_CLOCKS_COUNT,                        \
+    (core)->words, OSNMA_WORDS_COUNT, (core)->stamps, OSNMA_STAMPS_COUNT,                          \
+    (core)->blocks, OSNMA_BLOCKS_COUNT, (core)->headers, OSNMA_HEADERS_COUNT,                      \
+    (core)->present, OSNMA_PRESENT_COUNT, (core)->since, OSNMA_SINCE_COUNT,                        \
+    (core)->pubkeys, OSNMA_PUBKEYS_COUNT, (core)->offer, OSNMA_OFFER_COUNT,                        \
+    (core)->chain, OSNMA_CHAIN_COUNT, (core)->numbers, OSNMA_NUMBERS_COUNT,                        \
+    (core)->heldkey, OSNMA_HELDKEY_COUNT, (core)->waiting, OSNMA_WAITING_COUNT,                    \
+    (core)->sets, OSNMA_SETS_COUNT, (core)->arrivals, OSNMA_ARRIVALS_COUNT
 
 static inline enum osnma_answer osnma_start(struct osnma_core *core,
                                             const struct osnma_settings *settings)

@@ -29,13 +29,13 @@ fn lists(r: &Regions) -> rules::Regions {
         list(&r.stamps),
         list(&r.blocks),
         list(&r.headers),
-        list(&r.marks),
+        list(&r.present),
         list(&r.since),
-        list(&r.keys),
+        list(&r.pubkeys),
         list(&r.offer),
         list(&r.chain),
         list(&r.numbers),
-        list(&r.key),
+        list(&r.heldkey),
         list(&r.waiting),
         list(&r.sets),
         list(&r.arrivals),
@@ -56,13 +56,13 @@ fn spoil(r: &mut Regions, rng: &mut Rng) {
             6 => r.chain[rng.range(1, 12) as usize] = any as u8,
             7 => r.numbers[0] = any >> rng.below(64),
             8 => r.numbers[1] = *rng.pick(&[0, 1, 2, 3, 255, 256, 257, 1 << 32, u64::MAX]),
-            9 => r.keys[68 * rng.below(16) as usize] = rng.below(7) as u8,
+            9 => r.pubkeys[68 * rng.below(16) as usize] = rng.below(7) as u8,
             10 => r.arrivals[rng.below(36) as usize] = *rng.pick(&[0, 1, any as u32, u32::MAX]),
             11 => {
                 r.clocks[36 + rng.range(1, 36) as usize] = *rng.pick(&[0, 1, any as u32, u32::MAX])
             }
             12 => rng.fill(&mut r.waiting),
-            _ => rng.fill(&mut r.keys),
+            _ => rng.fill(&mut r.pubkeys),
         }
     }
 }
@@ -179,6 +179,18 @@ fn by_rules(run: &mut rules::Run, call: &Call) -> Given {
             (read.number, bytes, [read.id, read.key_type])
         }
     }
+}
+
+// A core's regions have the lengths that the definitions name.
+#[test]
+fn lengths_of_the_regions() {
+    let crates = Path::new(env!("CARGO_MANIFEST_DIR")).join("../../crates");
+    let lengths = with_large_stack(|| {
+        let rules = Rules::load(&crates, Hashes::Portable).unwrap_or_else(|e| panic!("{e}"));
+        rules.lengths()
+    });
+    let regions = Regions::zeroed();
+    assert_eq!(lists(&regions).map(|region| region.len()), lengths);
 }
 
 #[test]

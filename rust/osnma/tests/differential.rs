@@ -159,8 +159,8 @@ fn one_bit_changed_is_seen() {
             };
         }
         changed!(
-            config clocks words stamps blocks headers marks since
-            keys offer chain numbers key waiting sets arrivals
+            config clocks words stamps blocks headers present since
+            pubkeys offer chain numbers heldkey waiting sets arrivals
         );
     }
     let zeroed = Regions::zeroed();
@@ -175,8 +175,8 @@ fn one_bit_changed_is_seen() {
         };
     }
     every!(
-        config clocks words stamps blocks headers marks since
-        keys offer chain numbers key waiting sets arrivals
+        config clocks words stamps blocks headers present since
+        pubkeys offer chain numbers heldkey waiting sets arrivals
     );
 }
 

@@ -42,13 +42,13 @@ static void check_regions(int line)
     SAME(stamps);
     SAME(blocks);
     SAME(headers);
-    SAME(marks);
+    SAME(present);
     SAME(since);
-    SAME(keys);
+    SAME(pubkeys);
     SAME(offer);
     SAME(chain);
     SAME(numbers);
-    SAME(key);
+    SAME(heldkey);
     SAME(waiting);
     SAME(sets);
     SAME(arrivals);
@@ -107,8 +107,8 @@ static void want_fresh(void)
     want.config[1] = settings.maclt;
     memcpy(want.config + 2, settings.marks, 28);
     memcpy(want.config + 30, settings.tree_root, 32);
-    want.keys[68 * settings.key_id] = (uint8_t)(settings.key_type + 1);
-    memcpy(want.keys + 68 * settings.key_id + 1, settings.key, length[settings.key_type]);
+    want.pubkeys[68 * settings.key_id] = (uint8_t)(settings.key_type + 1);
+    memcpy(want.pubkeys + 68 * settings.key_id + 1, settings.key, length[settings.key_type]);
 }
 
 static void start(void)
@@ -281,8 +281,8 @@ static void want_in_force(void)
     want_no_offer();
     want.chain[0] = 1;
     memcpy(want.chain + 1, message + 1, 44);
-    memset(want.key, 0, sizeof want.key);
-    memcpy(want.key, message + 13, 16);
+    memset(want.heldkey, 0, sizeof want.heldkey);
+    memcpy(want.heldkey, message + 13, 16);
     want.numbers[0] = 0;
     want.numbers[1] = 0;
 }
@@ -344,8 +344,8 @@ static void test_verdicts(void)
     unsigned cid;
     start();
     /* A second key is held, of lower ID: it goes with a root under key 3. */
-    core.keys[68 * 2] = want.keys[68 * 2] = 1;
-    core.keys[68 * 2 + 1] = want.keys[68 * 2 + 1] = 77;
+    core.pubkeys[68 * 2] = want.pubkeys[68 * 2] = 1;
+    core.pubkeys[68 * 2 + 1] = want.pubkeys[68 * 2 + 1] = 77;
     /* No chain is in force: status 0 and 3, and a CIDKR that is not the CID. */
     make_message(0, 0, 0, 947, 120);
     wait_for(3);
@@ -365,12 +365,12 @@ static void test_verdicts(void)
     make_message(1, 0, 0, 947, 120);
     wait_for(3);
     want_in_force();
-    memset(want.keys, 0, 68 * 3);
+    memset(want.pubkeys, 0, 68 * 3);
     ANSWERS(verdict(1, 3), OSNMA_DONE);
     /* The same contents again change nothing but the public keys. */
     core.numbers[0] = want.numbers[0] = 5000000000u;
     core.numbers[1] = want.numbers[1] = 3;
-    core.keys[68 * 1] = want.keys[68 * 1] = 1;
+    core.pubkeys[68 * 1] = want.pubkeys[68 * 1] = 1;
     tag_waits(0, 12, osnma_gst(947, 435300 - 30));
     tag_waits(1, 12, osnma_gst(947, 435300));
     tag_waits(2, 11, osnma_gst(947, 435600));
@@ -378,7 +378,7 @@ static void test_verdicts(void)
     memset(signature, 9, 64);
     wait_for(3);
     want_no_offer();
-    memset(want.keys, 0, 68 * 3);
+    memset(want.pubkeys, 0, 68 * 3);
     ANSWERS(verdict(1, 3), OSNMA_DONE);
     /* Not newer: earlier, or the same hour with other contents. */
     make_message(1, 0, 0, 947, 119);
@@ -413,7 +413,7 @@ static void test_verdicts(void)
     ANSWERS(verdict(1, 3), OSNMA_NOT_IN_FORCE);
     core.numbers[0] = want.numbers[0] = 42;
     core.numbers[1] = 1;
-    core.keys[68 * 1] = want.keys[68 * 1] = 1;
+    core.pubkeys[68 * 1] = want.pubkeys[68 * 1] = 1;
     make_message(3, 1, 2, 947, 1);
     wait_for(3);
     want_no_offer();
@@ -427,7 +427,7 @@ static void test_verdicts(void)
     make_message(1, 2, 2, 948, 0);
     wait_for(3);
     want_in_force();
-    memset(want.keys, 0, 68 * 3);
+    memset(want.pubkeys, 0, 68 * 3);
     ANSWERS(verdict(1, 3), OSNMA_DONE);
 }
 
@@ -500,10 +500,10 @@ static const size_t right_counts[REGIONS + 3] = {63, 73, 2880, 180,   3328, 16, 
                                                  45, 2,  32,   21504, 2484, 36, 0,  0,  0};
 
 #define LENT(n)                                                                                    \
-    core.config, n[0], core.clocks, n[1], core.words, n[2], core.stamps, n[3], core.blocks, n[4],  \
-        core.headers, n[5], core.marks, n[6], core.since, n[7], core.keys, n[8], core.offer, n[9], \
-        core.chain, n[10], core.numbers, n[11], core.key, n[12], core.waiting, n[13], core.sets,   \
-        n[14], core.arrivals, n[15]
+    core.config, n[0], core.clocks, n[1], core.words, n[2], core.stamps, n[3],                     \
+    core.blocks, n[4], core.headers, n[5], core.present, n[6], core.since, n[7],                   \
+    core.pubkeys, n[8], core.offer, n[9], core.chain, n[10], core.numbers, n[11],                  \
+    core.heldkey, n[12], core.waiting, n[13], core.sets, n[14], core.arrivals, n[15]
 
 static enum osnma_answer counted_start(const size_t *n)
 {
@@ -604,13 +604,13 @@ static void print_layout(void)
     PRINT(stamps);
     PRINT(blocks);
     PRINT(headers);
-    PRINT(marks);
+    PRINT(present);
     PRINT(since);
-    PRINT(keys);
+    PRINT(pubkeys);
     PRINT(offer);
     PRINT(chain);
     PRINT(numbers);
-    PRINT(key);
+    PRINT(heldkey);
     PRINT(waiting);
     PRINT(sets);
     PRINT(arrivals);

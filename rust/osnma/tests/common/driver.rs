@@ -172,7 +172,7 @@ fn shape(receiver: &Receiver) -> [usize; 7] {
         receiver.public_keys().len(),
         sets.count().div_ceil(12),
         (0..16)
-            .filter(|&id| receiver.dsm(id).is_some_and(|store| store.marks() != 0))
+            .filter(|&id| receiver.dsm(id).is_some_and(|store| store.present() != 0))
             .count()
             .min(3),
     ]

@@ -85,7 +85,7 @@ fn write_satellite(receiver: &Receiver, prn: u8, regions: &mut Regions) {
 
 fn write_blocks(receiver: &Receiver, id: u8, regions: &mut Regions) {
     let (at, store) = (usize::from(id), receiver.dsm(id).expect("DSM ID 0 to 15"));
-    regions.marks[at] = store.marks();
+    regions.present[at] = store.present();
     if let Some(header) = store.header {
         regions.headers[at] = header;
     }
@@ -102,9 +102,9 @@ fn write_blocks(receiver: &Receiver, id: u8, regions: &mut Regions) {
 }
 
 fn write_keys(receiver: &Receiver, regions: &mut Regions) {
-    regions.keys.fill(0);
+    regions.pubkeys.fill(0);
     for key in receiver.public_keys() {
-        let place = &mut regions.keys[68 * usize::from(key.id)..][..68];
+        let place = &mut regions.pubkeys[68 * usize::from(key.id)..][..68];
         place[0] = key.key_type + 1;
         put_filled(&mut place[1..], &key.bytes);
     }
@@ -126,7 +126,7 @@ fn write_chain(receiver: &Receiver, regions: &mut Regions) {
         (Some(chain), _) => {
             regions.chain[0] = 1;
             put_filled(&mut regions.chain[1..], &chain.contents);
-            put_filled(&mut regions.key, chain.held.as_slice());
+            put_filled(&mut regions.heldkey, chain.held.as_slice());
             regions.numbers[0] = chain.held_slot;
         }
         // A drop leaves the contents; of them only the root's time counts again.
@@ -139,7 +139,7 @@ fn write_chain(receiver: &Receiver, regions: &mut Regions) {
         }
         (None, None) => {
             regions.chain.fill(0);
-            regions.key.fill(0);
+            regions.heldkey.fill(0);
             regions.numbers[0] = 0;
         }
     }
@@ -165,8 +165,8 @@ pub fn difference(got: &Regions, want: &Regions) -> Option<String> {
         };
     }
     first!(
-        config clocks words stamps blocks headers marks since
-        keys offer chain numbers key waiting sets arrivals
+        config clocks words stamps blocks headers present since
+        pubkeys offer chain numbers heldkey waiting sets arrivals
     );
     None
 }

@@ -69,15 +69,15 @@ pub fn garbage(rng: &mut Rng) -> Regions {
     rng.fill(&mut r.words);
     rng.fill(&mut r.blocks);
     rng.fill(&mut r.headers);
-    rng.fill(&mut r.keys);
+    rng.fill(&mut r.pubkeys);
     rng.fill(&mut r.offer);
     rng.fill(&mut r.chain);
-    rng.fill(&mut r.key);
+    rng.fill(&mut r.heldkey);
     rng.fill(&mut r.waiting);
     rng.fill(&mut r.sets);
     r.clocks.fill_with(|| rng.number() as u32);
     r.stamps.fill_with(|| rng.number() as u32);
-    r.marks.fill_with(|| rng.number() as u16);
+    r.present.fill_with(|| rng.number() as u16);
     r.since.fill_with(|| rng.number() as u32);
     r.numbers.fill_with(|| rng.number());
     r.arrivals.fill_with(|| rng.number() as u32);
