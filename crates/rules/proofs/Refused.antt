@@ -20,23 +20,23 @@ use Rattle.rules.specs.State.{State, Store, treeRoot}
 use Rattle.rules.specs.Verdict.{Verdict, judgedVerdict, vouched, trusting}
 
 -- what holds where nothing was refused and where something was holds of the choice
-by-number : {A : Type 0} (P : A → Type 0) (n : ℕ) {x y : A} → (n ≡ 0 → P x) → (n ≢ 0 → P y) → P (unless n x y)
+pub by-number : {A : Type 0} (P : A → Type 0) (n : ℕ) {x y : A} → (n ≡ 0 → P x) → (n ≢ 0 → P y) → P (unless n x y)
 by-number P zero f g = f refl
 by-number P (suc n) f g = g λ e. absurd (omega (arith, e))
 
 same-keys : (s s' : State) → s' .publicKeys ≡ s .publicKeys → KeysKept s s'
-same-keys s s' e = record { keys = e }
+same-keys s s' e = record { publicKeys = e }
 
 kept : (s : State) → ChainKept s s
 kept s = record { chain = refl; slot = refl; key = refl; auth = refl }
 
 -- ---- start, word, reads
 
-start-kept : (s : State) (x : Start) → (step s (start x)) .reply .code ≢ 0 → (step s (start x)) .state ≡ s
+pub start-kept : (s : State) (x : Start) → (step s (start x)) .reply .code ≢ 0 → (step s (start x)) .state ≡ s
 unfolding step startCall
 start-kept s x h = unless-refused (firstOf (startChecks s x)) (fresh x) s h
 
-word-kept : (s : State) (w : Word) → (step s (word w)) .reply .code ≢ 0 → (step s (word w)) .state ≡ s
+pub word-kept : (s : State) (w : Word) → (step s (word w)) .reply .code ≢ 0 → (step s (word w)) .state ≡ s
 unfolding step wordCall
 word-kept s w h = unless-refused (firstOf (wordChecks s w)) (wordTaken s w) s h
 
@@ -63,17 +63,17 @@ verdict-kept P s v whole dropped h =
 
 -- ---- the halves
 
-mack-keys : (s : State) (prn t header : ℕ) (mack : List ℕ) → (mackHalf s prn t header mack) .state .publicKeys ≡ s .publicKeys
+pub mack-keys : (s : State) (prn t header : ℕ) (mack : List ℕ) → (mackHalf s prn t header mack) .state .publicKeys ≡ s .publicKeys
 unfolding mackHalf sectionTaken
 mack-keys s prn t header mack =
     by-number (λ (m : MackDone). m .state .publicKeys ≡ s .publicKeys) ((sectionProved s prn t header mack) .code) (λ _. refl) λ _. refl
 
-mack-kept : (s : State) (prn t header : ℕ) (mack : List ℕ) → (mackHalf s prn t header mack) .code ≢ 0 → (mackHalf s prn t header mack) .state ≡ s
+pub mack-kept : (s : State) (prn t header : ℕ) (mack : List ℕ) → (mackHalf s prn t header mack) .code ≢ 0 → (mackHalf s prn t header mack) .state ≡ s
 unfolding mackHalf
 mack-kept s prn t header mack =
     by-number (λ (m : MackDone). m .code ≢ 0 → m .state ≡ s) ((sectionProved s prn t header mack) .code) (λ _ h. absurd (h refl)) λ _ _. refl
 
-pkr-keys : (keys root d : List ℕ) → (pkrJudged keys root d) .code ≢ 0 → (pkrJudged keys root d) .publicKeys ≡ keys
+pub pkr-keys : (keys root d : List ℕ) → (pkrJudged keys root d) .code ≢ 0 → (pkrJudged keys root d) .publicKeys ≡ keys
 unfolding pkrJudged
 pkr-keys keys root d =
     by-number (λ (j : Renewed). j .code ≢ 0 → j .publicKeys ≡ keys) (firstOf (pkrChecks keys root d)) (λ _ h. absurd (h refl)) λ _ _. refl
@@ -87,7 +87,7 @@ hkroot-keys s t hk =
     by-test P (eqb (length (g .dsm)) 0) (λ _ _. refl) λ _. by-test P (leb (dsmIdOf hk) 11) (λ _ _. refl) λ _. pkr-keys (s .publicKeys) (treeRoot (s .config)) (g .dsm)
 
 -- and never the chain, the held key or an authentic set
-hkroot-kept : (s : State) (t : ℕ) (hk : List ℕ) → ChainKept s ((hkrootHalf s t hk) .state)
+pub hkroot-kept : (s : State) (t : ℕ) (hk : List ℕ) → ChainKept s ((hkrootHalf s t hk) .state)
 unfolding hkrootHalf storeDone krootDone pkrDone
 hkroot-kept s t hk =
     let P : HkrootDone → Type 0 = λ a. ChainKept s (a .state) in
@@ -140,12 +140,12 @@ section-kept s area x =
 
 keys-kept : (s : State) (c : Call) → (step s c) .reply .code ≢ 0 → KeysKept s ((step s c) .state)
 unfolding step
-keys-kept s (start x) h = record { keys = ap (λ (s' : State). s' .publicKeys) (start-kept s x h) }
-keys-kept s (word w) h = record { keys = ap (λ (s' : State). s' .publicKeys) (word-kept s w h) }
-keys-kept s (subframe area x) h = record { keys = subframe-keys s area x h }
-keys-kept s (verdict v) h = verdict-kept (KeysKept s) s v (record { keys = refl }) (record { keys = refl }) h
-keys-kept s (readSet prn out) h = record { keys = refl }
-keys-kept s (readOffer m g k) h = record { keys = refl }
+keys-kept s (start x) h = record { publicKeys = ap (λ (s' : State). s' .publicKeys) (start-kept s x h) }
+keys-kept s (word w) h = record { publicKeys = ap (λ (s' : State). s' .publicKeys) (word-kept s w h) }
+keys-kept s (subframe area x) h = record { publicKeys = subframe-keys s area x h }
+keys-kept s (verdict v) h = verdict-kept (KeysKept s) s v (record { publicKeys = refl }) (record { publicKeys = refl }) h
+keys-kept s (readSet prn out) h = record { publicKeys = refl }
+keys-kept s (readOffer m g k) h = record { publicKeys = refl }
 
 chain-kept-verdict : (s : State) (v : Verdict) → (step s (verdict v)) .reply .code ≢ 0 → ChainKept s ((step s (verdict v)) .state)
 unfolding step
@@ -155,10 +155,15 @@ chain-kept-section : (s : State) (area : List ℕ) (x : Subframe) → (step s (s
 unfolding step
 chain-kept-section s area x h = section-kept s area x h
 
+hkroot-half-kept : (s : State) (t : ℕ) (hk : List ℕ) → (hkrootHalf s t hk) .code ≢ 0 → KeysKept s ((hkrootHalf s t hk) .state) × ChainKept s ((hkrootHalf s t hk) .state)
+hkroot-half-kept s t hk h = (record { publicKeys = hkroot-keys s t hk h }, hkroot-kept s t hk)
+
 pub refused : Refused
 refused =
     record {
-      keys = keys-kept;
+      hkroot-half = hkroot-half-kept;
+      mack-half = mack-kept;
+      publicKeys = keys-kept;
       start = start-kept;
       word = word-kept;
       verdict = chain-kept-verdict;

@@ -17,7 +17,7 @@ use Rattle.rules.specs.Bits as Bits
 use Rattle.rules.specs.Calls as Calls
 use Rattle.rules.specs.Chain as Chain
 use Rattle.rules.specs.Gather as Gather
-use Rattle.rules.specs.PublicKeys as Keys
+use Rattle.rules.specs.PublicKeys as PublicKeys
 use Rattle.rules.specs.Kroot as Kroot
 use Rattle.rules.specs.Log as Log
 use Rattle.rules.specs.Mack as Mack
@@ -26,34 +26,34 @@ use Rattle.rules.specs.State as State
 use Rattle.rules.specs.Tags as Tags
 use Rattle.rules.specs.Times as Times
 use Rattle.rules.specs.Verdict as Verdict
-use Rattle.rules.specs.Navdata as Words
+use Rattle.rules.specs.Navdata as Navdata
 use Rattle.sha256.specs.Sha256 as Sha256
 
 -- ---- the signal
 
 -- keys of slots 2, 1 and 0
-abbrev key2 : List ℕ
+abbrev pub key2 : List ℕ
 key2 = replicate 32 0x42
 
-abbrev key1 : List ℕ
+abbrev pub key1 : List ℕ
 key1 = 0x74 ∷ 0x84 ∷ 0x01 ∷ 0xB4 ∷ 0x88 ∷ 0x01 ∷ 0x51 ∷ 0x18 ∷ 0xE3 ∷ 0x2A ∷ 0xB2 ∷ 0x54 ∷ 0xCC ∷ 0x39 ∷ 0x54 ∷ 0x10 ∷ 0x07 ∷ 0x48 ∷ 0xB2 ∷ 0xFC ∷ 0xB2 ∷ 0xE0 ∷ 0xDC ∷ 0xAC ∷ 0x80 ∷ 0x9D ∷ 0x2F ∷ 0x03 ∷ 0x0C ∷ 0xC7 ∷ 0xBF ∷ 0x9B ∷ []
 
-abbrev key0 : List ℕ
+abbrev pub key0 : List ℕ
 key0 = 0x43 ∷ 0xC3 ∷ 0x68 ∷ 0xC2 ∷ 0x5D ∷ 0x89 ∷ 0x8E ∷ 0x80 ∷ 0x4D ∷ 0x12 ∷ 0x63 ∷ 0x39 ∷ 0xEB ∷ 0xB9 ∷ 0x8C ∷ 0x22 ∷ 0x9E ∷ 0x2D ∷ 0x03 ∷ 0xCC ∷ 0x97 ∷ 0xC2 ∷ 0xEB ∷ 0x07 ∷ 0xA7 ∷ 0xE3 ∷ 0xC5 ∷ 0x65 ∷ 0x77 ∷ 0xBC ∷ 0x77 ∷ 0x6E ∷ []
 
 -- week 1: sub-frame 0 is at second 3600, the first of hour 1
-abbrev at : ℕ → ℕ
+abbrev pub at : ℕ → ℕ
 at second = 0x10_0000 + second
 
 -- NMA status 1, CID 0, CPKS 1
-abbrev header : ℕ
+abbrev pub header : ℕ
 header = 0x42
 
 -- CIDKR 0, NMACK 1, HF 0, MF 0, KS code 8, MS code 1, MACLT 7, MO 0, week 1, hour 1, α, root
-abbrev contents : List ℕ
+abbrev pub contents : List ℕ
 contents = 0x10 ∷ 0x81 ∷ 7 ∷ 0x00 ∷ 0x01 ∷ 0x01 ∷ 0xF1 ∷ 0xCA ∷ 0x38 ∷ 0x56 ∷ 0xA9 ∷ 0x75 ∷ key0
 
-abbrev signature : List ℕ
+abbrev pub signature : List ℕ
 signature = replicate 56 0x5A
 
 -- eight blocks
@@ -76,7 +76,7 @@ area = replicate 3240 0
 abbrev blockCall : ℕ → Call
 blockCall k = subframe area (record { prn = k + 1; time = at 3540; bytes = fields (header ∷ k ∷ Lists.part dsm (13 * k) 13) (replicate 60 0) })
 
-abbrev vouch : Call
+abbrev pub vouch : Call
 vouch = verdict (record { good = 1; id = 0; message = header ∷ contents; signature = signature ++ replicate 76 0 })
 
 -- a section of E02: eight fields of 28 bits, of which the first is tag0 and the last six are zeros, then the key
@@ -90,10 +90,10 @@ sectionCall second two key =
     })
 
 -- words of E01: the type, IODnav, and a byte that fills the rest; word 4 has SVID 1
-abbrev wordOf : ℕ → ℕ → ℕ → List ℕ
+abbrev pub wordOf : ℕ → ℕ → ℕ → List ℕ
 wordOf kind issue fill = kind * 4 ∷ issue ∷ replicate 14 fill
 
-abbrev wordFour : ℕ → ℕ → List ℕ
+abbrev pub wordFour : ℕ → ℕ → List ℕ
 wordFour issue fill = 16 ∷ issue ∷ 4 ∷ replicate 13 fill
 
 abbrev wordCalls : ℕ → ℕ → ℕ → List Call
@@ -109,11 +109,11 @@ wordCalls second issue fill =
 abbrev marks : List ℕ
 marks = 0 ∷ 11 ∷ replicate 12 1
 
-abbrev begin : Start
+abbrev pub begin : Start
 begin = record { ns = 1; id = 0; type = 0; maclt = 7; marks = marks ++ marks; root = replicate 32 0; key = replicate 67 3 }
 
 -- the first two fields: tag0 is zeros; the slow tag is for E01, ADKD 11, made with the key of slot 2
-abbrev slowFields : List ℕ
+abbrev pub slowFields : List ℕ
 slowFields = 0 ∷ 0 ∷ 0 ∷ 0x06 ∷ 0x7C ∷ 1 ∷ 0xB0 ∷ []
 
 -- the message, its verdict, the words of the set that the tag authenticates
@@ -132,13 +132,13 @@ calls = before ++ after
 -- ---- what it gives
 
 -- the newest reply, and the one before it
-abbrev newest : ℕ → Log → Reply
+abbrev pub newest : ℕ → Log → Reply
 newest n [] = Log.plain 0
 newest zero (x ∷ l) = x .reply
 newest (suc n) (x ∷ l) = newest n l
 
-log : Log
-log = (Log.ranFrom begin calls) .history .log
+unfoldable pub log : Log
+log = (Log.ranFrom (Calls.fresh begin) begin calls) .history .log
 
 abbrev codes : Log → List ℕ
 codes [] = []
@@ -179,10 +179,10 @@ wanted =
           ∷ [];
       second-mack = 0;
       second-record = 1 ∷ 2 ∷ 1 ∷ 11 ∷ 1 ∷ 2 ∷ 0 ∷ 5 ∷ 0 ∷ 0x10 ∷ 0x0E ∷ 0x10 ∷ [];
-      set-read = Words.setBytes (wordOf 1 5 0x11) (wordOf 2 5 0x11) (wordOf 3 5 0x11) (wordFour 5 0x11) (wordOf 5 5 0x11);
+      set-read = Navdata.setBytes (wordOf 1 5 0x11) (wordOf 2 5 0x11) (wordOf 3 5 0x11) (wordFour 5 0x11) (wordOf 5 5 0x11);
       time-read = at 3600;
     }
 
 slow-tag-marks-old-set : seen log ≡ wanted
-unfolding seen log ones Bits.bit Bits.bits Bits.bitList Bits.bytesAt Bits.octet Bits.packed Bits.filled Calls.markValid Calls.marksValid Calls.startUnfit Calls.startLengths Calls.startChecks Calls.fresh Calls.startCall Calls.wordUnfit Calls.wordChecks Calls.wordTaken Calls.wordCall Calls.verdictChecks Calls.verdictCall Calls.krootDone Calls.pkrDone Calls.storeDone Calls.hkrootHalf Calls.chainOf Calls.heldOf Calls.sectionUnfit Calls.sectionProved Calls.tagsWorked Calls.sectionTaken Calls.mackHalf Calls.subframeChecks Calls.noted Calls.halvesDone Calls.subframeCall Calls.authStamp Calls.authSet Calls.setReadChecks Calls.setRead Calls.offerReadChecks Calls.offerRead Chain.slotTime Chain.keyStep Chain.walk Chain.keyOfSlot Chain.keyFits Chain.higher Chain.sentSlot Chain.keySlot Gather.hkrootOf Gather.mackOf Gather.headerOf Gather.statusOf Gather.cidOf Gather.dsmIdOf Gather.blockIdOf Gather.blockOf Gather.blocksFor Gather.totalOf Gather.marked Gather.withMark Gather.storedBlock Gather.dropsBlocks Gather.keptMarks Gather.reservedCount Gather.tooHigh Gather.withBlock Gather.complete Gather.dsmOf Gather.takenOut Gather.stored Gather.gathered Keys.keyLength Keys.signatureLength Keys.keyHeld Keys.keyType Keys.keyBytes Keys.heldAmong Keys.aboveAll Keys.sameKey Keys.withKey Keys.withoutLower Kroot.cidkrOf Kroot.nmackOf Kroot.hfOf Kroot.mfOf Kroot.ksOf Kroot.msOf Kroot.macltFieldOf Kroot.moOf Kroot.rootWeekOf Kroot.rootHourOf Kroot.alphaOf Kroot.keyWidth Kroot.tagWidth Kroot.krootOf Kroot.rootSecondsOf Kroot.blockBits Kroot.fieldsFor Kroot.parametersBad Kroot.pkidOf Kroot.contentsOf Kroot.leastBlocks Kroot.krootBlocks Kroot.krootChecks Kroot.signedMessage Kroot.signatureOf Kroot.offered Kroot.offerWaits Kroot.offerId Kroot.offerMessage Kroot.offerSignature Kroot.noOffer Kroot.krootJudged Kroot.chainWith Kroot.chainContents Kroot.inForce Kroot.everForced Log.step Log.ran Log.ranFrom Log.stateAt Mack.blockAt Mack.fieldAt Mack.fieldTag Mack.fieldInfo Mack.macseqOf Mack.keyAt Mack.blockKey Mack.spareBits Mack.tooFar Mack.blockChecks Mack.blockProved Mack.keysProved Pkr.messageIdOf Pkr.newTypeOf Pkr.newIdOf Pkr.newKeyOf Pkr.emergency Pkr.pkrSizeBad Pkr.leafOf Pkr.nodeOf Pkr.joined Pkr.climbed Pkr.treeProved Pkr.keyWelcome Pkr.pkrChecks Pkr.keyAdded Pkr.pkrJudged State.shaped State.nsOf State.macltOf State.markOf State.treeRoot State.stopped State.lastSubframe State.lastSubframeOf State.lastWordOf State.prnValid State.heldSlot State.waitingCount Tags.macBits Tags.statusAndSet Tags.firstMessage Tags.tagMessage Tags.tagKey Tags.tagMatches Tags.tagRecord Tags.recordIssue Tags.tagEntry Tags.entryAt Tags.entryTag Tags.entrySet Tags.isDue Tags.setsEntered Tags.arrivalsEntered Tags.marksSet Tags.told Tags.kept Tags.dueJudged Tags.duesJudged Tags.secondHalf Tags.flexible Tags.ownTag Tags.macseqMessage Tags.macseqFits Tags.notAllowed Tags.ownOutcome Tags.ownJudged Tags.ownsJudged Times.gst Times.weekOf Times.secondOf Times.timeValid Times.secondsOf Times.gstOf Times.stampOf Times.hourSeconds Times.subframeAt Times.slotOf Times.lowestSlot Times.slotSeconds Times.delayOf Times.keySeconds Times.tagSlot Verdict.messageHeader Verdict.messageContents Verdict.namesOffer Verdict.cidInForce Verdict.sameContents Verdict.statusUnfit Verdict.rootUnfit Verdict.vouchChecks Verdict.chainUnchanged Verdict.keyNotBefore Verdict.staying Verdict.stayingAt Verdict.rootHeld Verdict.tagsDropped Verdict.vouched Verdict.judgedVerdict Words.wordType Words.svidOf Words.wordIssue Words.heldType Words.wordPlace Words.wordAt Words.wordStored Words.setBits Words.setBytes Words.setOf Words.setIssue Words.wordCame Words.cameBefore Words.oneIssue Words.setUsable Words.usable Sha256.add Sha256.complement Sha256.shr Sha256.rotr Sha256.ch Sha256.maj Sha256.Σ0 Sha256.Σ1 Sha256.σ0 Sha256.σ1 Sha256.K Sha256.tail Sha256.pad Sha256.block Sha256.words Sha256.H0 Sha256.next Sha256.extended Sha256.schedule Sha256.round Sha256.rounds Sha256.sums Sha256.compress Sha256.hashed Sha256.bytes Sha256.digest Sha256.sha256 Sha256.finished Hmac.zeroPadded Hmac.keyBlock Hmac.xored Hmac.innerPad Hmac.outerPad Hmac.hmac Hmac.keyOf Hmac.hmacWith Bytes.be2 Bytes.be4 Bytes.be8 Bytes.u16at Bytes.u32at Lists.part Lists.splice Lists.same
+unfolding seen log ones Bits.bit Bits.bits Bits.bitList Bits.bytesAt Bits.octet Bits.packed Bits.filled Calls.markValid Calls.marksValid Calls.startUnfit Calls.startLengths Calls.startChecks Calls.fresh Calls.startCall Calls.wordUnfit Calls.wordChecks Calls.wordTaken Calls.wordCall Calls.verdictChecks Calls.verdictCall Calls.krootDone Calls.pkrDone Calls.storeDone Calls.hkrootHalf Calls.chainOf Calls.heldOf Calls.sectionUnfit Calls.sectionProved Calls.tagsWorked Calls.sectionTaken Calls.mackHalf Calls.subframeChecks Calls.noted Calls.halvesDone Calls.subframeCall Calls.authStamp Calls.authSet Calls.setReadChecks Calls.setRead Calls.offerReadChecks Calls.offerRead Chain.slotTime Chain.keyStep Chain.walk Chain.keyOfSlot Chain.keyFits Chain.higher Chain.sentSlot Chain.keySlot Gather.hkrootOf Gather.mackOf Gather.headerOf Gather.statusOf Gather.cidOf Gather.dsmIdOf Gather.blockIdOf Gather.blockOf Gather.blocksFor Gather.totalOf Gather.marked Gather.withMark Gather.storedBlock Gather.dropsBlocks Gather.keptMarks Gather.reservedCount Gather.tooHigh Gather.withBlock Gather.complete Gather.dsmOf Gather.takenOut Gather.stored Gather.gathered PublicKeys.keyLength PublicKeys.signatureLength PublicKeys.keyHeld PublicKeys.keyType PublicKeys.keyBytes PublicKeys.heldAmong PublicKeys.aboveAll PublicKeys.sameKey PublicKeys.withKey PublicKeys.withoutLower Kroot.cidkrOf Kroot.nmackOf Kroot.hfOf Kroot.mfOf Kroot.ksOf Kroot.msOf Kroot.macltFieldOf Kroot.moOf Kroot.rootWeekOf Kroot.rootHourOf Kroot.alphaOf Kroot.keyWidth Kroot.tagWidth Kroot.krootOf Kroot.rootSecondsOf Kroot.blockBits Kroot.fieldsFor Kroot.parametersBad Kroot.pkidOf Kroot.contentsOf Kroot.leastBlocks Kroot.krootBlocks Kroot.krootChecks Kroot.signedMessage Kroot.signatureOf Kroot.offered Kroot.offerWaits Kroot.offerId Kroot.offerMessage Kroot.offerSignature Kroot.noOffer Kroot.krootJudged Kroot.chainWith Kroot.chainContents Kroot.inForce Kroot.everForced Log.step Log.ran Log.ranFrom Log.stateAt Mack.blockAt Mack.fieldAt Mack.fieldTag Mack.fieldInfo Mack.macseqOf Mack.keyAt Mack.blockKey Mack.spareBits Mack.tooFar Mack.blockChecks Mack.blockProved Mack.keysProved Pkr.messageIdOf Pkr.newTypeOf Pkr.newIdOf Pkr.newKeyOf Pkr.emergency Pkr.pkrSizeBad Pkr.leafOf Pkr.nodeOf Pkr.joined Pkr.climbed Pkr.treeProved Pkr.keyWelcome Pkr.pkrChecks Pkr.keyAdded Pkr.pkrJudged State.shaped State.nsOf State.macltOf State.markOf State.treeRoot State.stopped State.lastSubframe State.lastSubframeOf State.lastWordOf State.prnValid State.heldSlot State.waitingCount Tags.macBits Tags.statusAndSet Tags.firstMessage Tags.tagMessage Tags.tagKey Tags.tagMatches Tags.tagRecord Tags.recordIssue Tags.tagEntry Tags.entryAt Tags.entryTag Tags.entrySet Tags.isDue Tags.setsEntered Tags.arrivalsEntered Tags.marksSet Tags.told Tags.kept Tags.dueJudged Tags.duesJudged Tags.secondHalf Tags.flexible Tags.ownTag Tags.macseqMessage Tags.macseqFits Tags.notAllowed Tags.ownOutcome Tags.ownJudged Tags.ownsJudged Times.gst Times.weekOf Times.secondOf Times.timeValid Times.secondsOf Times.gstOf Times.stampOf Times.hourSeconds Times.subframeAt Times.slotOf Times.lowestSlot Times.slotSeconds Times.delayOf Times.keySeconds Times.tagSlot Verdict.messageHeader Verdict.messageContents Verdict.namesOffer Verdict.cidInForce Verdict.sameContents Verdict.statusUnfit Verdict.rootUnfit Verdict.vouchChecks Verdict.chainUnchanged Verdict.keyNotBefore Verdict.staying Verdict.stayingAt Verdict.rootHeld Verdict.tagsDropped Verdict.vouched Verdict.judgedVerdict Navdata.wordType Navdata.svidOf Navdata.wordIssue Navdata.heldType Navdata.wordPlace Navdata.wordAt Navdata.wordStored Navdata.setBits Navdata.setBytes Navdata.setOf Navdata.setIssue Navdata.wordCame Navdata.cameBefore Navdata.oneIssue Navdata.setUsable Navdata.usable Sha256.add Sha256.complement Sha256.shr Sha256.rotr Sha256.ch Sha256.maj Sha256.Σ0 Sha256.Σ1 Sha256.σ0 Sha256.σ1 Sha256.K Sha256.tail Sha256.pad Sha256.block Sha256.words Sha256.H0 Sha256.next Sha256.extended Sha256.schedule Sha256.round Sha256.rounds Sha256.sums Sha256.compress Sha256.hashed Sha256.bytes Sha256.digest Sha256.sha256 Sha256.finished Hmac.zeroPadded Hmac.keyBlock Hmac.xored Hmac.innerPad Hmac.outerPad Hmac.hmac Hmac.keyOf Hmac.hmacWith Bytes.be2 Bytes.be4 Bytes.be8 Bytes.u16at Bytes.u32at Lists.part Lists.splice Lists.same
 slow-tag-marks-old-set = refl
