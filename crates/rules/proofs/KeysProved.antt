@@ -1,59 +1,31 @@
 -- A complete DSM: a public key that it adds was proved, and what waits has its key held.
-use Prim.Native.Nat.{ℕ, zero, suc, _+_, _-_, _*_, _/_, _%_, _^_, _≤_, _<_}
+use Prim.Native.Nat.{ℕ, _+_, _-_, _≤_, _<_}
 use mathlib.Core.Path.{_≡_, refl, sym, _∙_, ap}
-use mathlib.Core.Logic.{_≢_, _⊎_, inl, inr, ⊎-elim}
-use mathlib.Core.Bool.{Bool, true, false, cond, _&&_, _||_, not}
-use mathlib.Core.List.{List, [], _∷_, _++_}
-use native.Mathlib.Nat.{pow-suc}
+use mathlib.Core.Logic.{⊎-elim}
+use mathlib.Core.Bool.{true, false, cond}
+use mathlib.Core.List.{List, _∷_}
 use native.Mathlib.Omega.{arith}
-use lib.Dec.{eqb, leb, ltb}
-use lib.ListN.{length, getD, set, take, drop, length-take}
-use borrow.Author.Tests.{leb-true, ltb-false, le-leb, eqb-true, eqb-false, not-true, not-false}
-use Rattle.laws.specs.Lists.{part, splice}
-use Rattle.laws.specs.Refusal.{firstOf, unless}
+use lib.Dec.{eqb, leb}
+use lib.ListN.{length}
+use borrow.Author.Tests.{le-leb, eqb-true, eqb-false, not-false}
+use Rattle.laws.specs.Refusal.{firstOf}
 use Rattle.laws.proofs.Refusal.{clear, by-test}
 use Rattle.laws.proofs.Splice.{either}
-use Rattle.laws.proofs.Table.{table-range}
-use Rattle.laws.proofs.Tests.{and-left, and-right, neither, both-true}
-use Rattle.rules.specs.Bits.{bit, bits, filled, within}
+use Rattle.laws.proofs.Tests.{both-true}
+use Rattle.rules.specs.Bits.{filled, within}
 use Rattle.rules.specs.Calls.{Start}
-use Rattle.rules.specs.Claim.{PublicKey, KeyKnown, KeyProved, given, proved}
-use Rattle.rules.specs.PublicKeys.{keyLength, keyHeld, keyType, keyBytes, withKey, sameKey}
-use Rattle.rules.specs.Kroot.{offered, offerWaits, offerId, pkidOf, krootJudged, krootChecks, Offer, signedMessage, signatureOf, contentsOf, parametersBad}
+use Rattle.rules.specs.Claim.{KeyKnown, proved}
+use Rattle.rules.specs.Kroot.{offered, offerId, pkidOf, krootJudged, krootChecks, Offer, signedMessage, signatureOf}
 use Rattle.rules.specs.Log.{Entry, Log}
-use Rattle.rules.specs.Pkr.{newIdOf, newTypeOf, newKeyOf, emergency, pkrSizeBad, treeProved, pkrChecks, pkrJudged, keyAdded, keyWelcome, Renewed}
+use Rattle.rules.specs.Pkr.{newIdOf, newTypeOf, newKeyOf, emergency, pkrSizeBad, treeProved, pkrChecks, pkrJudged, keyAdded, Renewed}
+use Rattle.rules.specs.PublicKeys.{keyHeld, keyType, withKey, sameKey}
+use Rattle.rules.specs.State.{publicKeysLength}
+use Rattle.rules.proofs.Bounds.{new-id-bound, new-key-short, new-type-bound, pkid-bound}
+use Rattle.rules.proofs.Choices.{by-number}
 use Rattle.rules.proofs.Gathering.{DsmCame}
-use Rattle.rules.proofs.Invariant.{KeysAre, heldKey, known-later, keys-later}
-use Rattle.rules.proofs.Regions.{added-number, added-bytes, other-number, other-bytes}
-use Rattle.rules.proofs.Refused.{pkr-keys, by-number}
-use Rattle.rules.proofs.Shapes.{no}
-
-pub bits-bound : (s : List ℕ) (at n : ℕ) → bits s at n < 2 ^ n
-unfolding bits bit
-bits-bound s at zero = omega arith
-bits-bound s at (suc n) =
-    let i = bits-bound s at n in
-    let p = pow-suc 2 n in
-    omega arith
-
-length-at-most : (l : List ℕ) (a n : ℕ) → length (part l a n) ≤ n
-unfolding part
-length-at-most l a n = simp length-take (omega arith)
-
-key-length-bound : (type : ℕ) → keyLength type ≤ 67
-unfolding keyLength
-key-length-bound type = (table-range 29 67 67 (29 ∷ 33 ∷ 49 ∷ 67 ∷ []) tt (omega arith) (omega arith) type) .1
-
-new-key-short : (d : List ℕ) → length (newKeyOf d) ≤ 67
-unfolding newKeyOf
-new-key-short d =
-    let a = length-at-most d 130 (keyLength (newTypeOf d)) in
-    let b = key-length-bound (newTypeOf d) in
-    omega arith
-
-new-id-bound : (d : List ℕ) → newIdOf d < 16
-unfolding newIdOf
-new-id-bound d = bits-bound d 1036 4
+use Rattle.rules.proofs.Invariant.{KeysAre, OfferHeld, heldKey}
+use Rattle.rules.proofs.KeyPlaces.{added-number, added-bytes, other-number, other-bytes}
+use Rattle.rules.proofs.Later.{known-later, keys-later}
 
 -- what the checks of a DSM-PKR that is no emergency message say
 pub record Renews (root : List ℕ) (d : List ℕ) : Type 0 where
@@ -61,19 +33,7 @@ pub record Renews (root : List ℕ) (d : List ℕ) : Type 0 where
   pub tree : treeProved root d ≡ true
   pub plain : emergency d ≡ false
 
-not-four : (d : List ℕ) → emergency d ≡ false → newTypeOf d ≢ 4
-unfolding emergency
-not-four d e = eqb-false (newTypeOf d) 4 e
-
-type-bound : (d : List ℕ) → pkrSizeBad d ≡ false → emergency d ≡ false → newTypeOf d < 4
-unfolding pkrSizeBad
-type-bound d s e =
-    let a = neither (ltb 4 (newTypeOf d)) _ (rw e at s) in
-    let b = ltb-false 4 (newTypeOf d) (a .0) in
-    let c = not-four d e in
-    omega (arith, b, c)
-
-module _ (o : Start) (keys d : List ℕ) (id : ℕ) (x : Entry) (l : Log) (size : length keys ≡ 1088) (v : KeysAre o keys l) where
+module _ (o : Start) (keys d : List ℕ) (id : ℕ) (x : Entry) (l : Log) (size : length keys ≡ publicKeysLength) (v : KeysAre o keys l) where
   added-known : (r : Renews (o .root) d) → 12 ≤ id → DsmCame d id (x ∷ l) → KeysAre o (withKey keys (newIdOf d) (newTypeOf d) (newKeyOf d)) (x ∷ l)
   unfolding keyHeld keyType
   added-known r p c =
@@ -88,7 +48,7 @@ module _ (o : Start) (keys d : List ℕ) (id : ℕ) (x : Entry) (l : Log) (size 
             proved (record {
               dsm = d;
               dsm-id = id;
-              renewal = p;
+              is-pkr = p;
               whole = c .whole;
               blocks = c .blocks;
               size = r .size;
@@ -122,7 +82,7 @@ module _ (o : Start) (keys d : List ℕ) (id : ℕ) (x : Entry) (l : Log) (size 
           (λ _. added-known (record { size = k .0; tree = not-false (treeProved (o .root) d) (k .1 .0); plain = plain }) p c))
 
 -- a key that was held is held
-added-held : (keys d : List ℕ) (i : ℕ) → length keys ≡ 1088 → i < 16 → newTypeOf d < 4 → keyHeld keys i ≡ true → keyHeld (withKey keys (newIdOf d) (newTypeOf d) (newKeyOf d)) i ≡ true
+added-held : (keys d : List ℕ) (i : ℕ) → length keys ≡ publicKeysLength → i < 16 → newTypeOf d < 4 → keyHeld keys i ≡ true → keyHeld (withKey keys (newIdOf d) (newTypeOf d) (newKeyOf d)) i ≡ true
 unfolding keyHeld
 added-held keys d i size h t m =
     ⊎-elim
@@ -134,7 +94,7 @@ added-held keys d i size h t m =
     (λ e. rw (other-number keys (newIdOf d) (newTypeOf d) (newKeyOf d) size (new-id-bound d) (new-key-short d) i h (eqb-false i (newIdOf d) e)) m)
     (either (eqb i (newIdOf d)))
 
-pub pkr-held : (keys root d : List ℕ) (i : ℕ) → length keys ≡ 1088 → i < 16 → keyHeld keys i ≡ true → keyHeld ((pkrJudged keys root d) .publicKeys) i ≡ true
+pub pkr-held : (keys root d : List ℕ) (i : ℕ) → length keys ≡ publicKeysLength → i < 16 → keyHeld keys i ≡ true → keyHeld ((pkrJudged keys root d) .publicKeys) i ≡ true
 unfolding pkrJudged pkrChecks keyAdded
 pkr-held keys root d i size h m =
     by-number (λ (j : Renewed). keyHeld (j .publicKeys) i ≡ true) (firstOf (pkrChecks keys root d)) taken (λ _. m)
@@ -145,7 +105,7 @@ pkr-held keys root d i size h m =
         by-test (λ (ks : List ℕ). keyHeld ks i ≡ true) (emergency d) (λ _. m)
         (λ plain.
         by-test (λ (ks : List ℕ). keyHeld ks i ≡ true) (sameKey keys (newIdOf d) (newTypeOf d) (newKeyOf d)) (λ _. m)
-        (λ _. added-held keys d i size h (type-bound d (k .0) plain) m))
+        (λ _. added-held keys d i size h (new-type-bound d (k .0) plain) m))
 
 -- ---- a complete DSM-KROOT: its key is held
 
@@ -153,15 +113,10 @@ offered-id : (i : ℕ) (m g : List ℕ) → i < 16 → offerId (offered i m g) �
 unfolding offerId offered
 offered-id i m g h = omega arith
 
-pkid-bound : (d : List ℕ) → pkidOf d < 16
-unfolding pkidOf
-pkid-bound d = bits-bound d 4 4
-
-pub kroot-held : (keys : List ℕ) (config : List ℕ) (offer : List ℕ) (header : ℕ) (d : List ℕ) → (offerWaits offer ≡ true → keyHeld keys (offerId offer) ≡ true)
-    → offerWaits ((krootJudged keys config offer header d) .offer) ≡ true → keyHeld keys (offerId ((krootJudged keys config offer header d) .offer)) ≡ true
+pub kroot-held : (keys : List ℕ) (config : List ℕ) (offer : List ℕ) (header : ℕ) (d : List ℕ) → OfferHeld keys offer → OfferHeld keys ((krootJudged keys config offer header d) .offer)
 unfolding krootJudged krootChecks
 kroot-held keys config offer header d old =
-    by-number (λ (j : Offer). offerWaits (j .offer) ≡ true → keyHeld keys (offerId (j .offer)) ≡ true) (firstOf (krootChecks keys config d))
+    by-number (λ (j : Offer). OfferHeld keys (j .offer)) (firstOf (krootChecks keys config d))
     (λ e _. (
     let k = clear (krootChecks keys config d) tt e in
     rw (offered-id (pkidOf d) (signedMessage header d) (signatureOf d (keyType keys (pkidOf d))) (pkid-bound d)) (not-false (keyHeld keys (pkidOf d)) (k .0))

@@ -1,25 +1,24 @@
 -- The two reads: a set that is read was marked, and what waits is handed out with a key that was given or proved.
-use Prim.Native.Nat.{ℕ, zero, suc, _+_, _-_, _*_, _%_, _≤_, _<_}
-use mathlib.Core.Path.{_≡_, refl, sym, _∙_, ap}
-use mathlib.Core.Logic.{_≢_, _⊎_, inl, inr, ⊎-elim}
-use mathlib.Core.Bool.{Bool, true, false, cond, _&&_, not}
+use Prim.Native.Nat.{ℕ, zero, suc, _-_, _*_, _<_}
+use mathlib.Core.Path.{_≡_, refl, ap}
+use mathlib.Core.Bool.{true, not}
 use mathlib.Core.List.{List, [], _∷_}
 use native.Mathlib.Omega.{arith}
-use lib.Dec.{eqb, leb, ltb}
-use lib.ListN.{length, getD, replicate}
-use borrow.Author.Tests.{eqb-true, eqb-false, not-true, not-false}
+use lib.ListN.{length}
+use borrow.Author.Tests.{eqb-false, not-false}
 use Rattle.laws.specs.Refusal.{firstOf, unless}
-use Rattle.laws.proofs.Refusal.{clear, unless-accepted}
-use Rattle.laws.proofs.Tests.{and-left, and-right}
-use Rattle.rules.specs.Calls.{Start, Word, Subframe, SetRead, OfferRead, setRead, setReadChecks, offerRead, offerReadChecks, authStamp, authSet}
-use Rattle.rules.specs.Claim.{PublicKey, KeyKnown, SetBacked, HandedFairly, MarkBacked, Fair, wouldHand, handedKey}
-use Rattle.rules.specs.PublicKeys.{keyType, keyBytes}
+use Rattle.laws.proofs.Refusal.{clear}
+use Rattle.laws.proofs.Tests.{and-left}
+use Rattle.rules.specs.Calls.{Start, SetRead, OfferRead, setRead, setReadChecks, offerRead, offerReadChecks, authStamp, authSet}
+use Rattle.rules.specs.Claim.{KeyKnown, SetBacked, HandedFairly, MarkBacked, Fair, wouldHand}
 use Rattle.rules.specs.Kroot.{offerWaits, offerId, offerMessage, offerSignature}
-use Rattle.rules.specs.Log.{Call, start, word, subframe, verdict, readSet, readOffer, Reply, plain, Handed, Entry, Log, step, stateAt}
-use Rattle.rules.specs.State.{State, shaped, prnValid}
-use Rattle.rules.specs.Verdict.{Verdict}
+use Rattle.rules.specs.Log.{Call, start, word, subframe, verdict, readSet, readOffer, Entry, Log, step, stateAt}
 use Rattle.rules.specs.Navdata.{setIssue}
-use Rattle.rules.proofs.Invariant.{Inv, entry, heldKey, same-inv, quiet-read-set, quiet-read-offer}
+use Rattle.rules.specs.PublicKeys.{keyType, keyBytes}
+use Rattle.rules.specs.State.{State, shaped, prnValid}
+use Rattle.rules.proofs.Bounds.{offer-id-bound}
+use Rattle.rules.proofs.Invariant.{Inv, heldKey}
+use Rattle.rules.proofs.Later.{entry, unchanged-inv, quiet-read-set, quiet-read-offer}
 
 -- ---- what waits
 
@@ -39,12 +38,8 @@ pub would-hand : (s : State) → shaped s ≡ true → offerWaits (s .offer) ≡
 unfolding offerRead offerReadChecks
 would-hand s h w = rw (h, w) refl
 
-id-small : (offer : List ℕ) → offerId offer < 16
-unfolding offerId
-id-small offer = omega arith
-
 pub offer-known : (o : Start) (b s : State) (l : Log) → Inv o b s l → offerWaits (s .offer) ≡ true → KeyKnown o (heldKey (s .publicKeys) (offerId (s .offer))) l
-offer-known o b s l v w = v .publicKeys .known (offerId (s .offer)) (id-small (s .offer)) (v .offer w)
+offer-known o b s l v w = v .publicKeys .known (offerId (s .offer)) (offer-id-bound (s .offer)) (v .offer w)
 
 -- ---- an entry that is no read and wrote no record
 
@@ -115,7 +110,7 @@ set-fair o b s l prn out v =
 
 set-inv : (o : Start) (b s : State) (l : Log) (prn : ℕ) (out : List ℕ) → Inv o b s l → Inv o b s (entry s (readSet prn out) ∷ l)
 unfolding stateAt step
-set-inv o b s l prn out v = same-inv o b s s _ l v (quiet-read-set _ prn out refl) (v .at) refl refl refl refl refl refl refl (v .offer)
+set-inv o b s l prn out v = unchanged-inv o b s _ l v (quiet-read-set _ prn out refl) (v .at)
 
 -- ---- a read of what waits
 
@@ -154,12 +149,12 @@ offer-fair o b s l m g k v =
 
 offer-inv : (o : Start) (b s : State) (l : Log) (m g k : List ℕ) → Inv o b s l → Inv o b s (entry s (readOffer m g k) ∷ l)
 unfolding stateAt step
-offer-inv o b s l m g k v = same-inv o b s s _ l v (quiet-read-offer _ m g k refl) (v .at) refl refl refl refl refl refl refl (v .offer)
+offer-inv o b s l m g k v = unchanged-inv o b s _ l v (quiet-read-offer _ m g k refl) (v .at)
 
-pub read-set-kept : (o : Start) (b s : State) (l : Log) (prn : ℕ) (out : List ℕ) → Inv o b s l
+pub read-set-call : (o : Start) (b s : State) (l : Log) (prn : ℕ) (out : List ℕ) → Inv o b s l
     → Fair o b (entry s (readSet prn out)) l × Inv o b s (entry s (readSet prn out) ∷ l)
-read-set-kept o b s l prn out v = (set-fair o b s l prn out v, set-inv o b s l prn out v)
+read-set-call o b s l prn out v = (set-fair o b s l prn out v, set-inv o b s l prn out v)
 
-pub read-offer-kept : (o : Start) (b s : State) (l : Log) (m g k : List ℕ) → Inv o b s l
+pub read-offer-call : (o : Start) (b s : State) (l : Log) (m g k : List ℕ) → Inv o b s l
     → Fair o b (entry s (readOffer m g k)) l × Inv o b s (entry s (readOffer m g k) ∷ l)
-read-offer-kept o b s l m g k v = (offer-fair o b s l m g k v, offer-inv o b s l m g k v)
+read-offer-call o b s l m g k v = (offer-fair o b s l m g k v, offer-inv o b s l m g k v)

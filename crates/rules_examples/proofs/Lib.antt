@@ -1,0 +1,2 @@
+-- Worked runs.
+pub mod SlowTagRun
