@@ -12,6 +12,7 @@ use borrow.Author.Tests.{leb-true, ltb-true, ltb-false, eqb-false, lt-ltb}
 use Rattle.laws.proofs.Refusal.{by-test}
 use Rattle.laws.proofs.Table.{table-range}
 use Rattle.laws.proofs.Tests.{and-left, and-right, neither}
+use Rattle.hmac.specs.Hmac.{hmac}
 use Rattle.rules.specs.Bits.{bit, bits, within}
 use Rattle.rules.specs.Chain.{sentSlot}
 use Rattle.rules.specs.Gather.{dsmIdOf, blockIdOf, statusOf, totalOf, blocksFor}
@@ -19,6 +20,7 @@ use Rattle.rules.specs.Kroot.{keyWidth, tagWidth, pkidOf, offerId}
 use Rattle.rules.specs.Pkr.{newIdOf, newTypeOf, newKeyOf, emergency, pkrSizeBad}
 use Rattle.rules.specs.PublicKeys.{keyLength}
 use Rattle.rules.specs.State.{nsOf, heldSlot, waitingCount, prnValid}
+use Rattle.rules.specs.Tags.{macBits}
 use Rattle.rules.specs.Times.{secondsOf, weekOf, secondOf, timeValid, slotOf, subframeAt}
 use Rattle.rules.specs.declared.Chain.{Chain}
 use Rattle.rules.proofs.Parts.{length-part-most}
@@ -59,6 +61,11 @@ offer-id-bound offer = omega arith
 pub pkid-bound : (d : List ℕ) → pkidOf d < 16
 unfolding pkidOf
 pkid-bound d = bits-bound d 4 4
+
+-- a tag of n bits is compared in n bits, not in whole bytes
+pub mac-bound : (n : ℕ) (key message : List ℕ) → macBits n key message < 2 ^ n
+unfolding macBits
+mac-bound n key message = bits-bound (hmac key message) 0 n
 
 -- ---- counts of blocks: none, or 7 to 16
 
