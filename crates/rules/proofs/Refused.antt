@@ -26,11 +26,11 @@ same-kept s = record { config = refl; publicKeys = refl; chain = refl; slot = re
 
 pub start-kept : (s : State) (x : Start) → (step s (start x)) .reply .code ≢ 0 → (step s (start x)) .state ≡ s
 unfolding step startCall
-start-kept s x h = unless-refused (firstOf (startChecks s x)) (fresh x) s h
+start-kept s x h = unless-refused (firstOf (startChecks s x)) _ s h
 
 pub word-kept : (s : State) (w : Word) → (step s (word w)) .reply .code ≢ 0 → (step s (word w)) .state ≡ s
 unfolding step wordCall
-word-kept s w h = unless-refused (firstOf (wordChecks s w)) (wordTaken s w) s h
+word-kept s w h = unless-refused (firstOf (wordChecks s w)) _ s h
 
 pub read-set-kept : (s : State) (prn : ℕ) (out : List ℕ) → (step s (readSet prn out)) .state ≡ s
 unfolding step
