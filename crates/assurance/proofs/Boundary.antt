@@ -28,8 +28,8 @@ pub start-asks-nothing : (κs : Lfts 19) (args : Dens κs start-kinds.ps) → st
 start-asks-nothing κs args = tt
 
 abbrev start-rule : (κs : Lfts 19) (args : Dens κs start-kinds.ps) (r : ℕ) (last : AtExit (endedOf 19 start-kinds.ps start-kinds.r) κs) → Type 0
-start-rule κs (config, (clocks, (words, (stamps, (blocks, (headers, (present, (since, (public-keys, (offer, (chain, (numbers, (held-key, (waiting, (sets, (arrivals, (ns, (id, (kind, (maclt, (marks, (root, (public-key, _))))))))))))))))))))))) r (config′, (clocks′, (words′, (stamps′, (blocks′, (headers′, (present′, (since′, (public-keys′, (offer′, (chain′, (numbers′, (held-key′, (waiting′, (sets′, (arrivals′, (_, (_, (_, (_, (_, (_, (_, _))))))))))))))))))))))) =
-    told r (state (now config′) (now clocks′) (now words′) (now stamps′) (now blocks′) (now headers′) (now present′) (now since′) (now public-keys′) (now offer′) (now chain′) (now numbers′) (now held-key′) (now waiting′) (now sets′) (now arrivals′)) ≡ startCall (state (now config) (now clocks) (now words) (now stamps) (now blocks) (now headers) (now present) (now since) (now public-keys) (now offer) (now chain) (now numbers) (now held-key) (now waiting) (now sets) (now arrivals)) (record { ns = ns; id = id; type = kind; maclt = maclt; present = now marks; root = now root; key = now public-key })
+start-rule κs (config, (clocks, (words, (stamps, (blocks, (headers, (present, (since, (pubkeys, (offer, (chain, (numbers, (heldkey, (waiting, (sets, (arrivals, (ns, (id, (kind, (maclt, (marks, (root, (pubkey, _))))))))))))))))))))))) r (config′, (clocks′, (words′, (stamps′, (blocks′, (headers′, (present′, (since′, (pubkeys′, (offer′, (chain′, (numbers′, (heldkey′, (waiting′, (sets′, (arrivals′, (_, (_, (_, (_, (_, (_, (_, _))))))))))))))))))))))) =
+    told r (state (now config′) (now clocks′) (now words′) (now stamps′) (now blocks′) (now headers′) (now present′) (now since′) (now pubkeys′) (now offer′) (now chain′) (now numbers′) (now heldkey′) (now waiting′) (now sets′) (now arrivals′)) ≡ startCall (state (now config) (now clocks) (now words) (now stamps) (now blocks) (now headers) (now present) (now since) (now pubkeys) (now offer) (now chain) (now numbers) (now heldkey) (now waiting) (now sets) (now arrivals)) (record { ns = ns; id = id; type = kind; maclt = maclt; present = now marks; root = now root; key = now pubkey })
 
 pub start-is : (κs : Lfts 19) (args : Dens κs start-kinds.ps) (r : ℕ) (last : AtExit (endedOf 19 start-kinds.ps start-kinds.r) κs) → start-reads.Learnt κs args r last → start-rule κs args r last
 start-is κs args r last d = d
@@ -43,8 +43,8 @@ pub word-asks-nothing : (κs : Lfts 17) (args : Dens κs word-kinds.ps) → word
 word-asks-nothing κs args = tt
 
 abbrev word-rule : (κs : Lfts 17) (args : Dens κs word-kinds.ps) (r : ℕ) (last : AtExit (endedOf 17 word-kinds.ps word-kinds.r) κs) → Type 0
-word-rule κs (config, (clocks, (words, (stamps, (blocks, (headers, (present, (since, (public-keys, (offer, (chain, (numbers, (held-key, (waiting, (sets, (arrivals, (prn, (time, (bytes, _))))))))))))))))))) r (_, (clocks′, (words′, (stamps′, (_, (_, (_, (_, (_, (_, (_, (_, (_, (_, (_, (_, (_, (_, (_, _))))))))))))))))))) =
-    told r (state (now config) (now clocks′) (now words′) (now stamps′) (now blocks) (now headers) (now present) (now since) (now public-keys) (now offer) (now chain) (now numbers) (now held-key) (now waiting) (now sets) (now arrivals)) ≡ wordCall (state (now config) (now clocks) (now words) (now stamps) (now blocks) (now headers) (now present) (now since) (now public-keys) (now offer) (now chain) (now numbers) (now held-key) (now waiting) (now sets) (now arrivals)) (record { prn = prn; time = time; bytes = now bytes })
+word-rule κs (config, (clocks, (words, (stamps, (blocks, (headers, (present, (since, (pubkeys, (offer, (chain, (numbers, (heldkey, (waiting, (sets, (arrivals, (prn, (time, (bytes, _))))))))))))))))))) r (_, (clocks′, (words′, (stamps′, (_, (_, (_, (_, (_, (_, (_, (_, (_, (_, (_, (_, (_, (_, (_, _))))))))))))))))))) =
+    told r (state (now config) (now clocks′) (now words′) (now stamps′) (now blocks) (now headers) (now present) (now since) (now pubkeys) (now offer) (now chain) (now numbers) (now heldkey) (now waiting) (now sets) (now arrivals)) ≡ wordCall (state (now config) (now clocks) (now words) (now stamps) (now blocks) (now headers) (now present) (now since) (now pubkeys) (now offer) (now chain) (now numbers) (now heldkey) (now waiting) (now sets) (now arrivals)) (record { prn = prn; time = time; bytes = now bytes })
 
 pub word-is : (κs : Lfts 17) (args : Dens κs word-kinds.ps) (r : ℕ) (last : AtExit (endedOf 17 word-kinds.ps word-kinds.r) κs) → word-reads.Learnt κs args r last → word-rule κs args r last
 word-is κs args r last d = d
@@ -58,8 +58,8 @@ pub verdict-asks-nothing : (κs : Lfts 18) (args : Dens κs verdict-kinds.ps) �
 verdict-asks-nothing κs args = tt
 
 abbrev verdict-rule : (κs : Lfts 18) (args : Dens κs verdict-kinds.ps) (r : ℕ) (last : AtExit (endedOf 18 verdict-kinds.ps verdict-kinds.r) κs) → Type 0
-verdict-rule κs (config, (clocks, (words, (stamps, (blocks, (headers, (present, (since, (public-keys, (offer, (chain, (numbers, (held-key, (waiting, (sets, (arrivals, (good, (id, (message, (signature, _)))))))))))))))))))) r (_, (_, (_, (_, (_, (_, (_, (_, (public-keys′, (offer′, (chain′, (numbers′, (held-key′, (waiting′, (_, (_, (_, (_, (_, (_, _)))))))))))))))))))) =
-    told r (state (now config) (now clocks) (now words) (now stamps) (now blocks) (now headers) (now present) (now since) (now public-keys′) (now offer′) (now chain′) (now numbers′) (now held-key′) (now waiting′) (now sets) (now arrivals)) ≡ verdictCall (state (now config) (now clocks) (now words) (now stamps) (now blocks) (now headers) (now present) (now since) (now public-keys) (now offer) (now chain) (now numbers) (now held-key) (now waiting) (now sets) (now arrivals)) (record { good = good; id = id; message = now message; signature = now signature })
+verdict-rule κs (config, (clocks, (words, (stamps, (blocks, (headers, (present, (since, (pubkeys, (offer, (chain, (numbers, (heldkey, (waiting, (sets, (arrivals, (good, (id, (message, (signature, _)))))))))))))))))))) r (_, (_, (_, (_, (_, (_, (_, (_, (pubkeys′, (offer′, (chain′, (numbers′, (heldkey′, (waiting′, (_, (_, (_, (_, (_, (_, _)))))))))))))))))))) =
+    told r (state (now config) (now clocks) (now words) (now stamps) (now blocks) (now headers) (now present) (now since) (now pubkeys′) (now offer′) (now chain′) (now numbers′) (now heldkey′) (now waiting′) (now sets) (now arrivals)) ≡ verdictCall (state (now config) (now clocks) (now words) (now stamps) (now blocks) (now headers) (now present) (now since) (now pubkeys) (now offer) (now chain) (now numbers) (now heldkey) (now waiting) (now sets) (now arrivals)) (record { good = good; id = id; message = now message; signature = now signature })
 
 pub verdict-is : (κs : Lfts 18) (args : Dens κs verdict-kinds.ps) (r : ℕ) (last : AtExit (endedOf 18 verdict-kinds.ps verdict-kinds.r) κs) → verdict-reads.Learnt κs args r last → verdict-rule κs args r last
 verdict-is κs args r last d = d
@@ -73,8 +73,8 @@ pub read-set-asks-nothing : (κs : Lfts 19) (args : Dens κs read-set-kinds.ps) 
 read-set-asks-nothing κs args = tt
 
 abbrev read-set-rule : (κs : Lfts 19) (args : Dens κs read-set-kinds.ps) (r : ℕ) (last : AtExit (endedOf 19 read-set-kinds.ps read-set-kinds.r) κs) → Type 0
-read-set-rule κs (config, (clocks, (words, (stamps, (blocks, (headers, (present, (since, (public-keys, (offer, (chain, (numbers, (held-key, (waiting, (sets, (arrivals, (prn, (out, (_, (_, _)))))))))))))))))))) r (_, (_, (_, (_, (_, (_, (_, (_, (_, (_, (_, (_, (_, (_, (_, (_, (_, (out′, (issue′, (time′, _)))))))))))))))))))) =
-    setTold r (now out′) (now issue′) (now time′) ≡ setRead (state (now config) (now clocks) (now words) (now stamps) (now blocks) (now headers) (now present) (now since) (now public-keys) (now offer) (now chain) (now numbers) (now held-key) (now waiting) (now sets) (now arrivals)) prn (now out)
+read-set-rule κs (config, (clocks, (words, (stamps, (blocks, (headers, (present, (since, (pubkeys, (offer, (chain, (numbers, (heldkey, (waiting, (sets, (arrivals, (prn, (out, (_, (_, _)))))))))))))))))))) r (_, (_, (_, (_, (_, (_, (_, (_, (_, (_, (_, (_, (_, (_, (_, (_, (_, (out′, (issue′, (time′, _)))))))))))))))))))) =
+    setTold r (now out′) (now issue′) (now time′) ≡ setRead (state (now config) (now clocks) (now words) (now stamps) (now blocks) (now headers) (now present) (now since) (now pubkeys) (now offer) (now chain) (now numbers) (now heldkey) (now waiting) (now sets) (now arrivals)) prn (now out)
 
 pub read-set-is : (κs : Lfts 19) (args : Dens κs read-set-kinds.ps) (r : ℕ) (last : AtExit (endedOf 19 read-set-kinds.ps read-set-kinds.r) κs) → read-set-reads.Learnt κs args r last → read-set-rule κs args r last
 read-set-is κs args r last d = d
@@ -88,8 +88,8 @@ pub read-message-asks-nothing : (κs : Lfts 21) (args : Dens κs read-message-ki
 read-message-asks-nothing κs args = tt
 
 abbrev read-message-rule : (κs : Lfts 21) (args : Dens κs read-message-kinds.ps) (r : ℕ) (last : AtExit (endedOf 21 read-message-kinds.ps read-message-kinds.r) κs) → Type 0
-read-message-rule κs (config, (clocks, (words, (stamps, (blocks, (headers, (present, (since, (public-keys, (offer, (chain, (numbers, (held-key, (waiting, (sets, (arrivals, (message, (signature, (public-key, (_, (_, _))))))))))))))))))))) r (_, (_, (_, (_, (_, (_, (_, (_, (_, (_, (_, (_, (_, (_, (_, (_, (message′, (signature′, (public-key′, (id′, (kind′, _))))))))))))))))))))) =
-    offerTold r (now message′) (now signature′) (now public-key′) (now id′) (now kind′) ≡ offerRead (state (now config) (now clocks) (now words) (now stamps) (now blocks) (now headers) (now present) (now since) (now public-keys) (now offer) (now chain) (now numbers) (now held-key) (now waiting) (now sets) (now arrivals)) (now message) (now signature) (now public-key)
+read-message-rule κs (config, (clocks, (words, (stamps, (blocks, (headers, (present, (since, (pubkeys, (offer, (chain, (numbers, (heldkey, (waiting, (sets, (arrivals, (message, (signature, (pubkey, (_, (_, _))))))))))))))))))))) r (_, (_, (_, (_, (_, (_, (_, (_, (_, (_, (_, (_, (_, (_, (_, (_, (message′, (signature′, (pubkey′, (id′, (kind′, _))))))))))))))))))))) =
+    offerTold r (now message′) (now signature′) (now pubkey′) (now id′) (now kind′) ≡ offerRead (state (now config) (now clocks) (now words) (now stamps) (now blocks) (now headers) (now present) (now since) (now pubkeys) (now offer) (now chain) (now numbers) (now heldkey) (now waiting) (now sets) (now arrivals)) (now message) (now signature) (now pubkey)
 
 pub read-message-is : (κs : Lfts 21) (args : Dens κs read-message-kinds.ps) (r : ℕ) (last : AtExit (endedOf 21 read-message-kinds.ps read-message-kinds.r) κs) → read-message-reads.Learnt κs args r last → read-message-rule κs args r last
 read-message-is κs args r last d = d

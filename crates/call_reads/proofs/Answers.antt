@@ -45,39 +45,39 @@ module _ (s : State) (prn : ℕ) (out : List ℕ) where
 
 -- ---- what waits
 
-module _ (s : State) (message signature held-key : List ℕ) where
-  pub offer-unshaped : shaped s ≡ false → offerTold 1 message signature held-key 0 0 ≡ offerRead s message signature held-key
+module _ (s : State) (message signature heldkey : List ℕ) where
+  pub offer-unshaped : shaped s ≡ false → offerTold 1 message signature heldkey 0 0 ≡ offerRead s message signature heldkey
   unfolding offerRead offerReadChecks
   offer-unshaped e = rw e
 
   module _ (h : shaped s ≡ true) where
-    pub message-misfit : (length message ≡ 45 → ⊥) → offerTold 1 message signature held-key 0 0 ≡ offerRead s message signature held-key
+    pub message-misfit : (length message ≡ 45 → ⊥) → offerTold 1 message signature heldkey 0 0 ≡ offerRead s message signature heldkey
     unfolding offerRead offerReadChecks
     message-misfit q = rw (h, ne-eqb (length message) 45 q)
 
-    pub signature-misfit : length message ≡ 45 → (length signature ≡ 132 → ⊥) → offerTold 1 message signature held-key 0 0 ≡ offerRead s message signature held-key
+    pub signature-misfit : length message ≡ 45 → (length signature ≡ 132 → ⊥) → offerTold 1 message signature heldkey 0 0 ≡ offerRead s message signature heldkey
     unfolding offerRead offerReadChecks
     signature-misfit lm q = rw (h, eq-eqb (length message) 45 lm, ne-eqb (length signature) 132 q)
 
-    pub key-misfit : length message ≡ 45 → length signature ≡ 132 → (length held-key ≡ 67 → ⊥)
-        → offerTold 1 message signature held-key 0 0 ≡ offerRead s message signature held-key
+    pub key-misfit : length message ≡ 45 → length signature ≡ 132 → (length heldkey ≡ 67 → ⊥)
+        → offerTold 1 message signature heldkey 0 0 ≡ offerRead s message signature heldkey
     unfolding offerRead offerReadChecks
-    key-misfit lm ls q = rw (h, eq-eqb (length message) 45 lm, eq-eqb (length signature) 132 ls, ne-eqb (length held-key) 67 q)
+    key-misfit lm ls q = rw (h, eq-eqb (length message) 45 lm, eq-eqb (length signature) 132 ls, ne-eqb (length heldkey) 67 q)
 
-    pub offer-lengths : length message ≡ 45 → length signature ≡ 132 → length held-key ≡ 67
-        → (shaped s && (eqb (length message) 45 && (eqb (length signature) 132 && eqb (length held-key) 67))) ≡ true
-    offer-lengths lm ls lk = rw (h, eq-eqb (length message) 45 lm, eq-eqb (length signature) 132 ls, eq-eqb (length held-key) 67 lk)
+    pub offer-lengths : length message ≡ 45 → length signature ≡ 132 → length heldkey ≡ 67
+        → (shaped s && (eqb (length message) 45 && (eqb (length signature) 132 && eqb (length heldkey) 67))) ≡ true
+    offer-lengths lm ls lk = rw (h, eq-eqb (length message) 45 lm, eq-eqb (length signature) 132 ls, eq-eqb (length heldkey) 67 lk)
 
   -- past the check of lengths
-  module _ (public-keys offer : List ℕ) (ek : s .publicKeys ≡ public-keys) (eo : s .offer ≡ offer)
-      (e : (shaped s && (eqb (length message) 45 && (eqb (length signature) 132 && eqb (length held-key) 67))) ≡ true)
+  module _ (pubkeys offer : List ℕ) (ek : s .pubkeys ≡ pubkeys) (eo : s .offer ≡ offer)
+      (e : (shaped s && (eqb (length message) 45 && (eqb (length signature) 132 && eqb (length heldkey) 67))) ≡ true)
     where
-      pub offer-missing : (getD offer 0 0 ≡ 1 → ⊥) → offerTold 14 message signature held-key 0 0 ≡ offerRead s message signature held-key
+      pub offer-missing : (getD offer 0 0 ≡ 1 → ⊥) → offerTold 14 message signature heldkey 0 0 ≡ offerRead s message signature heldkey
       unfolding offerRead offerReadChecks offerWaits
       offer-missing w = rw (e, eo, ne-eqb (getD offer 0 0) 1 w)
 
       pub offer-found : getD offer 0 0 ≡ 1
-          → (m g k : List ℕ) (t : ℕ) → m ≡ offerMessage offer → g ≡ offerSignature offer → k ≡ keyBytes public-keys (offerId offer) → t ≡ keyType public-keys (offerId offer)
-          → offerTold 0 m g k (offerId offer) t ≡ offerRead s message signature held-key
+          → (m g k : List ℕ) (t : ℕ) → m ≡ offerMessage offer → g ≡ offerSignature offer → k ≡ keyBytes pubkeys (offerId offer) → t ≡ keyType pubkeys (offerId offer)
+          → offerTold 0 m g k (offerId offer) t ≡ offerRead s message signature heldkey
       unfolding offerRead offerReadChecks offerWaits
       offer-found w m g k t em eg ef et = rw (e, eo, ek, eq-eqb (getD offer 0 0) 1 w, em, eg, ef, et)

@@ -22,11 +22,11 @@ pub fn read_set(
     headers: &[u8],
     present: &[u16],
     since: &[u32],
-    public_keys: &[u8],
+    pubkeys: &[u8],
     offer: &[u8],
     chain: &[u8],
     numbers: &[u64],
-    held_key: &[u8],
+    heldkey: &[u8],
     waiting: &[u8],
     sets: &[u8],
     arrivals: &[u32],
@@ -35,7 +35,7 @@ pub fn read_set(
     issue: &mut u16,
     time: &mut u32,
 ) -> u32
-    ensures { λ r. ⌜ setTold r (now (out .exit)) (now (issue .exit)) (now (time .exit)) ≡ setRead (state (now (config .entry)) (now (clocks .entry)) (now (words .entry)) (now (stamps .entry)) (now (blocks .entry)) (now (headers .entry)) (now (present .entry)) (now (since .entry)) (now (public-keys .entry)) (now (offer .entry)) (now (chain .entry)) (now (numbers .entry)) (now (held-key .entry)) (now (waiting .entry)) (now (sets .entry)) (now (arrivals .entry))) prn (now (out .entry)) ⌝ }
+    ensures { λ r. ⌜ setTold r (now (out .exit)) (now (issue .exit)) (now (time .exit)) ≡ setRead (state (now (config .entry)) (now (clocks .entry)) (now (words .entry)) (now (stamps .entry)) (now (blocks .entry)) (now (headers .entry)) (now (present .entry)) (now (since .entry)) (now (pubkeys .entry)) (now (offer .entry)) (now (chain .entry)) (now (numbers .entry)) (now (heldkey .entry)) (now (waiting .entry)) (now (sets .entry)) (now (arrivals .entry))) prn (now (out .entry)) ⌝ }
 {
     *issue = 0;
     *time = 0;
@@ -48,11 +48,11 @@ pub fn read_set(
         headers,
         present,
         since,
-        public_keys,
+        pubkeys,
         offer,
         chain,
         numbers,
-        held_key,
+        heldkey,
         waiting,
         sets,
         arrivals,
@@ -104,21 +104,21 @@ pub fn read_message(
     headers: &[u8],
     present: &[u16],
     since: &[u32],
-    public_keys: &[u8],
+    pubkeys: &[u8],
     offer: &[u8],
     chain: &[u8],
     numbers: &[u64],
-    held_key: &[u8],
+    heldkey: &[u8],
     waiting: &[u8],
     sets: &[u8],
     arrivals: &[u32],
     message: &mut [u8],
     signature: &mut [u8],
-    public_key: &mut [u8],
+    pubkey: &mut [u8],
     id: &mut u8,
     kind: &mut u8,
 ) -> u32
-    ensures { λ r. ⌜ offerTold r (now (message .exit)) (now (signature .exit)) (now (public-key .exit)) (now (id .exit)) (now (kind .exit)) ≡ offerRead (state (now (config .entry)) (now (clocks .entry)) (now (words .entry)) (now (stamps .entry)) (now (blocks .entry)) (now (headers .entry)) (now (present .entry)) (now (since .entry)) (now (public-keys .entry)) (now (offer .entry)) (now (chain .entry)) (now (numbers .entry)) (now (held-key .entry)) (now (waiting .entry)) (now (sets .entry)) (now (arrivals .entry))) (now (message .entry)) (now (signature .entry)) (now (public-key .entry)) ⌝ }
+    ensures { λ r. ⌜ offerTold r (now (message .exit)) (now (signature .exit)) (now (pubkey .exit)) (now (id .exit)) (now (kind .exit)) ≡ offerRead (state (now (config .entry)) (now (clocks .entry)) (now (words .entry)) (now (stamps .entry)) (now (blocks .entry)) (now (headers .entry)) (now (present .entry)) (now (since .entry)) (now (pubkeys .entry)) (now (offer .entry)) (now (chain .entry)) (now (numbers .entry)) (now (heldkey .entry)) (now (waiting .entry)) (now (sets .entry)) (now (arrivals .entry))) (now (message .entry)) (now (signature .entry)) (now (pubkey .entry)) ⌝ }
 {
     *id = 0;
     *kind = 0;
@@ -131,11 +131,11 @@ pub fn read_message(
         headers,
         present,
         since,
-        public_keys,
+        pubkeys,
         offer,
         chain,
         numbers,
-        held_key,
+        heldkey,
         waiting,
         sets,
         arrivals,
@@ -148,26 +148,26 @@ pub fn read_message(
     if signature.len() != 132 {
         return 1;
     }
-    if public_key.len() != 67 {
+    if pubkey.len() != 67 {
         return 1;
     }
-    take_message(public_keys, offer, message, signature, public_key, id, kind)
+    take_message(pubkeys, offer, message, signature, pubkey, id, kind)
 }
 
 // A read of what waits whose lengths are right. The key ID that stands in the region counts modulo 16.
 fn take_message(
-    public_keys: &[u8],
+    pubkeys: &[u8],
     offer: &[u8],
     message: &mut [u8],
     signature: &mut [u8],
-    public_key: &mut [u8],
+    pubkey: &mut [u8],
     id: &mut u8,
     kind: &mut u8,
 ) -> u32
-    requires { ⌜ (length (now public-keys) ≡ 1088) × (length (now offer) ≡ 179) ⌝ }
-    requires { ⌜ (length (now message) ≡ 45) × ((length (now signature) ≡ 132) × (length (now public-key) ≡ 67)) ⌝ }
+    requires { ⌜ (length (now pubkeys) ≡ 1088) × (length (now offer) ≡ 179) ⌝ }
+    requires { ⌜ (length (now message) ≡ 45) × ((length (now signature) ≡ 132) × (length (now pubkey) ≡ 67)) ⌝ }
     requires { ⌜ (now id ≡ 0) × (now kind ≡ 0) ⌝ }
-    ensures { λ r. ⌜ ((s : State) → s .publicKeys ≡ now (public-keys .entry) → s .offer ≡ now (offer .entry) → (shaped s && (eqb (length (now (message .entry))) 45 && (eqb (length (now (signature .entry))) 132 && eqb (length (now (public-key .entry))) 67))) ≡ true → offerTold r (now (message .exit)) (now (signature .exit)) (now (public-key .exit)) (now (id .exit)) (now (kind .exit)) ≡ offerRead s (now (message .entry)) (now (signature .entry)) (now (public-key .entry))) ⌝ }
+    ensures { λ r. ⌜ ((s : State) → s .pubkeys ≡ now (pubkeys .entry) → s .offer ≡ now (offer .entry) → (shaped s && (eqb (length (now (message .entry))) 45 && (eqb (length (now (signature .entry))) 132 && eqb (length (now (pubkey .entry))) 67))) ≡ true → offerTold r (now (message .exit)) (now (signature .exit)) (now (pubkey .exit)) (now (id .exit)) (now (kind .exit)) ≡ offerRead s (now (message .entry)) (now (signature .entry)) (now (pubkey .entry))) ⌝ }
 {
     if offer[0] != 1 {
         return 14;
@@ -175,8 +175,8 @@ fn take_message(
     let which = offer[1] % 16;
     buffer::copy_part(message, 0, offer, 2, 45);
     buffer::copy_part(signature, 0, offer, 47, 132);
-    public_keys::key_bytes(public_keys, which, public_key);
-    *kind = public_keys::key_type(public_keys, which);
+    public_keys::key_bytes(pubkeys, which, pubkey);
+    *kind = public_keys::key_type(pubkeys, which);
     *id = which;
     0
 }

@@ -55,12 +55,12 @@ module _ (s : State) (x : Start) where
     accepted z t q = rw (← e, z, q)
 
 -- the parts that a start writes are the whole state
-pub all-written : (x : Start) (config clocks : List ℕ) (nav : Nav) (store : Store) (public-keys offer chain : List ℕ) (tesla : Tesla) (auth : Auth)
+pub all-written : (x : Start) (config clocks : List ℕ) (nav : Nav) (store : Store) (pubkeys offer chain : List ℕ) (tesla : Tesla) (auth : Auth)
     → (config ≡ settings (x .ns) (x .maclt) (x .marks) (x .root)) × (clocks ≡ replicate 73 0)
     → (nav ≡ noWords) × (store ≡ noBlocks)
-    → (public-keys ≡ withKey (replicate 1088 0) (x .id) (x .type) (take (keyLength (x .type)) (x .key))) × ((offer ≡ noOffer) × (chain ≡ replicate 45 0))
+    → (pubkeys ≡ withKey (replicate 1088 0) (x .id) (x .type) (take (keyLength (x .type)) (x .key))) × ((offer ≡ noOffer) × (chain ≡ replicate 45 0))
     → (tesla ≡ noTags) × (auth ≡ noSets)
-    → record { config = config; clocks = clocks; nav = nav; store = store; publicKeys = public-keys; offer = offer; chain = chain; tesla = tesla; auth = auth } ≡ fresh x
+    → record { config = config; clocks = clocks; nav = nav; store = store; pubkeys = pubkeys; offer = offer; chain = chain; tesla = tesla; auth = auth } ≡ fresh x
 unfolding fresh
-all-written x config clocks nav store public-keys offer chain tesla auth a b k d =
+all-written x config clocks nav store pubkeys offer chain tesla auth a b k d =
     rw (a .0, a .1, b .0, b .1, k .0, k .1 .0, k .1 .1, d .0, d .1)

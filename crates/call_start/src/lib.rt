@@ -28,11 +28,11 @@ pub fn start(
     headers: &mut [u8],
     present: &mut [u16],
     since: &mut [u32],
-    public_keys: &mut [u8],
+    pubkeys: &mut [u8],
     offer: &mut [u8],
     chain: &mut [u8],
     numbers: &mut [u64],
-    held_key: &mut [u8],
+    heldkey: &mut [u8],
     waiting: &mut [u8],
     sets: &mut [u8],
     arrivals: &mut [u32],
@@ -42,9 +42,9 @@ pub fn start(
     maclt: u8,
     marks: &[u8],
     root: &[u8],
-    public_key: &[u8],
+    pubkey: &[u8],
 ) -> u32
-    ensures { λ r. ⌜ told r (state (now (config .exit)) (now (clocks .exit)) (now (words .exit)) (now (stamps .exit)) (now (blocks .exit)) (now (headers .exit)) (now (present .exit)) (now (since .exit)) (now (public-keys .exit)) (now (offer .exit)) (now (chain .exit)) (now (numbers .exit)) (now (held-key .exit)) (now (waiting .exit)) (now (sets .exit)) (now (arrivals .exit))) ≡ startCall (state (now (config .entry)) (now (clocks .entry)) (now (words .entry)) (now (stamps .entry)) (now (blocks .entry)) (now (headers .entry)) (now (present .entry)) (now (since .entry)) (now (public-keys .entry)) (now (offer .entry)) (now (chain .entry)) (now (numbers .entry)) (now (held-key .entry)) (now (waiting .entry)) (now (sets .entry)) (now (arrivals .entry))) (record { ns = ns; id = id; type = kind; maclt = maclt; marks = now (marks .entry); root = now (root .entry); key = now (public-key .entry) }) ⌝ }
+    ensures { λ r. ⌜ told r (state (now (config .exit)) (now (clocks .exit)) (now (words .exit)) (now (stamps .exit)) (now (blocks .exit)) (now (headers .exit)) (now (present .exit)) (now (since .exit)) (now (pubkeys .exit)) (now (offer .exit)) (now (chain .exit)) (now (numbers .exit)) (now (heldkey .exit)) (now (waiting .exit)) (now (sets .exit)) (now (arrivals .exit))) ≡ startCall (state (now (config .entry)) (now (clocks .entry)) (now (words .entry)) (now (stamps .entry)) (now (blocks .entry)) (now (headers .entry)) (now (present .entry)) (now (since .entry)) (now (pubkeys .entry)) (now (offer .entry)) (now (chain .entry)) (now (numbers .entry)) (now (heldkey .entry)) (now (waiting .entry)) (now (sets .entry)) (now (arrivals .entry))) (record { ns = ns; id = id; type = kind; maclt = maclt; marks = now (marks .entry); root = now (root .entry); key = now (pubkey .entry) }) ⌝ }
 {
     let code = start_refusal(
         config,
@@ -55,11 +55,11 @@ pub fn start(
         headers,
         present,
         since,
-        public_keys,
+        pubkeys,
         offer,
         chain,
         numbers,
-        held_key,
+        heldkey,
         waiting,
         sets,
         arrivals,
@@ -68,7 +68,7 @@ pub fn start(
         kind,
         marks,
         root,
-        public_key,
+        pubkey,
     );
     if code != 0 {
         return code;
@@ -88,17 +88,17 @@ pub fn start(
         root,
     );
     take_key(
-        public_keys,
+        pubkeys,
         offer,
         chain,
         numbers,
-        held_key,
+        heldkey,
         waiting,
         sets,
         arrivals,
         id,
         kind,
-        public_key,
+        pubkey,
     );
     0
 }
@@ -115,11 +115,11 @@ fn start_refusal(
     headers: &[u8],
     present: &[u16],
     since: &[u32],
-    public_keys: &[u8],
+    pubkeys: &[u8],
     offer: &[u8],
     chain: &[u8],
     numbers: &[u64],
-    held_key: &[u8],
+    heldkey: &[u8],
     waiting: &[u8],
     sets: &[u8],
     arrivals: &[u32],
@@ -128,9 +128,9 @@ fn start_refusal(
     kind: u8,
     marks: &[u8],
     root: &[u8],
-    public_key: &[u8],
+    pubkey: &[u8],
 ) -> u32
-    ensures { λ r. ⌜ ((maclt : ℕ) → r ≡ firstOf (startChecks (state (now (config .entry)) (now (clocks .entry)) (now (words .entry)) (now (stamps .entry)) (now (blocks .entry)) (now (headers .entry)) (now (present .entry)) (now (since .entry)) (now (public-keys .entry)) (now (offer .entry)) (now (chain .entry)) (now (numbers .entry)) (now (held-key .entry)) (now (waiting .entry)) (now (sets .entry)) (now (arrivals .entry))) (record { ns = ns; id = id; type = kind; maclt = maclt; marks = now (marks .entry); root = now (root .entry); key = now (public-key .entry) }))) × (r ≡ 0 → (shaped (state (now (config .entry)) (now (clocks .entry)) (now (words .entry)) (now (stamps .entry)) (now (blocks .entry)) (now (headers .entry)) (now (present .entry)) (now (since .entry)) (now (public-keys .entry)) (now (offer .entry)) (now (chain .entry)) (now (numbers .entry)) (now (held-key .entry)) (now (waiting .entry)) (now (sets .entry)) (now (arrivals .entry))) ≡ true) × (((length (now (marks .entry)) ≡ 28) × ((length (now (root .entry)) ≡ 32) × (length (now (public-key .entry)) ≡ 67))) × ((id < 16) × (kind < 4)))) ⌝ }
+    ensures { λ r. ⌜ ((maclt : ℕ) → r ≡ firstOf (startChecks (state (now (config .entry)) (now (clocks .entry)) (now (words .entry)) (now (stamps .entry)) (now (blocks .entry)) (now (headers .entry)) (now (present .entry)) (now (since .entry)) (now (pubkeys .entry)) (now (offer .entry)) (now (chain .entry)) (now (numbers .entry)) (now (heldkey .entry)) (now (waiting .entry)) (now (sets .entry)) (now (arrivals .entry))) (record { ns = ns; id = id; type = kind; maclt = maclt; marks = now (marks .entry); root = now (root .entry); key = now (pubkey .entry) }))) × (r ≡ 0 → (shaped (state (now (config .entry)) (now (clocks .entry)) (now (words .entry)) (now (stamps .entry)) (now (blocks .entry)) (now (headers .entry)) (now (present .entry)) (now (since .entry)) (now (pubkeys .entry)) (now (offer .entry)) (now (chain .entry)) (now (numbers .entry)) (now (heldkey .entry)) (now (waiting .entry)) (now (sets .entry)) (now (arrivals .entry))) ≡ true) × (((length (now (marks .entry)) ≡ 28) × ((length (now (root .entry)) ≡ 32) × (length (now (pubkey .entry)) ≡ 67))) × ((id < 16) × (kind < 4)))) ⌝ }
 {
     if !regions::shaped(
         config,
@@ -141,11 +141,11 @@ fn start_refusal(
         headers,
         present,
         since,
-        public_keys,
+        pubkeys,
         offer,
         chain,
         numbers,
-        held_key,
+        heldkey,
         waiting,
         sets,
         arrivals,
@@ -158,7 +158,7 @@ fn start_refusal(
     if root.len() != 32 {
         return 1;
     }
-    if public_key.len() != 67 {
+    if pubkey.len() != 67 {
         return 1;
     }
     if call_start_parts::start_unfit(ns, id, kind, marks) {
@@ -196,26 +196,26 @@ fn take_settings(
 
 // The public key, and a core that proved nothing.
 fn take_key(
-    public_keys: &mut [u8],
+    pubkeys: &mut [u8],
     offer: &mut [u8],
     chain: &mut [u8],
     numbers: &mut [u64],
-    held_key: &mut [u8],
+    heldkey: &mut [u8],
     waiting: &mut [u8],
     sets: &mut [u8],
     arrivals: &mut [u32],
     id: u8,
     kind: u8,
-    public_key: &[u8],
+    pubkey: &[u8],
 )
-    requires { ⌜ (length (now public-keys) ≡ 1088) × ((length (now offer) ≡ 179) × (length (now chain) ≡ 45)) ⌝ }
-    requires { ⌜ (length (now numbers) ≡ 2) × ((length (now held-key) ≡ 32) × (length (now waiting) ≡ 21504)) ⌝ }
+    requires { ⌜ (length (now pubkeys) ≡ 1088) × ((length (now offer) ≡ 179) × (length (now chain) ≡ 45)) ⌝ }
+    requires { ⌜ (length (now numbers) ≡ 2) × ((length (now heldkey) ≡ 32) × (length (now waiting) ≡ 21504)) ⌝ }
     requires { ⌜ (length (now sets) ≡ 2484) × (length (now arrivals) ≡ 36) ⌝ }
-    requires { ⌜ (length (now public-key) ≡ 67) × ((id < 16) × (kind < 4)) ⌝ }
-    ensures { λ _. ⌜ ((now (public-keys .exit) ≡ withKey (replicate 1088 0) id kind (take (keyLength kind) (now (public-key .entry)))) × ((now (offer .exit) ≡ noOffer) × (now (chain .exit) ≡ replicate 45 0))) × ((tesla (now (numbers .exit)) (now (held-key .exit)) (now (waiting .exit)) ≡ noTags) × (auth (now (sets .exit)) (now (arrivals .exit)) ≡ noSets)) ⌝ }
+    requires { ⌜ (length (now pubkey) ≡ 67) × ((id < 16) × (kind < 4)) ⌝ }
+    ensures { λ _. ⌜ ((now (pubkeys .exit) ≡ withKey (replicate 1088 0) id kind (take (keyLength kind) (now (pubkey .entry)))) × ((now (offer .exit) ≡ noOffer) × (now (chain .exit) ≡ replicate 45 0))) × ((tesla (now (numbers .exit)) (now (heldkey .exit)) (now (waiting .exit)) ≡ noTags) × (auth (now (sets .exit)) (now (arrivals .exit)) ≡ noSets)) ⌝ }
 {
-    call_start_parts::hold_key(public_keys, id, kind, public_key);
+    call_start_parts::hold_key(pubkeys, id, kind, pubkey);
     call_start_parts::clear_message(offer, chain);
-    call_start_parts::clear_tags(numbers, held_key, waiting);
+    call_start_parts::clear_tags(numbers, heldkey, waiting);
     call_start_parts::clear_sets(sets, arrivals);
 }

@@ -17,7 +17,7 @@ noBlocks = store (replicate 3328 0) (replicate 16 0) (replicate 16 0) (replicate
 
 -- the three regions of the held key and the waiting tags as one record of the state
 abbrev pub tesla : List ℕ → List ℕ → List ℕ → Tesla
-tesla numbers held-key waiting = record { numbers = numbers; key = held-key; waiting = waiting }
+tesla numbers heldkey waiting = record { numbers = numbers; key = heldkey; waiting = waiting }
 
 abbrev pub noTags : Tesla
 noTags = tesla (0 ∷ 0 ∷ []) (replicate 32 0) (replicate 21504 0)

@@ -23,7 +23,7 @@ ghost use Rattle.call_start_parts.specs.Blank.{settings, tesla, noWords,
 // NS, key ID, key type or a mark out of range.
 pub fn start_unfit(ns: u8, id: u8, kind: u8, marks: &[u8]) -> bool
     requires { ⌜ length (now marks) ≡ 28 ⌝ }
-    ensures { λ r. ⌜ ((maclt : ℕ) (root held-key : List ℕ) → r ≡ startUnfit (record { ns = ns; id = id; type = kind; maclt = maclt; marks = now (marks .entry); root = root; key = held-key })) × (r ≡ false → (id < 16) × (kind < 4)) ⌝ }
+    ensures { λ r. ⌜ ((maclt : ℕ) (root heldkey : List ℕ) → r ≡ startUnfit (record { ns = ns; id = id; type = kind; maclt = maclt; marks = now (marks .entry); root = root; key = heldkey })) × (r ≡ false → (id < 16) × (kind < 4)) ⌝ }
 {
     if ns < 1 {
         return true;
@@ -114,13 +114,13 @@ pub fn clear_blocks(blocks: &mut [u8], headers: &mut [u8], present: &mut [u16], 
 }
 
 // Only the given key is held; bytes past its type's length are not read.
-pub fn hold_key(public_keys: &mut [u8], id: u8, kind: u8, public_key: &[u8])
-    requires { ⌜ ((length (now public-keys) ≡ 1088) × (length (now public-key) ≡ 67)) × ((id < 16) × (kind < 4)) ⌝ }
-    ensures { λ _. ⌜ now (public-keys .exit) ≡ withKey (replicate 1088 0) id kind (take (keyLength kind) (now (public-key .entry))) ⌝ }
+pub fn hold_key(pubkeys: &mut [u8], id: u8, kind: u8, pubkey: &[u8])
+    requires { ⌜ ((length (now pubkeys) ≡ 1088) × (length (now pubkey) ≡ 67)) × ((id < 16) × (kind < 4)) ⌝ }
+    ensures { λ _. ⌜ now (pubkeys .exit) ≡ withKey (replicate 1088 0) id kind (take (keyLength kind) (now (pubkey .entry))) ⌝ }
 {
-    buffer::fill(public_keys, 0, 1088, 0);
+    buffer::fill(pubkeys, 0, 1088, 0);
     let n = public_keys::key_length(kind);
-    public_keys::add_key(public_keys, id, kind, &public_key[0..n]);
+    public_keys::add_key(pubkeys, id, kind, &pubkey[0..n]);
 }
 
 // No message waits, and no chain was put in force.
@@ -133,13 +133,13 @@ pub fn clear_message(offer: &mut [u8], chain: &mut [u8])
 }
 
 // No TESLA key is held and no tag waits.
-pub fn clear_tags(numbers: &mut [u64], held_key: &mut [u8], waiting: &mut [u8])
-    requires { ⌜ (length (now numbers) ≡ 2) × ((length (now held-key) ≡ 32) × (length (now waiting) ≡ 21504)) ⌝ }
-    ensures { λ _. ⌜ tesla (now (numbers .exit)) (now (held-key .exit)) (now (waiting .exit)) ≡ noTags ⌝ }
+pub fn clear_tags(numbers: &mut [u64], heldkey: &mut [u8], waiting: &mut [u8])
+    requires { ⌜ (length (now numbers) ≡ 2) × ((length (now heldkey) ≡ 32) × (length (now waiting) ≡ 21504)) ⌝ }
+    ensures { λ _. ⌜ tesla (now (numbers .exit)) (now (heldkey .exit)) (now (waiting .exit)) ≡ noTags ⌝ }
 {
     numbers[0] = 0;
     numbers[1] = 0;
-    buffer::fill(held_key, 0, 32, 0);
+    buffer::fill(heldkey, 0, 32, 0);
     buffer::fill(waiting, 0, 21504, 0);
 }
 

@@ -47,33 +47,33 @@ some-stay waiting out stay r kept e a b = rw e (a, b)
 
 -- ---- the root held
 
-pub root-held : (s : State) (c numbers held-key waiting numbers′ held-key′ waiting′ : List ℕ) (n : ℕ) → s .tesla ≡ tesla numbers held-key waiting
-    → numbers′ ≡ 0 ∷ n ∷ [] → held-key′ ≡ filled 32 (krootOf c) → waiting′ ≡ splice waiting 0 (S.stayingAt s c) → length (S.stayingAt s c) ≡ n * 84
-    → tesla numbers′ held-key′ waiting′ ≡ S.rootHeld s c
+pub root-held : (s : State) (c numbers heldkey waiting numbers′ heldkey′ waiting′ : List ℕ) (n : ℕ) → s .tesla ≡ tesla numbers heldkey waiting
+    → numbers′ ≡ 0 ∷ n ∷ [] → heldkey′ ≡ filled 32 (krootOf c) → waiting′ ≡ splice waiting 0 (S.stayingAt s c) → length (S.stayingAt s c) ≡ n * 84
+    → tesla numbers′ heldkey′ waiting′ ≡ S.rootHeld s c
 unfolding S.rootHeld
-root-held s c numbers held-key waiting numbers′ held-key′ waiting′ n t a b d l =
+root-held s c numbers heldkey waiting numbers′ heldkey′ waiting′ n t a b d l =
     let q : n ≡ length (S.stayingAt s c) / 84 = omega arith in
     let w : s .tesla .waiting ≡ waiting = ap (λ (x : Tesla). x .waiting) t in
     rw (a, b, d, q, ← w)
 
 -- ---- answered 0
 
-module _ (s : State) (v : S.Verdict) (public-keys chain : List ℕ) (ts : Tesla) (k : s .publicKeys ≡ public-keys) (e : s .chain ≡ chain) (t : s .tesla ≡ ts) where
+module _ (s : State) (v : S.Verdict) (pubkeys chain : List ℕ) (ts : Tesla) (k : s .pubkeys ≡ pubkeys) (e : s .chain ≡ chain) (t : s .tesla ≡ ts) where
   pub dropped : statusOf (S.messageHeader (v .message)) ≡ 3
-      → S.trusting s public-keys (set chain 0 2) (tesla (set (ts .numbers) 1 0) (ts .key) (ts .waiting)) ≡ S.vouched s v
+      → S.trusting s pubkeys (set chain 0 2) (tesla (set (ts .numbers) 1 0) (ts .key) (ts .waiting)) ≡ S.vouched s v
   unfolding S.vouched S.tagsDropped
   dropped h = rw (h, k, e, t)
 
-  pub renewed : (public-keys′ chain′ : List ℕ) (ts′ : Tesla) → (statusOf (S.messageHeader (v .message)) ≡ 3 → ⊥) → public-keys′ ≡ withoutLower public-keys (v .id)
+  pub renewed : (pubkeys′ chain′ : List ℕ) (ts′ : Tesla) → (statusOf (S.messageHeader (v .message)) ≡ 3 → ⊥) → pubkeys′ ≡ withoutLower pubkeys (v .id)
       → chain′ ≡ cond (S.sameContents s (S.messageContents (v .message))) (s .chain) (1 ∷ S.messageContents (v .message))
       → ts′ ≡ cond (S.sameContents s (S.messageContents (v .message))) (s .tesla) (S.rootHeld s (S.messageContents (v .message)))
-      → S.trusting s public-keys′ chain′ ts′ ≡ S.vouched s v
+      → S.trusting s pubkeys′ chain′ ts′ ≡ S.vouched s v
   unfolding S.vouched
-  renewed public-keys′ chain′ ts′ h a b d = rw (ne-eqb (statusOf (S.messageHeader (v .message))) 3 h, a, b, d, ← k) (go (S.sameContents s (S.messageContents (v .message))))
+  renewed pubkeys′ chain′ ts′ h a b d = rw (ne-eqb (statusOf (S.messageHeader (v .message))) 3 h, a, b, d, ← k) (go (S.sameContents s (S.messageContents (v .message))))
     where
       go : (same : Bool)
-          → S.trusting s (withoutLower (s .publicKeys) (v .id)) (cond same (s .chain) (1 ∷ S.messageContents (v .message))) (cond same (s .tesla) (S.rootHeld s (S.messageContents (v .message))))
-          ≡ cond same (S.trusting s (withoutLower (s .publicKeys) (v .id)) (s .chain) (s .tesla)) (S.trusting s (withoutLower (s .publicKeys) (v .id)) (1 ∷ S.messageContents (v .message)) (S.rootHeld s (S.messageContents (v .message))))
+          → S.trusting s (withoutLower (s .pubkeys) (v .id)) (cond same (s .chain) (1 ∷ S.messageContents (v .message))) (cond same (s .tesla) (S.rootHeld s (S.messageContents (v .message))))
+          ≡ cond same (S.trusting s (withoutLower (s .pubkeys) (v .id)) (s .chain) (s .tesla)) (S.trusting s (withoutLower (s .pubkeys) (v .id)) (1 ∷ S.messageContents (v .message)) (S.rootHeld s (S.messageContents (v .message))))
       go true = refl
       go false = refl
 
@@ -83,7 +83,7 @@ pub kept : (s : State) (v : S.Verdict) → s ≡ S.judgedVerdict s v 14
 unfolding S.judgedVerdict
 kept s v = refl
 
-pub wait-ended : (s : State) (v : S.Verdict) (code : ℕ) → (code ≡ 0 → ⊥) → (code ≡ 14 → ⊥) → S.trusting s (s .publicKeys) (s .chain) (s .tesla) ≡ S.judgedVerdict s v code
+pub wait-ended : (s : State) (v : S.Verdict) (code : ℕ) → (code ≡ 0 → ⊥) → (code ≡ 14 → ⊥) → S.trusting s (s .pubkeys) (s .chain) (s .tesla) ≡ S.judgedVerdict s v code
 unfolding S.judgedVerdict
 wait-ended s v zero z f = absurd (z refl)
 wait-ended s v (suc n) z f = rw (ne-eqb (suc n) 14 f)

@@ -36,18 +36,18 @@ unfolding waitingCount
 count-in numbers h = rw (le-leb (getD numbers 1 0) 256 h)
 
 -- the root key in 32 bytes, written in two steps
-pub root-written : (held-key c : List ℕ) (w : ℕ) → length held-key ≡ 32 → length c ≡ 44 → w ≡ keyWidth (ksOf c)
-    → splice (splice held-key 0 (part c 12 w)) w (replicate (32 - w) 0) ≡ filled 32 (krootOf c)
+pub root-written : (heldkey c : List ℕ) (w : ℕ) → length heldkey ≡ 32 → length c ≡ 44 → w ≡ keyWidth (ksOf c)
+    → splice (splice heldkey 0 (part c 12 w)) w (replicate (32 - w) 0) ≡ filled 32 (krootOf c)
 unfolding krootOf filled
-root-written held-key c w h k e =
+root-written heldkey c w h k e =
     let b : w ≤ 32 = omega (arith, width-bound (ksOf c)) in
     let p : List ℕ = part c 12 w in
     let z : List ℕ = replicate (32 - w) 0 in
     let lp : length p ≡ w = length-part c 12 w (omega arith) in
     let lz : length z ≡ 32 - w = length-replicate (32 - w) 0 in
     let lw : length (p ++ z) ≡ 32 = simp length-append (omega arith) in
-    ap (λ (i : ℕ). splice (splice held-key 0 p) i z) (sym lp ∙ sym (zero-add (length p)))
-    ∙ splice-append held-key 0 p z (omega arith)
-    ∙ splice-whole held-key (p ++ z) (omega arith)
+    ap (λ (i : ℕ). splice (splice heldkey 0 p) i z) (sym lp ∙ sym (zero-add (length p)))
+    ∙ splice-append heldkey 0 p z (omega arith)
+    ∙ splice-whole heldkey (p ++ z) (omega arith)
     ∙ ap (λ (i : ℕ). p ++ replicate (32 - i) 0) (sym lp)
     ∙ ap (λ (i : ℕ). part c 12 i ++ replicate (32 - length (part c 12 i)) 0) e

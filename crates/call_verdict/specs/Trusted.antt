@@ -5,17 +5,17 @@ use Rattle.rules.specs.State.{State, Tesla}
 
 -- the held key and the waiting tags, as three regions
 abbrev pub tesla : List ℕ → List ℕ → List ℕ → Tesla
-tesla numbers held-key waiting = record { numbers = numbers; key = held-key; waiting = waiting }
+tesla numbers heldkey waiting = record { numbers = numbers; key = heldkey; waiting = waiting }
 
 -- the state s with these regions in their places: for any s a state that has them
 abbrev pub trusted : State → List ℕ → List ℕ → List ℕ → Tesla → State
-trusted s public-keys offer chain tesla =
+trusted s pubkeys offer chain tesla =
     record {
       config = s .config;
       clocks = s .clocks;
       nav = s .nav;
       store = s .store;
-      publicKeys = public-keys;
+      pubkeys = pubkeys;
       offer = offer;
       chain = chain;
       tesla = tesla;

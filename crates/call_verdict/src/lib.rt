@@ -30,11 +30,11 @@ pub fn verdict(
     headers: &[u8],
     present: &[u16],
     since: &[u32],
-    public_keys: &mut [u8],
+    pubkeys: &mut [u8],
     offer: &mut [u8],
     chain: &mut [u8],
     numbers: &mut [u64],
-    held_key: &mut [u8],
+    heldkey: &mut [u8],
     waiting: &mut [u8],
     sets: &[u8],
     arrivals: &[u32],
@@ -43,7 +43,7 @@ pub fn verdict(
     message: &[u8],
     signature: &[u8],
 ) -> u32
-    ensures { λ r. ⌜ told r (state (now (config .entry)) (now (clocks .entry)) (now (words .entry)) (now (stamps .entry)) (now (blocks .entry)) (now (headers .entry)) (now (present .entry)) (now (since .entry)) (now (public-keys .exit)) (now (offer .exit)) (now (chain .exit)) (now (numbers .exit)) (now (held-key .exit)) (now (waiting .exit)) (now (sets .entry)) (now (arrivals .entry))) ≡ verdictCall (state (now (config .entry)) (now (clocks .entry)) (now (words .entry)) (now (stamps .entry)) (now (blocks .entry)) (now (headers .entry)) (now (present .entry)) (now (since .entry)) (now (public-keys .entry)) (now (offer .entry)) (now (chain .entry)) (now (numbers .entry)) (now (held-key .entry)) (now (waiting .entry)) (now (sets .entry)) (now (arrivals .entry))) (record { good = good; id = id; message = now (message .entry); signature = now (signature .entry) }) ⌝ }
+    ensures { λ r. ⌜ told r (state (now (config .entry)) (now (clocks .entry)) (now (words .entry)) (now (stamps .entry)) (now (blocks .entry)) (now (headers .entry)) (now (present .entry)) (now (since .entry)) (now (pubkeys .exit)) (now (offer .exit)) (now (chain .exit)) (now (numbers .exit)) (now (heldkey .exit)) (now (waiting .exit)) (now (sets .entry)) (now (arrivals .entry))) ≡ verdictCall (state (now (config .entry)) (now (clocks .entry)) (now (words .entry)) (now (stamps .entry)) (now (blocks .entry)) (now (headers .entry)) (now (present .entry)) (now (since .entry)) (now (pubkeys .entry)) (now (offer .entry)) (now (chain .entry)) (now (numbers .entry)) (now (heldkey .entry)) (now (waiting .entry)) (now (sets .entry)) (now (arrivals .entry))) (record { good = good; id = id; message = now (message .entry); signature = now (signature .entry) }) ⌝ }
 {
     if !regions::shaped(
         config,
@@ -54,11 +54,11 @@ pub fn verdict(
         headers,
         present,
         since,
-        public_keys,
+        pubkeys,
         offer,
         chain,
         numbers,
-        held_key,
+        heldkey,
         waiting,
         sets,
         arrivals,
@@ -73,11 +73,11 @@ pub fn verdict(
     }
     judge_verdict(
         config,
-        public_keys,
+        pubkeys,
         offer,
         chain,
         numbers,
-        held_key,
+        heldkey,
         waiting,
         good,
         id,
@@ -89,19 +89,19 @@ pub fn verdict(
 // A verdict whose lengths are right: out of range, or of a stopped core, it changes nothing.
 fn judge_verdict(
     config: &[u8],
-    public_keys: &mut [u8],
+    pubkeys: &mut [u8],
     offer: &mut [u8],
     chain: &mut [u8],
     numbers: &mut [u64],
-    held_key: &mut [u8],
+    heldkey: &mut [u8],
     waiting: &mut [u8],
     good: u8,
     id: u8,
     message: &[u8],
     signature: &[u8],
 ) -> u32
-    requires { ⌜ (((length (now config) ≡ 63) × (length (now public-keys) ≡ 1088)) × ((length (now offer) ≡ 179) × (length (now chain) ≡ 45))) × (((length (now numbers) ≡ 2) × (length (now held-key) ≡ 32)) × ((length (now waiting) ≡ 21504) × (length (now message) ≡ 45))) ⌝ }
-    ensures { λ r. ⌜ ((s : State) → s .config ≡ now (config .entry) → (shaped (trusted s (now (public-keys .entry)) (now (offer .entry)) (now (chain .entry)) (tesla (now (numbers .entry)) (now (held-key .entry)) (now (waiting .entry)))) && (eqb (length (now (message .entry))) 45 && eqb (length (now (signature .entry))) 132)) ≡ true → told r (trusted s (now (public-keys .exit)) (now (offer .exit)) (now (chain .exit)) (tesla (now (numbers .exit)) (now (held-key .exit)) (now (waiting .exit)))) ≡ verdictCall (trusted s (now (public-keys .entry)) (now (offer .entry)) (now (chain .entry)) (tesla (now (numbers .entry)) (now (held-key .entry)) (now (waiting .entry)))) (record { good = good; id = id; message = now (message .entry); signature = now (signature .entry) })) ⌝ }
+    requires { ⌜ (((length (now config) ≡ 63) × (length (now pubkeys) ≡ 1088)) × ((length (now offer) ≡ 179) × (length (now chain) ≡ 45))) × (((length (now numbers) ≡ 2) × (length (now heldkey) ≡ 32)) × ((length (now waiting) ≡ 21504) × (length (now message) ≡ 45))) ⌝ }
+    ensures { λ r. ⌜ ((s : State) → s .config ≡ now (config .entry) → (shaped (trusted s (now (pubkeys .entry)) (now (offer .entry)) (now (chain .entry)) (tesla (now (numbers .entry)) (now (heldkey .entry)) (now (waiting .entry)))) && (eqb (length (now (message .entry))) 45 && eqb (length (now (signature .entry))) 132)) ≡ true → told r (trusted s (now (pubkeys .exit)) (now (offer .exit)) (now (chain .exit)) (tesla (now (numbers .exit)) (now (heldkey .exit)) (now (waiting .exit)))) ≡ verdictCall (trusted s (now (pubkeys .entry)) (now (offer .entry)) (now (chain .entry)) (tesla (now (numbers .entry)) (now (heldkey .entry)) (now (waiting .entry)))) (record { good = good; id = id; message = now (message .entry); signature = now (signature .entry) })) ⌝ }
 {
     if 1 < good {
         return 2;
@@ -114,11 +114,11 @@ fn judge_verdict(
     }
     judge_named(
         config[1],
-        public_keys,
+        pubkeys,
         offer,
         chain,
         numbers,
-        held_key,
+        heldkey,
         waiting,
         good,
         id,
@@ -130,19 +130,19 @@ fn judge_verdict(
 // A verdict in range: 14 leaves all as before, 15, 11 and 9 drop the waiting message, and 0 does what the message says.
 fn judge_named(
     maclt: u8,
-    public_keys: &mut [u8],
+    pubkeys: &mut [u8],
     offer: &mut [u8],
     chain: &mut [u8],
     numbers: &mut [u64],
-    held_key: &mut [u8],
+    heldkey: &mut [u8],
     waiting: &mut [u8],
     good: u8,
     id: u8,
     message: &[u8],
     signature: &[u8],
 ) -> u32
-    requires { ⌜ (((id < 16) × (length (now public-keys) ≡ 1088)) × ((length (now offer) ≡ 179) × (length (now chain) ≡ 45))) × (((length (now numbers) ≡ 2) × (length (now held-key) ≡ 32)) × ((length (now waiting) ≡ 21504) × (length (now message) ≡ 45))) ⌝ }
-    ensures { λ r. ⌜ ((s : State) → macltOf (s .config) ≡ maclt → (r ≡ firstOf (S.vouchChecks (trusted s (now (public-keys .entry)) (now (offer .entry)) (now (chain .entry)) (tesla (now (numbers .entry)) (now (held-key .entry)) (now (waiting .entry)))) (record { good = good; id = id; message = now (message .entry); signature = now (signature .entry) }))) × (trusted s (now (public-keys .exit)) (now (offer .exit)) (now (chain .exit)) (tesla (now (numbers .exit)) (now (held-key .exit)) (now (waiting .exit))) ≡ S.judgedVerdict (trusted s (now (public-keys .entry)) (now (offer .entry)) (now (chain .entry)) (tesla (now (numbers .entry)) (now (held-key .entry)) (now (waiting .entry)))) (record { good = good; id = id; message = now (message .entry); signature = now (signature .entry) }) r)) ⌝ }
+    requires { ⌜ (((id < 16) × (length (now pubkeys) ≡ 1088)) × ((length (now offer) ≡ 179) × (length (now chain) ≡ 45))) × (((length (now numbers) ≡ 2) × (length (now heldkey) ≡ 32)) × ((length (now waiting) ≡ 21504) × (length (now message) ≡ 45))) ⌝ }
+    ensures { λ r. ⌜ ((s : State) → macltOf (s .config) ≡ maclt → (r ≡ firstOf (S.vouchChecks (trusted s (now (pubkeys .entry)) (now (offer .entry)) (now (chain .entry)) (tesla (now (numbers .entry)) (now (heldkey .entry)) (now (waiting .entry)))) (record { good = good; id = id; message = now (message .entry); signature = now (signature .entry) }))) × (trusted s (now (pubkeys .exit)) (now (offer .exit)) (now (chain .exit)) (tesla (now (numbers .exit)) (now (heldkey .exit)) (now (waiting .exit))) ≡ S.judgedVerdict (trusted s (now (pubkeys .entry)) (now (offer .entry)) (now (chain .entry)) (tesla (now (numbers .entry)) (now (heldkey .entry)) (now (waiting .entry)))) (record { good = good; id = id; message = now (message .entry); signature = now (signature .entry) }) r)) ⌝ }
 {
     let code = call_verdict_checks::vouch_refusal(
         maclt,
@@ -162,10 +162,10 @@ fn judge_named(
     }
     vouch(
         maclt,
-        public_keys,
+        pubkeys,
         chain,
         numbers,
-        held_key,
+        heldkey,
         waiting,
         id,
         message,
@@ -184,24 +184,24 @@ fn end_wait(offer: &mut [u8])
 // Status 3 drops the chain and the waiting tags. Any other drops keys of lower ID and puts the root in force.
 fn vouch(
     maclt: u8,
-    public_keys: &mut [u8],
+    pubkeys: &mut [u8],
     chain: &mut [u8],
     numbers: &mut [u64],
-    held_key: &mut [u8],
+    heldkey: &mut [u8],
     waiting: &mut [u8],
     id: u8,
     message: &[u8],
 )
-    requires { ⌜ (((id < 16) × (length (now public-keys) ≡ 1088)) × ((length (now chain) ≡ 45) × (length (now numbers) ≡ 2))) × ((length (now held-key) ≡ 32) × ((length (now waiting) ≡ 21504) × (length (now message) ≡ 45))) ⌝ }
-    ensures { λ _. ⌜ ((s : State) (good : ℕ) (signature : List ℕ) → macltOf (s .config) ≡ maclt → s .publicKeys ≡ now (public-keys .entry) → s .chain ≡ now (chain .entry) → s .tesla ≡ tesla (now (numbers .entry)) (now (held-key .entry)) (now (waiting .entry)) → S.trusting s (now (public-keys .exit)) (now (chain .exit)) (tesla (now (numbers .exit)) (now (held-key .exit)) (now (waiting .exit))) ≡ S.vouched s (record { good = good; id = id; message = now (message .entry); signature = signature })) ⌝ }
+    requires { ⌜ (((id < 16) × (length (now pubkeys) ≡ 1088)) × ((length (now chain) ≡ 45) × (length (now numbers) ≡ 2))) × ((length (now heldkey) ≡ 32) × ((length (now waiting) ≡ 21504) × (length (now message) ≡ 45))) ⌝ }
+    ensures { λ _. ⌜ ((s : State) (good : ℕ) (signature : List ℕ) → macltOf (s .config) ≡ maclt → s .pubkeys ≡ now (pubkeys .entry) → s .chain ≡ now (chain .entry) → s .tesla ≡ tesla (now (numbers .entry)) (now (heldkey .entry)) (now (waiting .entry)) → S.trusting s (now (pubkeys .exit)) (now (chain .exit)) (tesla (now (numbers .exit)) (now (heldkey .exit)) (now (waiting .exit))) ≡ S.vouched s (record { good = good; id = id; message = now (message .entry); signature = signature })) ⌝ }
 {
     if gather::status_of(message[0]) == 3 {
         chain[0] = 2;
         numbers[1] = 0;
         return;
     }
-    public_keys::drop_lower(public_keys, id);
-    renew(maclt, chain, numbers, held_key, waiting, &message[1..45]);
+    public_keys::drop_lower(pubkeys, id);
+    renew(maclt, chain, numbers, heldkey, waiting, &message[1..45]);
 }
 
 // ---- a root in force
@@ -211,17 +211,17 @@ fn renew(
     maclt: u8,
     chain: &mut [u8],
     numbers: &mut [u64],
-    held_key: &mut [u8],
+    heldkey: &mut [u8],
     waiting: &mut [u8],
     c: &[u8],
 )
-    requires { ⌜ ((length (now chain) ≡ 45) × (length (now numbers) ≡ 2)) × ((length (now held-key) ≡ 32) × ((length (now waiting) ≡ 21504) × (length (now c) ≡ 44))) ⌝ }
-    ensures { λ _. ⌜ ((s : State) → macltOf (s .config) ≡ maclt → s .chain ≡ now (chain .entry) → s .tesla ≡ tesla (now (numbers .entry)) (now (held-key .entry)) (now (waiting .entry)) → (now (chain .exit) ≡ cond (S.sameContents s (now (c .entry))) (s .chain) (1 ∷ now (c .entry))) × (tesla (now (numbers .exit)) (now (held-key .exit)) (now (waiting .exit)) ≡ cond (S.sameContents s (now (c .entry))) (s .tesla) (S.rootHeld s (now (c .entry))))) ⌝ }
+    requires { ⌜ ((length (now chain) ≡ 45) × (length (now numbers) ≡ 2)) × ((length (now heldkey) ≡ 32) × ((length (now waiting) ≡ 21504) × (length (now c) ≡ 44))) ⌝ }
+    ensures { λ _. ⌜ ((s : State) → macltOf (s .config) ≡ maclt → s .chain ≡ now (chain .entry) → s .tesla ≡ tesla (now (numbers .entry)) (now (heldkey .entry)) (now (waiting .entry)) → (now (chain .exit) ≡ cond (S.sameContents s (now (c .entry))) (s .chain) (1 ∷ now (c .entry))) × (tesla (now (numbers .exit)) (now (heldkey .exit)) (now (waiting .exit)) ≡ cond (S.sameContents s (now (c .entry))) (s .tesla) (S.rootHeld s (now (c .entry))))) ⌝ }
 {
     if call_verdict_checks::same_contents(maclt, chain, c) {
         return;
     }
-    hold_root(maclt, chain, numbers, held_key, waiting, c);
+    hold_root(maclt, chain, numbers, heldkey, waiting, c);
     put_in_force(chain, c);
 }
 
@@ -239,16 +239,16 @@ fn hold_root(
     maclt: u8,
     chain: &[u8],
     numbers: &mut [u64],
-    held_key: &mut [u8],
+    heldkey: &mut [u8],
     waiting: &mut [u8],
     c: &[u8],
 )
-    requires { ⌜ ((length (now chain) ≡ 45) × (length (now numbers) ≡ 2)) × ((length (now held-key) ≡ 32) × ((length (now waiting) ≡ 21504) × (length (now c) ≡ 44))) ⌝ }
-    ensures { λ _. ⌜ ((s : State) → macltOf (s .config) ≡ maclt → s .chain ≡ now (chain .entry) → s .tesla ≡ tesla (now (numbers .entry)) (now (held-key .entry)) (now (waiting .entry)) → tesla (now (numbers .exit)) (now (held-key .exit)) (now (waiting .exit)) ≡ S.rootHeld s (now (c .entry))) ⌝ }
+    requires { ⌜ ((length (now chain) ≡ 45) × (length (now numbers) ≡ 2)) × ((length (now heldkey) ≡ 32) × ((length (now waiting) ≡ 21504) × (length (now c) ≡ 44))) ⌝ }
+    ensures { λ _. ⌜ ((s : State) → macltOf (s .config) ≡ maclt → s .chain ≡ now (chain .entry) → s .tesla ≡ tesla (now (numbers .entry)) (now (heldkey .entry)) (now (waiting .entry)) → tesla (now (numbers .exit)) (now (heldkey .exit)) (now (waiting .exit)) ≡ S.rootHeld s (now (c .entry))) ⌝ }
 {
     let n = waiting_count(numbers);
     let kept = keep_tags(maclt, chain, waiting, n, c);
-    put_root(held_key, c);
+    put_root(heldkey, c);
     put_numbers(numbers, kept);
 }
 
@@ -287,11 +287,11 @@ fn keep_tags(maclt: u8, chain: &[u8], waiting: &mut [u8], n: usize, c: &[u8]) ->
 }
 
 // The root key, zeros after a short one.
-fn put_root(held_key: &mut [u8], c: &[u8])
-    requires { ⌜ (length (now held-key) ≡ 32) × (length (now c) ≡ 44) ⌝ }
-    ensures { λ _. ⌜ now (held-key .exit) ≡ filled 32 (krootOf (now (c .entry))) ⌝ }
+fn put_root(heldkey: &mut [u8], c: &[u8])
+    requires { ⌜ (length (now heldkey) ≡ 32) × (length (now c) ≡ 44) ⌝ }
+    ensures { λ _. ⌜ now (heldkey .exit) ≡ filled 32 (krootOf (now (c .entry))) ⌝ }
 {
     let width = kroot::key_width(kroot::ks(c));
-    buffer::copy_part(held_key, 0, c, 12, width);
-    buffer::fill(held_key, width, 32 - width, 0);
+    buffer::copy_part(heldkey, 0, c, 12, width);
+    buffer::fill(heldkey, width, 32 - width, 0);
 }

@@ -22,11 +22,11 @@ pub fn word(
     headers: &[u8],
     present: &[u16],
     since: &[u32],
-    public_keys: &[u8],
+    pubkeys: &[u8],
     offer: &[u8],
     chain: &[u8],
     numbers: &[u64],
-    held_key: &[u8],
+    heldkey: &[u8],
     waiting: &[u8],
     sets: &[u8],
     arrivals: &[u32],
@@ -34,7 +34,7 @@ pub fn word(
     time: u32,
     bytes: &[u8],
 ) -> u32
-    ensures { λ r. ⌜ told r (state (now (config .entry)) (now (clocks .exit)) (now (words .exit)) (now (stamps .exit)) (now (blocks .entry)) (now (headers .entry)) (now (present .entry)) (now (since .entry)) (now (public-keys .entry)) (now (offer .entry)) (now (chain .entry)) (now (numbers .entry)) (now (held-key .entry)) (now (waiting .entry)) (now (sets .entry)) (now (arrivals .entry))) ≡ wordCall (state (now (config .entry)) (now (clocks .entry)) (now (words .entry)) (now (stamps .entry)) (now (blocks .entry)) (now (headers .entry)) (now (present .entry)) (now (since .entry)) (now (public-keys .entry)) (now (offer .entry)) (now (chain .entry)) (now (numbers .entry)) (now (held-key .entry)) (now (waiting .entry)) (now (sets .entry)) (now (arrivals .entry))) (record { prn = prn; time = time; bytes = now (bytes .entry) }) ⌝ }
+    ensures { λ r. ⌜ told r (state (now (config .entry)) (now (clocks .exit)) (now (words .exit)) (now (stamps .exit)) (now (blocks .entry)) (now (headers .entry)) (now (present .entry)) (now (since .entry)) (now (pubkeys .entry)) (now (offer .entry)) (now (chain .entry)) (now (numbers .entry)) (now (heldkey .entry)) (now (waiting .entry)) (now (sets .entry)) (now (arrivals .entry))) ≡ wordCall (state (now (config .entry)) (now (clocks .entry)) (now (words .entry)) (now (stamps .entry)) (now (blocks .entry)) (now (headers .entry)) (now (present .entry)) (now (since .entry)) (now (pubkeys .entry)) (now (offer .entry)) (now (chain .entry)) (now (numbers .entry)) (now (heldkey .entry)) (now (waiting .entry)) (now (sets .entry)) (now (arrivals .entry))) (record { prn = prn; time = time; bytes = now (bytes .entry) }) ⌝ }
 {
     if !regions::shaped(
         config,
@@ -45,11 +45,11 @@ pub fn word(
         headers,
         present,
         since,
-        public_keys,
+        pubkeys,
         offer,
         chain,
         numbers,
-        held_key,
+        heldkey,
         waiting,
         sets,
         arrivals,

@@ -16,9 +16,9 @@ use Rattle.hkroot_half.specs.Done.{done, gathering}
 use Rattle.hkroot_half.specs.declared.Half.{Half}
 
 -- no DSM is complete
-pub nothing-complete : (s : State) (t n : ℕ) (hk config public-keys offer : List ℕ) (left : Store) → s .config ≡ config → s .publicKeys ≡ public-keys → s .offer ≡ offer → record { code = n; store = left; dsm = [] } ≡ gathered (s .store) t hk → done (record { code = n; stops = false }) (gathering s config left public-keys offer) ≡ hkrootHalf s t hk
+pub nothing-complete : (s : State) (t n : ℕ) (hk config pubkeys offer : List ℕ) (left : Store) → s .config ≡ config → s .pubkeys ≡ pubkeys → s .offer ≡ offer → record { code = n; store = left; dsm = [] } ≡ gathered (s .store) t hk → done (record { code = n; stops = false }) (gathering s config left pubkeys offer) ≡ hkrootHalf s t hk
 unfolding hkrootHalf storeDone
-nothing-complete s t n hk config public-keys offer left ec ek eo e = rw (← e, ec, ek, eo)
+nothing-complete s t n hk config pubkeys offer left ec ek eo e = rw (← e, ec, ek, eo)
 
 -- a DSM is complete: what is done with it is the half
 pub one-complete : (s : State) (t : ℕ) (hk d : List ℕ) (left : Store) (x : HkrootDone) → 1 ≤ length d → record { code = 0; store = left; dsm = d } ≡ gathered (s .store) t hk → x ≡ cond (leb (dsmIdOf hk) 11) (krootDone s left (headerOf hk) d) (pkrDone s left d) → x ≡ hkrootHalf s t hk
@@ -26,11 +26,11 @@ unfolding hkrootHalf
 one-complete s t hk d left x h e p = rw (← e, ne-eqb (length d) 0 (λ z. absurd (omega (arith, h, z)))) p
 
 -- a DSM-KROOT: the waiting message may be another
-pub kroot-done : (s : State) (left : Store) (config public-keys offer given d : List ℕ) (header code : ℕ) → s .config ≡ config → s .publicKeys ≡ public-keys → s .offer ≡ offer → code ≡ (krootJudged public-keys (getD config 1 0) offer header d) .code → given ≡ (krootJudged public-keys (getD config 1 0) offer header d) .offer → done (record { code = code; stops = false }) (gathering s config left public-keys given) ≡ krootDone s left header d
+pub kroot-done : (s : State) (left : Store) (config pubkeys offer given d : List ℕ) (header code : ℕ) → s .config ≡ config → s .pubkeys ≡ pubkeys → s .offer ≡ offer → code ≡ (krootJudged pubkeys (getD config 1 0) offer header d) .code → given ≡ (krootJudged pubkeys (getD config 1 0) offer header d) .offer → done (record { code = code; stops = false }) (gathering s config left pubkeys given) ≡ krootDone s left header d
 unfolding krootDone macltOf
-kroot-done s left config public-keys offer given d header code ec ek eo e f = rw (e, f, ec, ek, eo)
+kroot-done s left config pubkeys offer given d header code ec ek eo e f = rw (e, f, ec, ek, eo)
 
 -- a DSM-PKR: the public keys may be others, and the core may stop
-pub pkr-done : (s : State) (left : Store) (config public-keys offer installed given d : List ℕ) (h : Half) → s .config ≡ config → s .publicKeys ≡ public-keys → s .offer ≡ offer → h .code ≡ (pkrJudged public-keys (treeRoot config) d) .code → h .stops ≡ (pkrJudged public-keys (treeRoot config) d) .stops → given ≡ (pkrJudged public-keys (treeRoot config) d) .publicKeys → installed ≡ cond ((pkrJudged public-keys (treeRoot config) d) .stops) (set config 62 1) config → done h (gathering s installed left given offer) ≡ pkrDone s left d
+pub pkr-done : (s : State) (left : Store) (config pubkeys offer installed given d : List ℕ) (h : Half) → s .config ≡ config → s .pubkeys ≡ pubkeys → s .offer ≡ offer → h .code ≡ (pkrJudged pubkeys (treeRoot config) d) .code → h .stops ≡ (pkrJudged pubkeys (treeRoot config) d) .stops → given ≡ (pkrJudged pubkeys (treeRoot config) d) .pubkeys → installed ≡ cond ((pkrJudged pubkeys (treeRoot config) d) .stops) (set config 62 1) config → done h (gathering s installed left given offer) ≡ pkrDone s left d
 unfolding pkrDone
-pkr-done s left config public-keys offer installed given d h ec ek eo e f g i = rw (e, f, g, i, ec, ek, eo)
+pkr-done s left config pubkeys offer installed given d h ec ek eo e f g i = rw (e, f, g, i, ec, ek, eo)

@@ -10,13 +10,13 @@ abbrev pub done : Half → State → HkrootDone
 done h s = record { code = h .code; stops = h .stops; state = s }
 
 abbrev pub gathering : State → List ℕ → Store → List ℕ → List ℕ → State
-gathering s config store public-keys offer =
+gathering s config store pubkeys offer =
     record {
       config = config;
       clocks = s .clocks;
       nav = s .nav;
       store = store;
-      publicKeys = public-keys;
+      pubkeys = pubkeys;
       offer = offer;
       chain = s .chain;
       tesla = s .tesla;

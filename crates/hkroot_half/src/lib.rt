@@ -29,20 +29,20 @@ pub fn hkroot_half(
     headers: &mut [u8],
     present: &mut [u16],
     since: &mut [u32],
-    public_keys: &mut [u8],
+    pubkeys: &mut [u8],
     offer: &mut [u8],
     t: u32,
     hk: &[u8; 15],
 ) -> Half
-    requires { ⌜ Lent (now blocks) (now headers) (now present) (now since) × ((length (now config) ≡ 63) × ((length (now public-keys) ≡ 1088) × (length (now offer) ≡ 179))) ⌝ }
-    ensures { λ r. ⌜ ((s : State) → s .config ≡ now (config .entry) → s .store ≡ store (now (blocks .entry)) (now (headers .entry)) (now (present .entry)) (now (since .entry)) → s .publicKeys ≡ now (public-keys .entry) → s .offer ≡ now (offer .entry) → done r (gathering s (now (config .exit)) (store (now (blocks .exit)) (now (headers .exit)) (now (present .exit)) (now (since .exit))) (now (public-keys .exit)) (now (offer .exit))) ≡ hkrootHalf s t (now (hk .entry))) ⌝ }
+    requires { ⌜ Lent (now blocks) (now headers) (now present) (now since) × ((length (now config) ≡ 63) × ((length (now pubkeys) ≡ 1088) × (length (now offer) ≡ 179))) ⌝ }
+    ensures { λ r. ⌜ ((s : State) → s .config ≡ now (config .entry) → s .store ≡ store (now (blocks .entry)) (now (headers .entry)) (now (present .entry)) (now (since .entry)) → s .pubkeys ≡ now (pubkeys .entry) → s .offer ≡ now (offer .entry) → done r (gathering s (now (config .exit)) (store (now (blocks .exit)) (now (headers .exit)) (now (present .exit)) (now (since .exit))) (now (pubkeys .exit)) (now (offer .exit))) ≡ hkrootHalf s t (now (hk .entry))) ⌝ }
 {
     match gather::gather(blocks, headers, present, since, t, hk) {
         Gathered::Stored => Half {
             code: 0,
             stops: false,
         },
-        Gathered::Complete(n) => complete(config, blocks, public_keys, offer, hk, n),
+        Gathered::Complete(n) => complete(config, blocks, pubkeys, offer, hk, n),
         Gathered::Refused => Half {
             code: 6,
             stops: false,
@@ -54,19 +54,19 @@ pub fn hkroot_half(
 fn complete(
     config: &mut [u8],
     blocks: &[u8],
-    public_keys: &mut [u8],
+    pubkeys: &mut [u8],
     offer: &mut [u8],
     hk: &[u8; 15],
     n: usize,
 ) -> Half
-    requires { ⌜ ((length (now config) ≡ 63) × (length (now blocks) ≡ 3328)) × (((length (now public-keys) ≡ 1088) × (length (now offer) ≡ 179)) × ((91 ≤ n) × (n ≤ 208))) ⌝ }
-    ensures { λ r. ⌜ ((s : State) (left : Store) → s .config ≡ now (config .entry) → s .publicKeys ≡ now (public-keys .entry) → s .offer ≡ now (offer .entry) → done r (gathering s (now (config .exit)) left (now (public-keys .exit)) (now (offer .exit))) ≡ cond (leb (dsmIdOf (now (hk .entry))) 11) (krootDone s left (headerOf (now (hk .entry))) (part (now (blocks .entry)) (dsmIdOf (now (hk .entry)) * 208) n)) (pkrDone s left (part (now (blocks .entry)) (dsmIdOf (now (hk .entry)) * 208) n))) × (dsmIdOf (now (hk .entry)) < 16) ⌝ }
+    requires { ⌜ ((length (now config) ≡ 63) × (length (now blocks) ≡ 3328)) × (((length (now pubkeys) ≡ 1088) × (length (now offer) ≡ 179)) × ((91 ≤ n) × (n ≤ 208))) ⌝ }
+    ensures { λ r. ⌜ ((s : State) (left : Store) → s .config ≡ now (config .entry) → s .pubkeys ≡ now (pubkeys .entry) → s .offer ≡ now (offer .entry) → done r (gathering s (now (config .exit)) left (now (pubkeys .exit)) (now (offer .exit))) ≡ cond (leb (dsmIdOf (now (hk .entry))) 11) (krootDone s left (headerOf (now (hk .entry))) (part (now (blocks .entry)) (dsmIdOf (now (hk .entry)) * 208) n)) (pkrDone s left (part (now (blocks .entry)) (dsmIdOf (now (hk .entry)) * 208) n))) × (dsmIdOf (now (hk .entry)) < 16) ⌝ }
 {
     let id = gather::dsm_id_of(hk);
     let at = id * 208;
     if id <= 11 {
         let code = kroot::kroot_judge(
-            public_keys,
+            pubkeys,
             config[1],
             offer,
             gather::header_of(hk),
@@ -77,15 +77,15 @@ fn complete(
             stops: false,
         };
     }
-    renewed(config, public_keys, &blocks[at..at + n])
+    renewed(config, pubkeys, &blocks[at..at + n])
 }
 
 // A complete DSM-PKR. Proved with type 4 (an emergency message), it stops the core.
-fn renewed(config: &mut [u8], public_keys: &mut [u8], d: &[u8]) -> Half
-    requires { ⌜ ((length (now config) ≡ 63) × (length (now public-keys) ≡ 1088)) × ((91 ≤ length (now d)) × (length (now d) ≤ 208)) ⌝ }
-    ensures { λ r. ⌜ ((r .code ≡ (pkrJudged (now (public-keys .entry)) (treeRoot (now (config .entry))) (now (d .entry))) .code) × (r .stops ≡ (pkrJudged (now (public-keys .entry)) (treeRoot (now (config .entry))) (now (d .entry))) .stops)) × ((now (public-keys .exit) ≡ (pkrJudged (now (public-keys .entry)) (treeRoot (now (config .entry))) (now (d .entry))) .publicKeys) × (now (config .exit) ≡ cond ((pkrJudged (now (public-keys .entry)) (treeRoot (now (config .entry))) (now (d .entry))) .stops) (set (now (config .entry)) 62 1) (now (config .entry)))) ⌝ }
+fn renewed(config: &mut [u8], pubkeys: &mut [u8], d: &[u8]) -> Half
+    requires { ⌜ ((length (now config) ≡ 63) × (length (now pubkeys) ≡ 1088)) × ((91 ≤ length (now d)) × (length (now d) ≤ 208)) ⌝ }
+    ensures { λ r. ⌜ ((r .code ≡ (pkrJudged (now (pubkeys .entry)) (treeRoot (now (config .entry))) (now (d .entry))) .code) × (r .stops ≡ (pkrJudged (now (pubkeys .entry)) (treeRoot (now (config .entry))) (now (d .entry))) .stops)) × ((now (pubkeys .exit) ≡ (pkrJudged (now (pubkeys .entry)) (treeRoot (now (config .entry))) (now (d .entry))) .pubkeys) × (now (config .exit) ≡ cond ((pkrJudged (now (pubkeys .entry)) (treeRoot (now (config .entry))) (now (d .entry))) .stops) (set (now (config .entry)) 62 1) (now (config .entry)))) ⌝ }
 {
-    let r = pkr::pkr_judge(public_keys, &config[30..62], d);
+    let r = pkr::pkr_judge(pubkeys, &config[30..62], d);
     if r.stops {
         config[62] = 1;
     }

@@ -15,28 +15,28 @@ use Rattle.rules.specs.Bits.{filled}
 use Rattle.rules.specs.PublicKeys.{keyHeld, keyType, signatureLength}
 use Rattle.rules.specs.Kroot as S
 
-module _ (public-keys : List ℕ) (maclt : ℕ) (offer : List ℕ) (header : ℕ) (d : List ℕ) where
+module _ (pubkeys : List ℕ) (maclt : ℕ) (offer : List ℕ) (header : ℕ) (d : List ℕ) where
   abbrev judged : S.Offer
-  judged = S.krootJudged public-keys maclt offer header d
+  judged = S.krootJudged pubkeys maclt offer header d
 
-  pub no-key : keyHeld public-keys (S.pkidOf d) ≡ false → (7 ≡ judged .code) × (offer ≡ judged .offer)
+  pub no-key : keyHeld pubkeys (S.pkidOf d) ≡ false → (7 ≡ judged .code) × (offer ≡ judged .offer)
   unfolding S.krootJudged S.krootChecks
   no-key h = rw h (refl, refl)
 
-  pub bad-parameters : keyHeld public-keys (S.pkidOf d) ≡ true → S.parametersBad maclt (S.contentsOf d) ≡ true → (8 ≡ judged .code) × (offer ≡ judged .offer)
+  pub bad-parameters : keyHeld pubkeys (S.pkidOf d) ≡ true → S.parametersBad maclt (S.contentsOf d) ≡ true → (8 ≡ judged .code) × (offer ≡ judged .offer)
   unfolding S.krootJudged S.krootChecks
   bad-parameters h k = rw (h, k) (refl, refl)
 
-  module _ (held : keyHeld public-keys (S.pkidOf d) ≡ true) (good : S.parametersBad maclt (S.contentsOf d) ≡ false) where
-    pub wrong-size : (length d ≡ 13 * S.krootBlocks (S.keyWidth (S.ksOf (S.contentsOf d))) (keyType public-keys (S.pkidOf d)) → ⊥) → (6 ≡ judged .code) × (offer ≡ judged .offer)
+  module _ (held : keyHeld pubkeys (S.pkidOf d) ≡ true) (good : S.parametersBad maclt (S.contentsOf d) ≡ false) where
+    pub wrong-size : (length d ≡ 13 * S.krootBlocks (S.keyWidth (S.ksOf (S.contentsOf d))) (keyType pubkeys (S.pkidOf d)) → ⊥) → (6 ≡ judged .code) × (offer ≡ judged .offer)
     unfolding S.krootJudged S.krootChecks
-    wrong-size n = rw (held, good, ne-eqb (length d) (13 * S.krootBlocks (S.keyWidth (S.ksOf (S.contentsOf d))) (keyType public-keys (S.pkidOf d))) n) (refl, refl)
+    wrong-size n = rw (held, good, ne-eqb (length d) (13 * S.krootBlocks (S.keyWidth (S.ksOf (S.contentsOf d))) (keyType pubkeys (S.pkidOf d))) n) (refl, refl)
 
-    pub taken : (o : List ℕ) → length d ≡ 13 * S.krootBlocks (S.keyWidth (S.ksOf (S.contentsOf d))) (keyType public-keys (S.pkidOf d))
-        → o ≡ S.offered (S.pkidOf d) (S.signedMessage header d) (S.signatureOf d (keyType public-keys (S.pkidOf d)))
+    pub taken : (o : List ℕ) → length d ≡ 13 * S.krootBlocks (S.keyWidth (S.ksOf (S.contentsOf d))) (keyType pubkeys (S.pkidOf d))
+        → o ≡ S.offered (S.pkidOf d) (S.signedMessage header d) (S.signatureOf d (keyType pubkeys (S.pkidOf d)))
         → (0 ≡ judged .code) × (o ≡ judged .offer)
     unfolding S.krootJudged S.krootChecks
-    taken o n e = rw (held, good, eq-eqb (length d) (13 * S.krootBlocks (S.keyWidth (S.ksOf (S.contentsOf d))) (keyType public-keys (S.pkidOf d))) n) (refl, e)
+    taken o n e = rw (held, good, eq-eqb (length d) (13 * S.krootBlocks (S.keyWidth (S.ksOf (S.contentsOf d))) (keyType pubkeys (S.pkidOf d))) n) (refl, e)
 
 -- what was spliced in at the start goes on
 joined : (o r s : List ℕ) (k : ℕ) → length r ≡ k → k + length s ≤ length o → splice (splice o 0 r) k s ≡ splice o 0 (r ++ s)

@@ -19,19 +19,19 @@ use rules::Chain;
 // ---- a complete DSM-KROOT
 
 // Its number (7, 8, 6 or 0); with 0 it waits for a verdict, in place of one that waited.
-pub fn kroot_judge(public_keys: &[u8], maclt: u8, offer: &mut [u8], header: u8, d: &[u8]) -> u32
-    requires { ⌜ (length (now public-keys) ≡ 1088) × ((length (now offer) ≡ 179) × (91 ≤ length (now d))) ⌝ }
-    ensures { λ r. ⌜ (r ≡ (S.krootJudged (now (public-keys .entry)) maclt (now (offer .entry)) header (now (d .entry))) .code) × (now (offer .exit) ≡ (S.krootJudged (now (public-keys .entry)) maclt (now (offer .entry)) header (now (d .entry))) .offer) ⌝ }
+pub fn kroot_judge(pubkeys: &[u8], maclt: u8, offer: &mut [u8], header: u8, d: &[u8]) -> u32
+    requires { ⌜ (length (now pubkeys) ≡ 1088) × ((length (now offer) ≡ 179) × (91 ≤ length (now d))) ⌝ }
+    ensures { λ r. ⌜ (r ≡ (S.krootJudged (now (pubkeys .entry)) maclt (now (offer .entry)) header (now (d .entry))) .code) × (now (offer .exit) ≡ (S.krootJudged (now (pubkeys .entry)) maclt (now (offer .entry)) header (now (d .entry))) .offer) ⌝ }
 {
     let id = pkid(d);
-    if !public_keys::key_held(public_keys, id) {
+    if !public_keys::key_held(pubkeys, id) {
         return 7;
     }
     if parameters_bad(maclt, &d[1..45]) {
         return 8;
     }
     let width = key_width(ks(&d[1..45]));
-    let signed = public_keys::signature_length(public_keys::key_type(public_keys, id));
+    let signed = public_keys::signature_length(public_keys::key_type(pubkeys, id));
     if d.len() != 13 * least_blocks(13 + width + signed) {
         return 6;
     }

@@ -14,70 +14,70 @@ ghost use Rattle.message_edge.specs.Edge.{chainNumbers};
 // ---- public keys
 
 #[no_mangle]
-pub extern "C" fn leaf_above_all(public_keys: &[u8], id: u8) -> u32
-    requires { ⌜ (length (now public-keys) ≡ 1088) × (id < 16) ⌝ }
-    ensures { λ r. ⌜ r ≡ cond (Keys.aboveAll (now (public-keys .entry)) id) 1 0 ⌝ }
+pub extern "C" fn leaf_above_all(pubkeys: &[u8], id: u8) -> u32
+    requires { ⌜ (length (now pubkeys) ≡ 1088) × (id < 16) ⌝ }
+    ensures { λ r. ⌜ r ≡ cond (Keys.aboveAll (now (pubkeys .entry)) id) 1 0 ⌝ }
 {
-    bools::number(public_keys::above_all(public_keys, id))
+    bools::number(public_keys::above_all(pubkeys, id))
 }
 
 #[no_mangle]
-pub extern "C" fn leaf_same_key(public_keys: &[u8], id: u8, kind: u8, key: &[u8]) -> u32
-    requires { ⌜ (length (now public-keys) ≡ 1088) × ((id < 16) × (length (now key) ≤ 67)) ⌝ }
-    ensures { λ r. ⌜ r ≡ cond (Keys.sameKey (now (public-keys .entry)) id kind (now (key .entry))) 1 0 ⌝ }
+pub extern "C" fn leaf_same_key(pubkeys: &[u8], id: u8, kind: u8, key: &[u8]) -> u32
+    requires { ⌜ (length (now pubkeys) ≡ 1088) × ((id < 16) × (length (now key) ≤ 67)) ⌝ }
+    ensures { λ r. ⌜ r ≡ cond (Keys.sameKey (now (pubkeys .entry)) id kind (now (key .entry))) 1 0 ⌝ }
 {
-    bools::number(public_keys::same_key(public_keys, id, kind, key))
+    bools::number(public_keys::same_key(pubkeys, id, kind, key))
 }
 
 #[no_mangle]
-pub extern "C" fn leaf_add_key(public_keys: &mut [u8], id: u8, kind: u8, key: &[u8])
-    requires { ⌜ ((length (now public-keys) ≡ 1088) × (id < 16)) × ((kind < 4) × (length (now key) ≤ 67)) ⌝ }
-    ensures { λ _. ⌜ now (public-keys .exit) ≡ Keys.withKey (now (public-keys .entry)) id kind (now (key .entry)) ⌝ }
+pub extern "C" fn leaf_add_key(pubkeys: &mut [u8], id: u8, kind: u8, key: &[u8])
+    requires { ⌜ ((length (now pubkeys) ≡ 1088) × (id < 16)) × ((kind < 4) × (length (now key) ≤ 67)) ⌝ }
+    ensures { λ _. ⌜ now (pubkeys .exit) ≡ Keys.withKey (now (pubkeys .entry)) id kind (now (key .entry)) ⌝ }
 {
-    public_keys::add_key(public_keys, id, kind, key);
+    public_keys::add_key(pubkeys, id, kind, key);
 }
 
 #[no_mangle]
-pub extern "C" fn leaf_drop_lower(public_keys: &mut [u8], id: u8)
-    requires { ⌜ (length (now public-keys) ≡ 1088) × (id < 16) ⌝ }
-    ensures { λ _. ⌜ now (public-keys .exit) ≡ Keys.withoutLower (now (public-keys .entry)) id ⌝ }
+pub extern "C" fn leaf_drop_lower(pubkeys: &mut [u8], id: u8)
+    requires { ⌜ (length (now pubkeys) ≡ 1088) × (id < 16) ⌝ }
+    ensures { λ _. ⌜ now (pubkeys .exit) ≡ Keys.withoutLower (now (pubkeys .entry)) id ⌝ }
 {
-    public_keys::drop_lower(public_keys, id);
+    public_keys::drop_lower(pubkeys, id);
 }
 
 // ---- DSM-KROOT and DSM-PKR
 
 #[no_mangle]
 pub extern "C" fn leaf_kroot_judge(
-    public_keys: &[u8],
+    pubkeys: &[u8],
     maclt: u8,
     offer: &mut [u8],
     header: u8,
     d: &[u8],
 ) -> u32
-    requires { ⌜ (length (now public-keys) ≡ 1088) × ((length (now offer) ≡ 179) × (91 ≤ length (now d))) ⌝ }
-    ensures { λ r. ⌜ (r ≡ (Kroot.krootJudged (now (public-keys .entry)) maclt (now (offer .entry)) header (now (d .entry))) .code) × (now (offer .exit) ≡ (Kroot.krootJudged (now (public-keys .entry)) maclt (now (offer .entry)) header (now (d .entry))) .offer) ⌝ }
+    requires { ⌜ (length (now pubkeys) ≡ 1088) × ((length (now offer) ≡ 179) × (91 ≤ length (now d))) ⌝ }
+    ensures { λ r. ⌜ (r ≡ (Kroot.krootJudged (now (pubkeys .entry)) maclt (now (offer .entry)) header (now (d .entry))) .code) × (now (offer .exit) ≡ (Kroot.krootJudged (now (pubkeys .entry)) maclt (now (offer .entry)) header (now (d .entry))) .offer) ⌝ }
 {
-    kroot::kroot_judge(public_keys, maclt, offer, header, d)
+    kroot::kroot_judge(pubkeys, maclt, offer, header, d)
 }
 
 // The number of a DSM-PKR.
 #[no_mangle]
-pub extern "C" fn leaf_pkr_code(public_keys: &mut [u8], root: &[u8], d: &[u8]) -> u32
-    requires { ⌜ (length (now public-keys) ≡ 1088) × ((91 ≤ length (now d)) × (length (now d) ≤ 208)) ⌝ }
-    ensures { λ r. ⌜ (r ≡ (Pkr.pkrJudged (now (public-keys .entry)) (now (root .entry)) (now (d .entry))) .code) × (now (public-keys .exit) ≡ (Pkr.pkrJudged (now (public-keys .entry)) (now (root .entry)) (now (d .entry))) .publicKeys) ⌝ }
+pub extern "C" fn leaf_pkr_code(pubkeys: &mut [u8], root: &[u8], d: &[u8]) -> u32
+    requires { ⌜ (length (now pubkeys) ≡ 1088) × ((91 ≤ length (now d)) × (length (now d) ≤ 208)) ⌝ }
+    ensures { λ r. ⌜ (r ≡ (Pkr.pkrJudged (now (pubkeys .entry)) (now (root .entry)) (now (d .entry))) .code) × (now (pubkeys .exit) ≡ (Pkr.pkrJudged (now (pubkeys .entry)) (now (root .entry)) (now (d .entry))) .pubkeys) ⌝ }
 {
-    let r = pkr::pkr_judge(public_keys, root, d);
+    let r = pkr::pkr_judge(pubkeys, root, d);
     r.code
 }
 
 // Whether a DSM-PKR stops the receiver: 1 where it does.
 #[no_mangle]
-pub extern "C" fn leaf_pkr_stops(public_keys: &mut [u8], root: &[u8], d: &[u8]) -> u32
-    requires { ⌜ (length (now public-keys) ≡ 1088) × ((91 ≤ length (now d)) × (length (now d) ≤ 208)) ⌝ }
-    ensures { λ r. ⌜ (r ≡ cond ((Pkr.pkrJudged (now (public-keys .entry)) (now (root .entry)) (now (d .entry))) .stops) 1 0) × (now (public-keys .exit) ≡ (Pkr.pkrJudged (now (public-keys .entry)) (now (root .entry)) (now (d .entry))) .publicKeys) ⌝ }
+pub extern "C" fn leaf_pkr_stops(pubkeys: &mut [u8], root: &[u8], d: &[u8]) -> u32
+    requires { ⌜ (length (now pubkeys) ≡ 1088) × ((91 ≤ length (now d)) × (length (now d) ≤ 208)) ⌝ }
+    ensures { λ r. ⌜ (r ≡ cond ((Pkr.pkrJudged (now (pubkeys .entry)) (now (root .entry)) (now (d .entry))) .stops) 1 0) × (now (pubkeys .exit) ≡ (Pkr.pkrJudged (now (pubkeys .entry)) (now (root .entry)) (now (d .entry))) .pubkeys) ⌝ }
 {
-    let r = pkr::pkr_judge(public_keys, root, d);
+    let r = pkr::pkr_judge(pubkeys, root, d);
     bools::number(r.stops)
 }
 

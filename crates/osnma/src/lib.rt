@@ -19,11 +19,11 @@ pub extern "C" fn osnma_regions_start(
     headers: &mut [u8],
     present: &mut [u16],
     since: &mut [u32],
-    public_keys: &mut [u8],
+    pubkeys: &mut [u8],
     offer: &mut [u8],
     chain: &mut [u8],
     numbers: &mut [u64],
-    held_key: &mut [u8],
+    heldkey: &mut [u8],
     waiting: &mut [u8],
     sets: &mut [u8],
     arrivals: &mut [u32],
@@ -33,9 +33,9 @@ pub extern "C" fn osnma_regions_start(
     maclt: u8,
     marks: &[u8],
     root: &[u8],
-    public_key: &[u8],
+    pubkey: &[u8],
 ) -> u32
-    ensures { λ r. ⌜ told r (state (now (config .exit)) (now (clocks .exit)) (now (words .exit)) (now (stamps .exit)) (now (blocks .exit)) (now (headers .exit)) (now (present .exit)) (now (since .exit)) (now (public-keys .exit)) (now (offer .exit)) (now (chain .exit)) (now (numbers .exit)) (now (held-key .exit)) (now (waiting .exit)) (now (sets .exit)) (now (arrivals .exit))) ≡ startCall (state (now (config .entry)) (now (clocks .entry)) (now (words .entry)) (now (stamps .entry)) (now (blocks .entry)) (now (headers .entry)) (now (present .entry)) (now (since .entry)) (now (public-keys .entry)) (now (offer .entry)) (now (chain .entry)) (now (numbers .entry)) (now (held-key .entry)) (now (waiting .entry)) (now (sets .entry)) (now (arrivals .entry))) (record { ns = ns; id = id; type = kind; maclt = maclt; marks = now (marks .entry); root = now (root .entry); key = now (public-key .entry) }) ⌝ }
+    ensures { λ r. ⌜ told r (state (now (config .exit)) (now (clocks .exit)) (now (words .exit)) (now (stamps .exit)) (now (blocks .exit)) (now (headers .exit)) (now (present .exit)) (now (since .exit)) (now (pubkeys .exit)) (now (offer .exit)) (now (chain .exit)) (now (numbers .exit)) (now (heldkey .exit)) (now (waiting .exit)) (now (sets .exit)) (now (arrivals .exit))) ≡ startCall (state (now (config .entry)) (now (clocks .entry)) (now (words .entry)) (now (stamps .entry)) (now (blocks .entry)) (now (headers .entry)) (now (present .entry)) (now (since .entry)) (now (pubkeys .entry)) (now (offer .entry)) (now (chain .entry)) (now (numbers .entry)) (now (heldkey .entry)) (now (waiting .entry)) (now (sets .entry)) (now (arrivals .entry))) (record { ns = ns; id = id; type = kind; maclt = maclt; marks = now (marks .entry); root = now (root .entry); key = now (pubkey .entry) }) ⌝ }
 {
     call_start::start(
         config,
@@ -46,11 +46,11 @@ pub extern "C" fn osnma_regions_start(
         headers,
         present,
         since,
-        public_keys,
+        pubkeys,
         offer,
         chain,
         numbers,
-        held_key,
+        heldkey,
         waiting,
         sets,
         arrivals,
@@ -60,7 +60,7 @@ pub extern "C" fn osnma_regions_start(
         maclt,
         marks,
         root,
-        public_key,
+        pubkey,
     )
 }
 
@@ -75,11 +75,11 @@ pub extern "C" fn osnma_regions_word(
     headers: &[u8],
     present: &[u16],
     since: &[u32],
-    public_keys: &[u8],
+    pubkeys: &[u8],
     offer: &[u8],
     chain: &[u8],
     numbers: &[u64],
-    held_key: &[u8],
+    heldkey: &[u8],
     waiting: &[u8],
     sets: &[u8],
     arrivals: &[u32],
@@ -87,7 +87,7 @@ pub extern "C" fn osnma_regions_word(
     time: u32,
     bytes: &[u8],
 ) -> u32
-    ensures { λ r. ⌜ told r (state (now (config .entry)) (now (clocks .exit)) (now (words .exit)) (now (stamps .exit)) (now (blocks .entry)) (now (headers .entry)) (now (present .entry)) (now (since .entry)) (now (public-keys .entry)) (now (offer .entry)) (now (chain .entry)) (now (numbers .entry)) (now (held-key .entry)) (now (waiting .entry)) (now (sets .entry)) (now (arrivals .entry))) ≡ wordCall (state (now (config .entry)) (now (clocks .entry)) (now (words .entry)) (now (stamps .entry)) (now (blocks .entry)) (now (headers .entry)) (now (present .entry)) (now (since .entry)) (now (public-keys .entry)) (now (offer .entry)) (now (chain .entry)) (now (numbers .entry)) (now (held-key .entry)) (now (waiting .entry)) (now (sets .entry)) (now (arrivals .entry))) (record { prn = prn; time = time; bytes = now (bytes .entry) }) ⌝ }
+    ensures { λ r. ⌜ told r (state (now (config .entry)) (now (clocks .exit)) (now (words .exit)) (now (stamps .exit)) (now (blocks .entry)) (now (headers .entry)) (now (present .entry)) (now (since .entry)) (now (pubkeys .entry)) (now (offer .entry)) (now (chain .entry)) (now (numbers .entry)) (now (heldkey .entry)) (now (waiting .entry)) (now (sets .entry)) (now (arrivals .entry))) ≡ wordCall (state (now (config .entry)) (now (clocks .entry)) (now (words .entry)) (now (stamps .entry)) (now (blocks .entry)) (now (headers .entry)) (now (present .entry)) (now (since .entry)) (now (pubkeys .entry)) (now (offer .entry)) (now (chain .entry)) (now (numbers .entry)) (now (heldkey .entry)) (now (waiting .entry)) (now (sets .entry)) (now (arrivals .entry))) (record { prn = prn; time = time; bytes = now (bytes .entry) }) ⌝ }
 {
     call_word::word(
         config,
@@ -98,11 +98,11 @@ pub extern "C" fn osnma_regions_word(
         headers,
         present,
         since,
-        public_keys,
+        pubkeys,
         offer,
         chain,
         numbers,
-        held_key,
+        heldkey,
         waiting,
         sets,
         arrivals,
@@ -123,11 +123,11 @@ pub extern "C" fn osnma_regions_verdict(
     headers: &[u8],
     present: &[u16],
     since: &[u32],
-    public_keys: &mut [u8],
+    pubkeys: &mut [u8],
     offer: &mut [u8],
     chain: &mut [u8],
     numbers: &mut [u64],
-    held_key: &mut [u8],
+    heldkey: &mut [u8],
     waiting: &mut [u8],
     sets: &[u8],
     arrivals: &[u32],
@@ -136,7 +136,7 @@ pub extern "C" fn osnma_regions_verdict(
     message: &[u8],
     signature: &[u8],
 ) -> u32
-    ensures { λ r. ⌜ told r (state (now (config .entry)) (now (clocks .entry)) (now (words .entry)) (now (stamps .entry)) (now (blocks .entry)) (now (headers .entry)) (now (present .entry)) (now (since .entry)) (now (public-keys .exit)) (now (offer .exit)) (now (chain .exit)) (now (numbers .exit)) (now (held-key .exit)) (now (waiting .exit)) (now (sets .entry)) (now (arrivals .entry))) ≡ verdictCall (state (now (config .entry)) (now (clocks .entry)) (now (words .entry)) (now (stamps .entry)) (now (blocks .entry)) (now (headers .entry)) (now (present .entry)) (now (since .entry)) (now (public-keys .entry)) (now (offer .entry)) (now (chain .entry)) (now (numbers .entry)) (now (held-key .entry)) (now (waiting .entry)) (now (sets .entry)) (now (arrivals .entry))) (record { good = good; id = id; message = now (message .entry); signature = now (signature .entry) }) ⌝ }
+    ensures { λ r. ⌜ told r (state (now (config .entry)) (now (clocks .entry)) (now (words .entry)) (now (stamps .entry)) (now (blocks .entry)) (now (headers .entry)) (now (present .entry)) (now (since .entry)) (now (pubkeys .exit)) (now (offer .exit)) (now (chain .exit)) (now (numbers .exit)) (now (heldkey .exit)) (now (waiting .exit)) (now (sets .entry)) (now (arrivals .entry))) ≡ verdictCall (state (now (config .entry)) (now (clocks .entry)) (now (words .entry)) (now (stamps .entry)) (now (blocks .entry)) (now (headers .entry)) (now (present .entry)) (now (since .entry)) (now (pubkeys .entry)) (now (offer .entry)) (now (chain .entry)) (now (numbers .entry)) (now (heldkey .entry)) (now (waiting .entry)) (now (sets .entry)) (now (arrivals .entry))) (record { good = good; id = id; message = now (message .entry); signature = now (signature .entry) }) ⌝ }
 {
     call_verdict::verdict(
         config,
@@ -147,11 +147,11 @@ pub extern "C" fn osnma_regions_verdict(
         headers,
         present,
         since,
-        public_keys,
+        pubkeys,
         offer,
         chain,
         numbers,
-        held_key,
+        heldkey,
         waiting,
         sets,
         arrivals,
@@ -173,11 +173,11 @@ pub extern "C" fn osnma_regions_read_set(
     headers: &[u8],
     present: &[u16],
     since: &[u32],
-    public_keys: &[u8],
+    pubkeys: &[u8],
     offer: &[u8],
     chain: &[u8],
     numbers: &[u64],
-    held_key: &[u8],
+    heldkey: &[u8],
     waiting: &[u8],
     sets: &[u8],
     arrivals: &[u32],
@@ -186,7 +186,7 @@ pub extern "C" fn osnma_regions_read_set(
     issue: &mut u16,
     time: &mut u32,
 ) -> u32
-    ensures { λ r. ⌜ setTold r (now (out .exit)) (now (issue .exit)) (now (time .exit)) ≡ setRead (state (now (config .entry)) (now (clocks .entry)) (now (words .entry)) (now (stamps .entry)) (now (blocks .entry)) (now (headers .entry)) (now (present .entry)) (now (since .entry)) (now (public-keys .entry)) (now (offer .entry)) (now (chain .entry)) (now (numbers .entry)) (now (held-key .entry)) (now (waiting .entry)) (now (sets .entry)) (now (arrivals .entry))) prn (now (out .entry)) ⌝ }
+    ensures { λ r. ⌜ setTold r (now (out .exit)) (now (issue .exit)) (now (time .exit)) ≡ setRead (state (now (config .entry)) (now (clocks .entry)) (now (words .entry)) (now (stamps .entry)) (now (blocks .entry)) (now (headers .entry)) (now (present .entry)) (now (since .entry)) (now (pubkeys .entry)) (now (offer .entry)) (now (chain .entry)) (now (numbers .entry)) (now (heldkey .entry)) (now (waiting .entry)) (now (sets .entry)) (now (arrivals .entry))) prn (now (out .entry)) ⌝ }
 {
     call_reads::read_set(
         config,
@@ -197,11 +197,11 @@ pub extern "C" fn osnma_regions_read_set(
         headers,
         present,
         since,
-        public_keys,
+        pubkeys,
         offer,
         chain,
         numbers,
-        held_key,
+        heldkey,
         waiting,
         sets,
         arrivals,
@@ -223,21 +223,21 @@ pub extern "C" fn osnma_regions_read_message(
     headers: &[u8],
     present: &[u16],
     since: &[u32],
-    public_keys: &[u8],
+    pubkeys: &[u8],
     offer: &[u8],
     chain: &[u8],
     numbers: &[u64],
-    held_key: &[u8],
+    heldkey: &[u8],
     waiting: &[u8],
     sets: &[u8],
     arrivals: &[u32],
     message: &mut [u8],
     signature: &mut [u8],
-    public_key: &mut [u8],
+    pubkey: &mut [u8],
     id: &mut u8,
     kind: &mut u8,
 ) -> u32
-    ensures { λ r. ⌜ offerTold r (now (message .exit)) (now (signature .exit)) (now (public-key .exit)) (now (id .exit)) (now (kind .exit)) ≡ offerRead (state (now (config .entry)) (now (clocks .entry)) (now (words .entry)) (now (stamps .entry)) (now (blocks .entry)) (now (headers .entry)) (now (present .entry)) (now (since .entry)) (now (public-keys .entry)) (now (offer .entry)) (now (chain .entry)) (now (numbers .entry)) (now (held-key .entry)) (now (waiting .entry)) (now (sets .entry)) (now (arrivals .entry))) (now (message .entry)) (now (signature .entry)) (now (public-key .entry)) ⌝ }
+    ensures { λ r. ⌜ offerTold r (now (message .exit)) (now (signature .exit)) (now (pubkey .exit)) (now (id .exit)) (now (kind .exit)) ≡ offerRead (state (now (config .entry)) (now (clocks .entry)) (now (words .entry)) (now (stamps .entry)) (now (blocks .entry)) (now (headers .entry)) (now (present .entry)) (now (since .entry)) (now (pubkeys .entry)) (now (offer .entry)) (now (chain .entry)) (now (numbers .entry)) (now (heldkey .entry)) (now (waiting .entry)) (now (sets .entry)) (now (arrivals .entry))) (now (message .entry)) (now (signature .entry)) (now (pubkey .entry)) ⌝ }
 {
     call_reads::read_message(
         config,
@@ -248,17 +248,17 @@ pub extern "C" fn osnma_regions_read_message(
         headers,
         present,
         since,
-        public_keys,
+        pubkeys,
         offer,
         chain,
         numbers,
-        held_key,
+        heldkey,
         waiting,
         sets,
         arrivals,
         message,
         signature,
-        public_key,
+        pubkey,
         id,
         kind,
     )

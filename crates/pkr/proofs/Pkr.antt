@@ -78,47 +78,47 @@ one-node-more d h g j e p = p ∙ rw (add-one j, low-bits d 0 4 4 refl, e)
 
 -- the number and the keys after a proved key
 abbrev pub Welcomed : List ℕ → List ℕ → ℕ → List ℕ → Type 0
-Welcomed public-keys d code ks = (code ≡ cond (S.keyWelcome public-keys d) 0 9) × (ks ≡ cond (S.keyWelcome public-keys d) (S.keyAdded public-keys d) public-keys)
+Welcomed pubkeys d code ks = (code ≡ cond (S.keyWelcome pubkeys d) 0 9) × (ks ≡ cond (S.keyWelcome pubkeys d) (S.keyAdded pubkeys d) pubkeys)
 
-module _ (public-keys d : List ℕ) where
-  pub same-again : K.sameKey public-keys (S.newIdOf d) (S.newTypeOf d) (S.newKeyOf d) ≡ true → Welcomed public-keys d 0 public-keys
+module _ (pubkeys d : List ℕ) where
+  pub same-again : K.sameKey pubkeys (S.newIdOf d) (S.newTypeOf d) (S.newKeyOf d) ≡ true → Welcomed pubkeys d 0 pubkeys
   unfolding S.keyWelcome S.keyAdded
   same-again h = rw h (refl, refl)
 
-  pub not-above : K.sameKey public-keys (S.newIdOf d) (S.newTypeOf d) (S.newKeyOf d) ≡ false → K.aboveAll public-keys (S.newIdOf d) ≡ false → Welcomed public-keys d 9 public-keys
+  pub not-above : K.sameKey pubkeys (S.newIdOf d) (S.newTypeOf d) (S.newKeyOf d) ≡ false → K.aboveAll pubkeys (S.newIdOf d) ≡ false → Welcomed pubkeys d 9 pubkeys
   unfolding S.keyWelcome S.keyAdded
   not-above h k = rw (h, k) (refl, refl)
 
-  pub added : K.sameKey public-keys (S.newIdOf d) (S.newTypeOf d) (S.newKeyOf d) ≡ false → K.aboveAll public-keys (S.newIdOf d) ≡ true
-      → (ks : List ℕ) → ks ≡ K.withKey public-keys (S.newIdOf d) (S.newTypeOf d) (S.newKeyOf d) → Welcomed public-keys d 0 ks
+  pub added : K.sameKey pubkeys (S.newIdOf d) (S.newTypeOf d) (S.newKeyOf d) ≡ false → K.aboveAll pubkeys (S.newIdOf d) ≡ true
+      → (ks : List ℕ) → ks ≡ K.withKey pubkeys (S.newIdOf d) (S.newTypeOf d) (S.newKeyOf d) → Welcomed pubkeys d 0 ks
   unfolding S.keyWelcome S.keyAdded
   added h k ks e = rw (h, k) (refl, e)
 
 -- ---- a complete DSM-PKR by its checks
 
-module _ (public-keys root d : List ℕ) where
+module _ (pubkeys root d : List ℕ) where
   abbrev pub Judged : ℕ → Bool → List ℕ → Type 0
   Judged code stops ks =
-      (code ≡ (S.pkrJudged public-keys root d) .code) × ((stops ≡ (S.pkrJudged public-keys root d) .stops) × (ks ≡ (S.pkrJudged public-keys root d) .publicKeys))
+      (code ≡ (S.pkrJudged pubkeys root d) .code) × ((stops ≡ (S.pkrJudged pubkeys root d) .stops) × (ks ≡ (S.pkrJudged pubkeys root d) .pubkeys))
 
-  pub size-refused : S.pkrSizeBad d ≡ true → Judged 6 false public-keys
+  pub size-refused : S.pkrSizeBad d ≡ true → Judged 6 false pubkeys
   unfolding S.pkrJudged S.pkrChecks
   size-refused h = rw h (refl, (refl, refl))
 
   module _ (fits : S.pkrSizeBad d ≡ false) where
-    pub tree-refused : S.treeProved root d ≡ false → Judged 10 false public-keys
+    pub tree-refused : S.treeProved root d ≡ false → Judged 10 false pubkeys
     unfolding S.pkrJudged S.pkrChecks
     tree-refused h = rw (fits, h) (refl, (refl, refl))
 
     module _ (proved : S.treeProved root d ≡ true) where
-      pub stopped : S.newTypeOf d ≡ 4 → Judged 0 true public-keys
+      pub stopped : S.newTypeOf d ≡ 4 → Judged 0 true pubkeys
       unfolding S.pkrJudged S.pkrChecks S.emergency
       stopped h = rw (fits, proved, eq-eqb (S.newTypeOf d) 4 h) (refl, (refl, refl))
 
-      pub renewed : (S.newTypeOf d ≡ 4 → ⊥) → (code : ℕ) (ks : List ℕ) → Welcomed public-keys d code ks → Judged code false ks
+      pub renewed : (S.newTypeOf d ≡ 4 → ⊥) → (code : ℕ) (ks : List ℕ) → Welcomed pubkeys d code ks → Judged code false ks
       unfolding S.pkrJudged S.pkrChecks S.emergency
-      renewed h code ks e = go (S.keyWelcome public-keys d) refl
+      renewed h code ks e = go (S.keyWelcome pubkeys d) refl
         where
-          go : (b : Bool) → S.keyWelcome public-keys d ≡ b → Judged code false ks
+          go : (b : Bool) → S.keyWelcome pubkeys d ≡ b → Judged code false ks
           go true w = rw (fits, proved, ne-eqb (S.newTypeOf d) 4 h, w) (rw w at e .0, (refl, rw w at e .1))
           go false w = rw (fits, proved, ne-eqb (S.newTypeOf d) 4 h, w) (rw w at e .0, (refl, rw w at e .1))

@@ -17,9 +17,9 @@ pub struct Renewal {
 }
 
 // The number (6, 10, 9 or 0) of a complete DSM-PKR; with 0 a new key is added to those held.
-pub fn pkr_judge(public_keys: &mut [u8], root: &[u8], d: &[u8]) -> Renewal
-    requires { ⌜ (length (now public-keys) ≡ 1088) × ((91 ≤ length (now d)) × (length (now d) ≤ 208)) ⌝ }
-    ensures { λ r. ⌜ (r .code ≡ (S.pkrJudged (now (public-keys .entry)) (now (root .entry)) (now (d .entry))) .code) × ((r .stops ≡ (S.pkrJudged (now (public-keys .entry)) (now (root .entry)) (now (d .entry))) .stops) × (now (public-keys .exit) ≡ (S.pkrJudged (now (public-keys .entry)) (now (root .entry)) (now (d .entry))) .publicKeys)) ⌝ }
+pub fn pkr_judge(pubkeys: &mut [u8], root: &[u8], d: &[u8]) -> Renewal
+    requires { ⌜ (length (now pubkeys) ≡ 1088) × ((91 ≤ length (now d)) × (length (now d) ≤ 208)) ⌝ }
+    ensures { λ r. ⌜ (r .code ≡ (S.pkrJudged (now (pubkeys .entry)) (now (root .entry)) (now (d .entry))) .code) × ((r .stops ≡ (S.pkrJudged (now (pubkeys .entry)) (now (root .entry)) (now (d .entry))) .stops) × (now (pubkeys .exit) ≡ (S.pkrJudged (now (pubkeys .entry)) (now (root .entry)) (now (d .entry))) .pubkeys)) ⌝ }
 {
     if size_bad(d) {
         return Renewal {
@@ -40,26 +40,26 @@ pub fn pkr_judge(public_keys: &mut [u8], root: &[u8], d: &[u8]) -> Renewal
         };
     }
     Renewal {
-        code: renew(public_keys, d),
+        code: renew(pubkeys, d),
         stops: false,
     }
 }
 
 // A proved key: 0 where it is the same as one held, or has an ID above all held and is added; else 9.
-fn renew(public_keys: &mut [u8], d: &[u8]) -> u32
-    requires { ⌜ (length (now public-keys) ≡ 1088) × ((S.newTypeOf (now d) < 4) × (130 + K.keyLength (S.newTypeOf (now d)) ≤ length (now d))) ⌝ }
-    ensures { λ r. ⌜ (r ≡ cond (S.keyWelcome (now (public-keys .entry)) (now (d .entry))) 0 9) × (now (public-keys .exit) ≡ cond (S.keyWelcome (now (public-keys .entry)) (now (d .entry))) (S.keyAdded (now (public-keys .entry)) (now (d .entry))) (now (public-keys .entry))) ⌝ }
+fn renew(pubkeys: &mut [u8], d: &[u8]) -> u32
+    requires { ⌜ (length (now pubkeys) ≡ 1088) × ((S.newTypeOf (now d) < 4) × (130 + K.keyLength (S.newTypeOf (now d)) ≤ length (now d))) ⌝ }
+    ensures { λ r. ⌜ (r ≡ cond (S.keyWelcome (now (pubkeys .entry)) (now (d .entry))) 0 9) × (now (pubkeys .exit) ≡ cond (S.keyWelcome (now (pubkeys .entry)) (now (d .entry))) (S.keyAdded (now (pubkeys .entry)) (now (d .entry))) (now (pubkeys .entry))) ⌝ }
 {
     let id = new_id(d);
     let kind = new_type(d);
     let end = 130 + public_keys::key_length(kind);
-    if public_keys::same_key(public_keys, id, kind, &d[130..end]) {
+    if public_keys::same_key(pubkeys, id, kind, &d[130..end]) {
         return 0;
     }
-    if !public_keys::above_all(public_keys, id) {
+    if !public_keys::above_all(pubkeys, id) {
         return 9;
     }
-    public_keys::add_key(public_keys, id, kind, &d[130..end]);
+    public_keys::add_key(pubkeys, id, kind, &d[130..end]);
     0
 }
 

@@ -35,21 +35,21 @@ unfolding filled
 length-filled n l h = simp (length-append, length-replicate) (omega arith)
 
 -- a key that is held is among those held
-pub held-among : (public-keys : List ℕ) (id n m : ℕ) → n < m → S.keyHeld public-keys (id + n) ≡ true → S.heldAmong public-keys id m ≡ true
+pub held-among : (pubkeys : List ℕ) (id n m : ℕ) → n < m → S.keyHeld pubkeys (id + n) ≡ true → S.heldAmong pubkeys id m ≡ true
 unfolding S.heldAmong
-held-among public-keys id n zero h e = absurd (omega arith)
-held-among public-keys id n (suc m) h e =
+held-among pubkeys id n zero h e = absurd (omega arith)
+held-among pubkeys id n (suc m) h e =
     ⊎-elim
-    (λ p. rw (held-among public-keys id n m p e))
+    (λ p. rw (held-among pubkeys id n m p e))
     (λ p.
     let q : n ≡ m = omega arith in
-    rw (← q, e) (or-true (S.heldAmong public-keys id n)))
+    rw (← q, e) (or-true (S.heldAmong pubkeys id n)))
     (below? n m)
 
 -- one ID more that is not held
-pub held-more : (public-keys : List ℕ) (id n : ℕ) → S.heldAmong public-keys id n ≡ false → S.keyHeld public-keys (id + n) ≡ false → S.heldAmong public-keys id (n + 1) ≡ false
+pub held-more : (pubkeys : List ℕ) (id n : ℕ) → S.heldAmong pubkeys id n ≡ false → S.keyHeld pubkeys (id + n) ≡ false → S.heldAmong pubkeys id (n + 1) ≡ false
 unfolding S.heldAmong
-held-more public-keys id n h e = rw (add-one, h, e)
+held-more pubkeys id n h e = rw (add-one, h, e)
 
 -- one element stored is a splice
 pub splice-one : (d : List ℕ) (a x : ℕ) → a < length d → set d a x ≡ splice d a (x ∷ [])
@@ -61,15 +61,15 @@ pub splice-cons : (d : List ℕ) (a x : ℕ) (s : List ℕ) → a + 1 + length s
 splice-cons d a x s h = rw (splice-one d a x (omega arith)) (splice-append d a (x ∷ []) s (omega arith))
 
 -- a key's bytes compared in whole
-pub same-key-not : (public-keys : List ℕ) (id type : ℕ) (key : List ℕ) → S.keyHeld public-keys id ≡ false → S.sameKey public-keys id type key ≡ false
+pub same-key-not : (pubkeys : List ℕ) (id type : ℕ) (key : List ℕ) → S.keyHeld pubkeys id ≡ false → S.sameKey pubkeys id type key ≡ false
 unfolding S.sameKey
-same-key-not public-keys id type key h = rw h
+same-key-not pubkeys id type key h = rw h
 
-pub same-key-other : (public-keys : List ℕ) (id type : ℕ) (key : List ℕ) → S.keyHeld public-keys id ≡ true → (S.keyType public-keys id ≡ type → ⊥) → S.sameKey public-keys id type key ≡ false
+pub same-key-other : (pubkeys : List ℕ) (id type : ℕ) (key : List ℕ) → S.keyHeld pubkeys id ≡ true → (S.keyType pubkeys id ≡ type → ⊥) → S.sameKey pubkeys id type key ≡ false
 unfolding S.sameKey
-same-key-other public-keys id type key h k = rw (h, ne-eqb (S.keyType public-keys id) type k)
+same-key-other pubkeys id type key h k = rw (h, ne-eqb (S.keyType pubkeys id) type k)
 
-pub same-key-bytes : (public-keys : List ℕ) (id type : ℕ) (key : List ℕ) → S.keyHeld public-keys id ≡ true → S.keyType public-keys id ≡ type
-    → same (S.keyBytes public-keys id) (filled 67 key) ≡ S.sameKey public-keys id type key
+pub same-key-bytes : (pubkeys : List ℕ) (id type : ℕ) (key : List ℕ) → S.keyHeld pubkeys id ≡ true → S.keyType pubkeys id ≡ type
+    → same (S.keyBytes pubkeys id) (filled 67 key) ≡ S.sameKey pubkeys id type key
 unfolding S.sameKey
-same-key-bytes public-keys id type key h k = rw (h, eq-eqb (S.keyType public-keys id) type k)
+same-key-bytes pubkeys id type key h k = rw (h, eq-eqb (S.keyType pubkeys id) type k)

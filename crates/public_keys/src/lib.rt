@@ -12,20 +12,20 @@ ghost use Rattle.rules.specs.Bits.{filled};
 ghost use Rattle.rules.specs.PublicKeys as S;
 
 // Whether the key with this ID is held.
-pub fn key_held(public_keys: &[u8], id: u8) -> bool
-    requires { ⌜ (length (now public-keys) ≡ 1088) × (id < 16) ⌝ }
-    ensures { λ r. ⌜ r ≡ S.keyHeld (now (public-keys .entry)) id ⌝ }
+pub fn key_held(pubkeys: &[u8], id: u8) -> bool
+    requires { ⌜ (length (now pubkeys) ≡ 1088) × (id < 16) ⌝ }
+    ensures { λ r. ⌜ r ≡ S.keyHeld (now (pubkeys .entry)) id ⌝ }
 {
-    let first = public_keys[(id as usize) * 68];
+    let first = pubkeys[(id as usize) * 68];
     1 <= first && first <= 4
 }
 
 // The type of the key with this ID; 0 where none is held.
-pub fn key_type(public_keys: &[u8], id: u8) -> u8
-    requires { ⌜ (length (now public-keys) ≡ 1088) × (id < 16) ⌝ }
-    ensures { λ r. ⌜ r ≡ S.keyType (now (public-keys .entry)) id ⌝ }
+pub fn key_type(pubkeys: &[u8], id: u8) -> u8
+    requires { ⌜ (length (now pubkeys) ≡ 1088) × (id < 16) ⌝ }
+    ensures { λ r. ⌜ r ≡ S.keyType (now (pubkeys .entry)) id ⌝ }
 {
-    let first = public_keys[(id as usize) * 68];
+    let first = pubkeys[(id as usize) * 68];
     if first == 0 {
         return 0;
     }
@@ -33,21 +33,21 @@ pub fn key_type(public_keys: &[u8], id: u8) -> u8
 }
 
 // The key's 67 bytes into `out`, zeros after a short one.
-pub fn key_bytes(public_keys: &[u8], id: u8, out: &mut [u8])
-    requires { ⌜ (length (now public-keys) ≡ 1088) × ((id < 16) × (length (now out) ≡ 67)) ⌝ }
-    ensures { λ _. ⌜ now (out .exit) ≡ S.keyBytes (now (public-keys .entry)) id ⌝ }
+pub fn key_bytes(pubkeys: &[u8], id: u8, out: &mut [u8])
+    requires { ⌜ (length (now pubkeys) ≡ 1088) × ((id < 16) × (length (now out) ≡ 67)) ⌝ }
+    ensures { λ _. ⌜ now (out .exit) ≡ S.keyBytes (now (pubkeys .entry)) id ⌝ }
 {
-    buffer::copy_part(out, 0, public_keys, (id as usize) * 68 + 1, 67);
+    buffer::copy_part(out, 0, pubkeys, (id as usize) * 68 + 1, 67);
 }
 
 // Whether neither this ID nor a higher one is held.
-pub fn above_all(public_keys: &[u8], id: u8) -> bool
-    requires { ⌜ (length (now public-keys) ≡ 1088) × (id < 16) ⌝ }
-    ensures { λ r. ⌜ r ≡ S.aboveAll (now (public-keys .entry)) id ⌝ }
+pub fn above_all(pubkeys: &[u8], id: u8) -> bool
+    requires { ⌜ (length (now pubkeys) ≡ 1088) × (id < 16) ⌝ }
+    ensures { λ r. ⌜ r ≡ S.aboveAll (now (pubkeys .entry)) id ⌝ }
 {
     let mut n: u8 = 0;
     while n < 16 - id {
-        if key_held(public_keys, id + n) {
+        if key_held(pubkeys, id + n) {
             return false;
         }
         n += 1;
@@ -56,19 +56,19 @@ pub fn above_all(public_keys: &[u8], id: u8) -> bool
 }
 
 // Whether the same key is held: ID, type and bytes.
-pub fn same_key(public_keys: &[u8], id: u8, kind: u8, key: &[u8]) -> bool
-    requires { ⌜ (length (now public-keys) ≡ 1088) × ((id < 16) × (length (now key) ≤ 67)) ⌝ }
-    ensures { λ r. ⌜ r ≡ S.sameKey (now (public-keys .entry)) id kind (now (key .entry)) ⌝ }
+pub fn same_key(pubkeys: &[u8], id: u8, kind: u8, key: &[u8]) -> bool
+    requires { ⌜ (length (now pubkeys) ≡ 1088) × ((id < 16) × (length (now key) ≤ 67)) ⌝ }
+    ensures { λ r. ⌜ r ≡ S.sameKey (now (pubkeys .entry)) id kind (now (key .entry)) ⌝ }
 {
-    if !key_held(public_keys, id) {
+    if !key_held(pubkeys, id) {
         return false;
     }
-    if key_type(public_keys, id) != kind {
+    if key_type(pubkeys, id) != kind {
         return false;
     }
     let whole = filled_key(key);
     let at = (id as usize) * 68 + 1;
-    buffer::equal(&public_keys[at..at + 67], &whole)
+    buffer::equal(&pubkeys[at..at + 67], &whole)
 }
 
 // A key's bytes, and zeros to 67.
@@ -82,22 +82,22 @@ fn filled_key(key: &[u8]) -> [u8; 67]
 }
 
 // The key is held from now on.
-pub fn add_key(public_keys: &mut [u8], id: u8, kind: u8, key: &[u8])
-    requires { ⌜ ((length (now public-keys) ≡ 1088) × (id < 16)) × ((kind < 4) × (length (now key) ≤ 67)) ⌝ }
-    ensures { λ _. ⌜ now (public-keys .exit) ≡ S.withKey (now (public-keys .entry)) id kind (now (key .entry)) ⌝ }
+pub fn add_key(pubkeys: &mut [u8], id: u8, kind: u8, key: &[u8])
+    requires { ⌜ ((length (now pubkeys) ≡ 1088) × (id < 16)) × ((kind < 4) × (length (now key) ≤ 67)) ⌝ }
+    ensures { λ _. ⌜ now (pubkeys .exit) ≡ S.withKey (now (pubkeys .entry)) id kind (now (key .entry)) ⌝ }
 {
     let whole = filled_key(key);
     let at = (id as usize) * 68;
-    public_keys[at] = kind + 1;
-    buffer::copy_at(public_keys, at + 1, &whole);
+    pubkeys[at] = kind + 1;
+    buffer::copy_at(pubkeys, at + 1, &whole);
 }
 
 // Keys of lower ID are dropped.
-pub fn drop_lower(public_keys: &mut [u8], id: u8)
-    requires { ⌜ (length (now public-keys) ≡ 1088) × (id < 16) ⌝ }
-    ensures { λ _. ⌜ now (public-keys .exit) ≡ S.withoutLower (now (public-keys .entry)) id ⌝ }
+pub fn drop_lower(pubkeys: &mut [u8], id: u8)
+    requires { ⌜ (length (now pubkeys) ≡ 1088) × (id < 16) ⌝ }
+    ensures { λ _. ⌜ now (pubkeys .exit) ≡ S.withoutLower (now (pubkeys .entry)) id ⌝ }
 {
-    buffer::fill(public_keys, 0, (id as usize) * 68, 0);
+    buffer::fill(pubkeys, 0, (id as usize) * 68, 0);
 }
 
 const KEY_LENGTHS: [usize; 4] = [29, 33, 49, 67];

@@ -28,7 +28,7 @@ tests s =
     ∷ eqb (length (s .store .headers)) 16
     ∷ eqb (length (s .store .present)) 16
     ∷ eqb (length (s .store .times)) 16
-    ∷ eqb (length (s .publicKeys)) 1088
+    ∷ eqb (length (s .pubkeys)) 1088
     ∷ eqb (length (s .offer)) 179
     ∷ eqb (length (s .chain)) 45
     ∷ eqb (length (s .tesla .numbers)) 2
@@ -50,7 +50,7 @@ lengths s e =
       headers = eqb-true (length (s .store .headers)) 16 (test-at (tests s) e 5);
       present = eqb-true (length (s .store .present)) 16 (test-at (tests s) e 6);
       since = eqb-true (length (s .store .times)) 16 (test-at (tests s) e 7);
-      publicKeys = eqb-true (length (s .publicKeys)) 1088 (test-at (tests s) e 8);
+      pubkeys = eqb-true (length (s .pubkeys)) 1088 (test-at (tests s) e 8);
       offer = eqb-true (length (s .offer)) 179 (test-at (tests s) e 9);
       chain = eqb-true (length (s .chain)) 45 (test-at (tests s) e 10);
       numbers = eqb-true (length (s .tesla .numbers)) 2 (test-at (tests s) e 11);

@@ -12,11 +12,11 @@ pub record Lengths (s : State) : Type 0 where
   pub headers : length (s .store .headers) ≡ 16
   pub present : length (s .store .present) ≡ 16
   pub since : length (s .store .times) ≡ 16
-  pub public-keys : length (s .publicKeys) ≡ 1088
+  pub pubkeys : length (s .pubkeys) ≡ 1088
   pub offer : length (s .offer) ≡ 179
   pub chain : length (s .chain) ≡ 45
   pub numbers : length (s .tesla .numbers) ≡ 2
-  pub held-key : length (s .tesla .key) ≡ 32
+  pub heldkey : length (s .tesla .key) ≡ 32
   pub waiting : length (s .tesla .waiting) ≡ 21504
   pub sets : length (s .auth .sets) ≡ 2484
   pub arrivals : length (s .auth .times) ≡ 36

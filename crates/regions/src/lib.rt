@@ -32,25 +32,25 @@ pub fn shaped(
     headers: &[u8],
     present: &[u16],
     since: &[u32],
-    public_keys: &[u8],
+    pubkeys: &[u8],
     offer: &[u8],
     chain: &[u8],
     numbers: &[u64],
-    held_key: &[u8],
+    heldkey: &[u8],
     waiting: &[u8],
     sets: &[u8],
     arrivals: &[u32],
 ) -> bool
-    ensures { λ r. ⌜ r ≡ rules.shaped (state (now (config .entry)) (now (clocks .entry)) (now (words .entry)) (now (stamps .entry)) (now (blocks .entry)) (now (headers .entry)) (now (present .entry)) (now (since .entry)) (now (public-keys .entry)) (now (offer .entry)) (now (chain .entry)) (now (numbers .entry)) (now (held-key .entry)) (now (waiting .entry)) (now (sets .entry)) (now (arrivals .entry))) ⌝ }
+    ensures { λ r. ⌜ r ≡ rules.shaped (state (now (config .entry)) (now (clocks .entry)) (now (words .entry)) (now (stamps .entry)) (now (blocks .entry)) (now (headers .entry)) (now (present .entry)) (now (since .entry)) (now (pubkeys .entry)) (now (offer .entry)) (now (chain .entry)) (now (numbers .entry)) (now (heldkey .entry)) (now (waiting .entry)) (now (sets .entry)) (now (arrivals .entry))) ⌝ }
 {
     let last = four(
-        held_key.len() == 32,
+        heldkey.len() == 32,
         waiting.len() == 21504,
         sets.len() == 2484,
         arrivals.len() == 36,
     );
     let third = four(
-        public_keys.len() == 1088,
+        pubkeys.len() == 1088,
         offer.len() == 179,
         chain.len() == 45,
         numbers.len() == 2,

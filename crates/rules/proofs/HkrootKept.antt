@@ -19,7 +19,7 @@ use Rattle.rules.specs.Gather.{hkrootOf, dsmIdOf, headerOf, withBlock, c
 use Rattle.rules.specs.Kroot.{offerId, inForce, parametersBad}
 use Rattle.rules.specs.Log.{Entry, Log, hkrootIn}
 use Rattle.rules.specs.Pkr.{Renewed, pkrJudged}
-use Rattle.rules.specs.State.{State, Store, nsOf, macltOf, treeRoot, configLength, blocksLength, dsmIds, publicKeysLength}
+use Rattle.rules.specs.State.{State, Store, nsOf, macltOf, treeRoot, configLength, blocksLength, dsmIds, pubkeysLength}
 use Rattle.rules.proofs.Bounds.{dsm-id-bound, offer-id-bound}
 use Rattle.rules.proofs.Choices.{by-number}
 use Rattle.rules.proofs.Gathering
@@ -102,15 +102,15 @@ pub record HkrootIs (o : Start) (s : State) (l : Log) (s' : State) : Type 0 wher
   pub in-force : (chain : List ℕ) → inForce (s' .config) chain ≡ inForce (s .config) chain
   pub nav : s' .nav ≡ s .nav
   pub blocks : BlocksAre (s' .store) l
-  pub publicKeys : KeysAre o (s' .publicKeys) l
-  pub offer : OfferHeld (s' .publicKeys) (s' .offer)
+  pub pubkeys : KeysAre o (s' .pubkeys) l
+  pub offer : OfferHeld (s' .pubkeys) (s' .offer)
   pub chain : s' .chain ≡ s .chain
   pub tesla : s' .tesla ≡ s .tesla
   pub auth : s' .auth ≡ s .auth
 
 module _ (o : Start) (s : State) (x : Entry) (sub : Subframe) (l : Log) (half-is : x .reply .code ≡ 0 → hkrootIn x ≡ some sub)
-    (config-size : length (s .config) ≡ configLength) (blocks-size : length (s .store .blocks) ≡ blocksLength) (marks-size : length (s .store .present) ≡ dsmIds) (keys-size : length (s .publicKeys) ≡ publicKeysLength)
-    (blocks : BlocksAre (s .store) l) (keys : KeysAre o (s .publicKeys) l) (root : treeRoot (s .config) ≡ o .root) (offer : OfferHeld (s .publicKeys) (s .offer)) where
+    (config-size : length (s .config) ≡ configLength) (blocks-size : length (s .store .blocks) ≡ blocksLength) (marks-size : length (s .store .present) ≡ dsmIds) (keys-size : length (s .pubkeys) ≡ pubkeysLength)
+    (blocks : BlocksAre (s .store) l) (keys : KeysAre o (s .pubkeys) l) (root : treeRoot (s .config) ≡ o .root) (offer : OfferHeld (s .pubkeys) (s .offer)) where
   abbrev dsmId : ℕ
   dsmId = dsmIdOf (hkrootOf (sub .bytes) 15)
 
@@ -129,7 +129,7 @@ module _ (o : Start) (s : State) (x : Entry) (sub : Subframe) (l : Log) (half-is
         in-force = λ chain. refl;
         nav = refl;
         blocks = v .waits z ok;
-        publicKeys = keys-later keys;
+        pubkeys = keys-later keys;
         offer = offer;
         chain = refl;
         tesla = refl;
@@ -145,26 +145,26 @@ module _ (o : Start) (s : State) (x : Entry) (sub : Subframe) (l : Log) (half-is
         in-force = λ chain. refl;
         nav = refl;
         blocks = v .out n;
-        publicKeys = keys-later keys;
-        offer = kroot-held (s .publicKeys) (s .config) (s .offer) (headerOf (hkrootOf (sub .bytes) 15)) (g .dsm) offer;
+        pubkeys = keys-later keys;
+        offer = kroot-held (s .pubkeys) (s .config) (s .offer) (headerOf (hkrootOf (sub .bytes) 15)) (g .dsm) offer;
         chain = refl;
         tesla = refl;
         auth = refl;
       }
 
   abbrev judged : List ℕ → Renewed
-  judged d = pkrJudged (s .publicKeys) (treeRoot (s .config)) d
+  judged d = pkrJudged (s .pubkeys) (treeRoot (s .config)) d
 
-  pkr-keys : (g : Gathered) → Taken g → length (g .dsm) ≢ 0 → leb dsmId 11 ≡ false → (judged (g .dsm)) .code ≡ x .reply .code → KeysAre o ((judged (g .dsm)) .publicKeys) (x ∷ l)
+  pkr-keys : (g : Gathered) → Taken g → length (g .dsm) ≢ 0 → leb dsmId 11 ≡ false → (judged (g .dsm)) .code ≡ x .reply .code → KeysAre o ((judged (g .dsm)) .pubkeys) (x ∷ l)
   pkr-keys g v n high ok =
       ⊎-elim
       (λ e. (
       let z = eqb-true (x .reply .code) 0 e in
       let h = leb-false dsmId 11 high in
-      rw root (pkr-known o (s .publicKeys) (g .dsm) dsmId x l keys-size keys (omega arith) (v .came n z) (ap (λ (r : List ℕ). (pkrJudged (s .publicKeys) r (g .dsm)) .code) (sym root) ∙ ok ∙ z))
+      rw root (pkr-known o (s .pubkeys) (g .dsm) dsmId x l keys-size keys (omega arith) (v .came n z) (ap (λ (r : List ℕ). (pkrJudged (s .pubkeys) r (g .dsm)) .code) (sym root) ∙ ok ∙ z))
       ))
       (λ e. (
-      let k = pkr-refused (s .publicKeys) (treeRoot (s .config)) (g .dsm) (λ y. eqb-false (x .reply .code) 0 e (sym ok ∙ y)) in
+      let k = pkr-refused (s .pubkeys) (treeRoot (s .config)) (g .dsm) (λ y. eqb-false (x .reply .code) 0 e (sym ok ∙ y)) in
       rw (k .0) (keys-later keys)
       ))
       (either (eqb (x .reply .code) 0))
@@ -178,8 +178,8 @@ module _ (o : Start) (s : State) (x : Entry) (sub : Subframe) (l : Log) (half-is
         in-force = λ chain. by-test (λ (c : List ℕ). inForce c chain ≡ inForce (s .config) chain) ((judged (g .dsm)) .stops) (λ _. stopped-force (s .config) chain) (λ _. refl);
         nav = refl;
         blocks = v .out n;
-        publicKeys = pkr-keys g v n high ok;
-        offer = λ w. pkr-held (s .publicKeys) (treeRoot (s .config)) (g .dsm) (offerId (s .offer)) keys-size (offer-id-bound (s .offer)) (offer w);
+        pubkeys = pkr-keys g v n high ok;
+        offer = λ w. pkr-held (s .pubkeys) (treeRoot (s .config)) (g .dsm) (offerId (s .offer)) keys-size (offer-id-bound (s .offer)) (offer w);
         chain = refl;
         tesla = refl;
         auth = refl;

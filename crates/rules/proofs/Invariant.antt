@@ -38,12 +38,12 @@ pub record BlocksAre (s : Store) (l : Log) : Type 0 where
   pub came : (id k : ℕ) → id < 16 → k < 16 → marked (getD (s .present) id 0) k ≡ true → Once (BlockCame (storedBlock (s .blocks) id k) id k) l
   pub low : (id : ℕ) → id < 16 → marked (getD (s .present) id 0) 0 ≡ true → getD (s .present) id 0 / 2 ^ totalOf (storedBlock (s .blocks) id 0) ≡ 0
 
-abbrev pub heldKey : List ℕ → ℕ → PublicKey
-heldKey keys id = record { id = id; type = keyType keys id; bytes = keyBytes keys id }
+abbrev pub heldkey : List ℕ → ℕ → PublicKey
+heldkey keys id = record { id = id; type = keyType keys id; bytes = keyBytes keys id }
 
 -- every public key held was given or proved
 pub record KeysAre (o : Start) (keys : List ℕ) (l : Log) : Type 0 where
-  pub known : (id : ℕ) → id < 16 → keyHeld keys id ≡ true → KeyKnown o (heldKey keys id) l
+  pub known : (id : ℕ) → id < 16 → keyHeld keys id ≡ true → KeyKnown o (heldkey keys id) l
 
 -- what waits has its key held
 abbrev pub OfferHeld : List ℕ → List ℕ → Type 0
@@ -82,8 +82,8 @@ pub record Inv (o : Start) (b : State) (s : State) (l : Log) : Type 0 where
   pub root : treeRoot (s .config) ≡ o .root
   pub words : WordsAre (s .nav) l
   pub blocks : BlocksAre (s .store) l
-  pub publicKeys : KeysAre o (s .publicKeys) l
-  pub offer : OfferHeld (s .publicKeys) (s .offer)
+  pub pubkeys : KeysAre o (s .pubkeys) l
+  pub offer : OfferHeld (s .pubkeys) (s .offer)
   pub force : inForce (s .config) (s .chain) ≡ true → InForce o b (chainContents (s .chain)) l
   pub held : inForce (s .config) (s .chain) ≡ true → HeldIs (chainOf s) (krootOf (chainContents (s .chain))) (heldOf s) l
   pub waiting : inForce (s .config) (s .chain) ≡ true → (k : ℕ) → k < waitingCount (s .tesla .numbers) → WaitIs o (chainContents (s .chain)) (entryAt (s .tesla .waiting) k) l

@@ -10,7 +10,7 @@ use Rattle.laws.specs.Lists.{part, splice}
 use Rattle.laws.proofs.Splice.{getD-splice-in, getD-splice-past, part-splice-past, length-splice, length-part, getD-part, below?}
 use Rattle.rules.specs.Bits.{filled}
 use Rattle.rules.specs.PublicKeys.{keyBytes, withKey, withoutLower}
-use Rattle.rules.specs.State.{publicKeysLength}
+use Rattle.rules.specs.State.{pubkeysLength}
 use Rattle.rules.proofs.Parts.{getD-zeros, length-filled, getD-beside, part-beside}
 
 -- the number that stands before a key: its type plus 1, 0 where none is held
@@ -25,7 +25,7 @@ apart id other h = ⊎-elim (λ l. inl l) (λ g. inr (bigger g)) (below? other i
 
 -- ---- a key is added
 
-module _ (keys : List ℕ) (id type : ℕ) (key : List ℕ) (size : length keys ≡ publicKeysLength) (in-range : id < 16) (short : length key ≤ 67) where
+module _ (keys : List ℕ) (id type : ℕ) (key : List ℕ) (size : length keys ≡ pubkeysLength) (in-range : id < 16) (short : length key ≤ 67) where
   abbrev place : List ℕ
   place = (type + 1) ∷ filled 67 key
 
@@ -66,7 +66,7 @@ module _ (keys : List ℕ) (id type : ℕ) (key : List ℕ) (size : length keys 
 
 -- ---- keys of lower ID are dropped
 
-module _ (keys : List ℕ) (id : ℕ) (size : length keys ≡ publicKeysLength) (in-range : id < 16) where
+module _ (keys : List ℕ) (id : ℕ) (size : length keys ≡ pubkeysLength) (in-range : id < 16) where
   zeros-length : length {A = ℕ} (replicate (id * 68) 0) ≡ id * 68
   zeros-length = length-replicate {A = ℕ} (id * 68) 0
 

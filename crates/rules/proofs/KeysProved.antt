@@ -19,11 +19,11 @@ use Rattle.rules.specs.Kroot.{offered, offerId, pkidOf, krootJudged, kro
 use Rattle.rules.specs.Log.{Entry, Log}
 use Rattle.rules.specs.Pkr.{newIdOf, newTypeOf, newKeyOf, emergency, pkrSizeBad, treeProved, pkrChecks, pkrJudged, keyAdded, Renewed}
 use Rattle.rules.specs.PublicKeys.{keyHeld, keyType, withKey, sameKey}
-use Rattle.rules.specs.State.{publicKeysLength}
+use Rattle.rules.specs.State.{pubkeysLength}
 use Rattle.rules.proofs.Bounds.{new-id-bound, new-key-short, new-type-bound, pkid-bound}
 use Rattle.rules.proofs.Choices.{by-number}
 use Rattle.rules.proofs.Gathering.{DsmCame}
-use Rattle.rules.proofs.Invariant.{KeysAre, OfferHeld, heldKey}
+use Rattle.rules.proofs.Invariant.{KeysAre, OfferHeld, heldkey}
 use Rattle.rules.proofs.KeyPlaces.{added-number, added-bytes, other-number, other-bytes}
 use Rattle.rules.proofs.Later.{known-later, keys-later}
 
@@ -33,7 +33,7 @@ pub record Renews (root : List ℕ) (d : List ℕ) : Type 0 where
   pub tree : treeProved root d ≡ true
   pub plain : emergency d ≡ false
 
-module _ (o : Start) (keys d : List ℕ) (id : ℕ) (x : Entry) (l : Log) (size : length keys ≡ publicKeysLength) (v : KeysAre o keys l) where
+module _ (o : Start) (keys d : List ℕ) (id : ℕ) (x : Entry) (l : Log) (size : length keys ≡ pubkeysLength) (v : KeysAre o keys l) where
   added-known : (r : Renews (o .root) d) → 12 ≤ id → DsmCame d id (x ∷ l) → KeysAre o (withKey keys (newIdOf d) (newTypeOf d) (newKeyOf d)) (x ∷ l)
   unfolding keyHeld keyType
   added-known r p c =
@@ -69,9 +69,9 @@ module _ (o : Start) (keys d : List ℕ) (id : ℕ) (x : Entry) (l : Log) (size 
       }
 
   -- the public keys after a complete DSM-PKR
-  pub pkr-known : 12 ≤ id → DsmCame d id (x ∷ l) → (pkrJudged keys (o .root) d) .code ≡ 0 → KeysAre o ((pkrJudged keys (o .root) d) .publicKeys) (x ∷ l)
+  pub pkr-known : 12 ≤ id → DsmCame d id (x ∷ l) → (pkrJudged keys (o .root) d) .code ≡ 0 → KeysAre o ((pkrJudged keys (o .root) d) .pubkeys) (x ∷ l)
   unfolding pkrJudged pkrChecks keyAdded
-  pkr-known p c = by-number (λ (j : Renewed). j .code ≡ 0 → KeysAre o (j .publicKeys) (x ∷ l)) (firstOf (pkrChecks keys (o .root) d)) (λ e ok. taken e) (λ h e. keys-later v)
+  pkr-known p c = by-number (λ (j : Renewed). j .code ≡ 0 → KeysAre o (j .pubkeys) (x ∷ l)) (firstOf (pkrChecks keys (o .root) d)) (λ e ok. taken e) (λ h e. keys-later v)
     where
       taken : firstOf (pkrChecks keys (o .root) d) ≡ 0 → KeysAre o (cond (emergency d) keys (keyAdded keys d)) (x ∷ l)
       taken e =
@@ -82,7 +82,7 @@ module _ (o : Start) (keys d : List ℕ) (id : ℕ) (x : Entry) (l : Log) (size 
           (λ _. added-known (record { size = k .0; tree = not-false (treeProved (o .root) d) (k .1 .0); plain = plain }) p c))
 
 -- a key that was held is held
-added-held : (keys d : List ℕ) (i : ℕ) → length keys ≡ publicKeysLength → i < 16 → newTypeOf d < 4 → keyHeld keys i ≡ true → keyHeld (withKey keys (newIdOf d) (newTypeOf d) (newKeyOf d)) i ≡ true
+added-held : (keys d : List ℕ) (i : ℕ) → length keys ≡ pubkeysLength → i < 16 → newTypeOf d < 4 → keyHeld keys i ≡ true → keyHeld (withKey keys (newIdOf d) (newTypeOf d) (newKeyOf d)) i ≡ true
 unfolding keyHeld
 added-held keys d i size h t m =
     ⊎-elim
@@ -94,10 +94,10 @@ added-held keys d i size h t m =
     (λ e. rw (other-number keys (newIdOf d) (newTypeOf d) (newKeyOf d) size (new-id-bound d) (new-key-short d) i h (eqb-false i (newIdOf d) e)) m)
     (either (eqb i (newIdOf d)))
 
-pub pkr-held : (keys root d : List ℕ) (i : ℕ) → length keys ≡ publicKeysLength → i < 16 → keyHeld keys i ≡ true → keyHeld ((pkrJudged keys root d) .publicKeys) i ≡ true
+pub pkr-held : (keys root d : List ℕ) (i : ℕ) → length keys ≡ pubkeysLength → i < 16 → keyHeld keys i ≡ true → keyHeld ((pkrJudged keys root d) .pubkeys) i ≡ true
 unfolding pkrJudged pkrChecks keyAdded
 pkr-held keys root d i size h m =
-    by-number (λ (j : Renewed). keyHeld (j .publicKeys) i ≡ true) (firstOf (pkrChecks keys root d)) taken (λ _. m)
+    by-number (λ (j : Renewed). keyHeld (j .pubkeys) i ≡ true) (firstOf (pkrChecks keys root d)) taken (λ _. m)
   where
     taken : firstOf (pkrChecks keys root d) ≡ 0 → keyHeld (cond (emergency d) keys (keyAdded keys d)) i ≡ true
     taken e =

@@ -97,8 +97,8 @@ sets-later v = record { backed = λ prn p n. set-later (v .backed prn p n) }
 -- ---- a call that leaves the parts alone; clocks, words and what waits may change
 
 pub same-inv : (o : Start) (b s s' : State) (x : Entry) (l : Log) → Inv o b s l → verdictIn x ≡ none → s' ≡ stateAt b (x ∷ l)
-    → s' .config ≡ s .config → s' .store ≡ s .store → s' .publicKeys ≡ s .publicKeys → s' .chain ≡ s .chain → s' .tesla ≡ s .tesla → s' .auth ≡ s .auth
-    → OfferHeld (s .publicKeys) (s' .offer) → WordsAre (s' .nav) (x ∷ l)
+    → s' .config ≡ s .config → s' .store ≡ s .store → s' .pubkeys ≡ s .pubkeys → s' .chain ≡ s .chain → s' .tesla ≡ s .tesla → s' .auth ≡ s .auth
+    → OfferHeld (s .pubkeys) (s' .offer) → WordsAre (s' .nav) (x ∷ l)
     → Inv o b s' (x ∷ l)
 unfolding chainOf heldOf
 same-inv o b s s' x l v q at config store keys chain tesla auth offer words =
@@ -108,7 +108,7 @@ same-inv o b s s' x l v q at config store keys chain tesla auth offer words =
       root = rw config (v .root);
       words = words;
       blocks = rw store (blocks-later (v .blocks));
-      publicKeys = rw keys (keys-later (v .publicKeys));
+      pubkeys = rw keys (keys-later (v .pubkeys));
       offer = rw keys offer;
       force = rw (config, chain) (λ h. force-later q (v .force h));
       held = rw (config, chain, tesla) (λ h. held-later (v .held h));

@@ -6,7 +6,7 @@ use mathlib.Core.List.{List, [], _∷_}
 use lib.Dec.{eqb}
 use lib.ListN.{length}
 use borrow.Author.Tests.{eqb-true}
-use Rattle.rules.specs.State.{State, shaped, configLength, clocksLength, wordsLength, stampsLength, blocksLength, dsmIds, publicKeysLength, offerLength, chainLength, numbersLength, heldKeyLength, waitingLength, setsLength, satellites}
+use Rattle.rules.specs.State.{State, shaped, configLength, clocksLength, wordsLength, stampsLength, blocksLength, dsmIds, pubkeysLength, offerLength, chainLength, numbersLength, heldkeyLength, waitingLength, setsLength, satellites}
 use Rattle.rules.proofs.Choices.{each}
 
 pub record Sized (s : State) : Type 0 where
@@ -18,11 +18,11 @@ pub record Sized (s : State) : Type 0 where
   pub headers : length (s .store .headers) ≡ dsmIds
   pub present : length (s .store .present) ≡ dsmIds
   pub since : length (s .store .since) ≡ dsmIds
-  pub publicKeys : length (s .publicKeys) ≡ publicKeysLength
+  pub pubkeys : length (s .pubkeys) ≡ pubkeysLength
   pub offer : length (s .offer) ≡ offerLength
   pub chain : length (s .chain) ≡ chainLength
   pub numbers : length (s .tesla .numbers) ≡ numbersLength
-  pub key : length (s .tesla .key) ≡ heldKeyLength
+  pub key : length (s .tesla .key) ≡ heldkeyLength
   pub waiting : length (s .tesla .waiting) ≡ waitingLength
   pub sets : length (s .auth .sets) ≡ setsLength
   pub arrivals : length (s .auth .arrivals) ≡ satellites
@@ -37,11 +37,11 @@ tests s =
     ∷ eqb (length (s .store .headers)) dsmIds
     ∷ eqb (length (s .store .present)) dsmIds
     ∷ eqb (length (s .store .since)) dsmIds
-    ∷ eqb (length (s .publicKeys)) publicKeysLength
+    ∷ eqb (length (s .pubkeys)) pubkeysLength
     ∷ eqb (length (s .offer)) offerLength
     ∷ eqb (length (s .chain)) chainLength
     ∷ eqb (length (s .tesla .numbers)) numbersLength
-    ∷ eqb (length (s .tesla .key)) heldKeyLength
+    ∷ eqb (length (s .tesla .key)) heldkeyLength
     ∷ eqb (length (s .tesla .waiting)) waitingLength
     ∷ eqb (length (s .auth .sets)) setsLength
     ∷ eqb (length (s .auth .arrivals)) satellites
@@ -59,11 +59,11 @@ sized s h =
       headers = eqb-true _ dsmIds (each (tests s) h 5);
       present = eqb-true _ dsmIds (each (tests s) h 6);
       since = eqb-true _ dsmIds (each (tests s) h 7);
-      publicKeys = eqb-true _ publicKeysLength (each (tests s) h 8);
+      pubkeys = eqb-true _ pubkeysLength (each (tests s) h 8);
       offer = eqb-true _ offerLength (each (tests s) h 9);
       chain = eqb-true _ chainLength (each (tests s) h 10);
       numbers = eqb-true _ numbersLength (each (tests s) h 11);
-      key = eqb-true _ heldKeyLength (each (tests s) h 12);
+      key = eqb-true _ heldkeyLength (each (tests s) h 12);
       waiting = eqb-true _ waitingLength (each (tests s) h 13);
       sets = eqb-true _ setsLength (each (tests s) h 14);
       arrivals = eqb-true _ satellites (each (tests s) h 15);

@@ -22,7 +22,7 @@ use Rattle.rules.specs.Gather.{hkrootOf, mackOf, headerOf, statusOf, cid
 use Rattle.rules.specs.Kroot.{krootOf, chainWith, chainContents, inForce, nmackOf, rootSecondsOf}
 use Rattle.rules.specs.Log.{Entry, Log, here, sectionIn}
 use Rattle.rules.specs.Mack.{keysProved, Proved}
-use Rattle.rules.specs.State.{State, nsOf, waitingCount, waitingLength, setsLength, satellites, heldKeyLength}
+use Rattle.rules.specs.State.{State, nsOf, waitingCount, waitingLength, setsLength, satellites, heldkeyLength}
 use Rattle.rules.specs.Tags.{Work, entryAt}
 use Rattle.rules.specs.Times.{secondsOf, timeValid}
 use Rattle.rules.specs.Verdict.{cidInForce}
@@ -179,7 +179,7 @@ module _ (o : Start) (b s : State) (x : Entry) (l : Log) (sub : Subframe) (v : B
   unfolding sectionTaken chainOf heldOf
   held-after =
       let slot = held-written (top .slot) (work .count) (proves .small) in
-      let key : take ((chainWith (nsOf (s .config)) (chainContents (s .chain))) .width) (filled heldKeyLength (top .key)) ≡ top .key = filled-back heldKeyLength _ (top .key) (proves .held-is .width) in
+      let key : take ((chainWith (nsOf (s .config)) (chainContents (s .chain))) .width) (filled heldkeyLength (top .key)) ≡ top .key = filled-back heldkeyLength _ (top .key) (proves .held-is .width) in
       rw (slot, key) (proves .held-is)
 
   waiting-after : (k : ℕ) → k < waitingCount (left .tesla .numbers) → WaitIs o (chainContents (left .chain)) (entryAt (left .tesla .waiting) k) (x ∷ l)
@@ -195,7 +195,7 @@ pub record MackIs (o : Start) (b s : State) (x : Entry) (l : Log) (m : MackDone)
   pub config : m .state .config ≡ s .config
   pub nav : m .state .nav ≡ s .nav
   pub store : m .state .store ≡ s .store
-  pub publicKeys : m .state .publicKeys ≡ s .publicKeys
+  pub pubkeys : m .state .pubkeys ≡ s .pubkeys
   pub offer : m .state .offer ≡ s .offer
   pub chain : m .state .chain ≡ s .chain
   pub size : (n : ℕ) × (length (m .records) ≡ n * 12)
@@ -215,7 +215,7 @@ taken-is o b s x l sub v section-is tv f =
       config = refl;
       nav = refl;
       store = refl;
-      publicKeys = refl;
+      pubkeys = refl;
       offer = refl;
       chain = refl;
       size = ((work-is o b s x l sub v section-is tv f) .n, (work-is o b s x l sub v section-is tv f) .size);

@@ -17,7 +17,7 @@ use Rattle.rules.specs.Navdata.{setIssue}
 use Rattle.rules.specs.PublicKeys.{keyType, keyBytes}
 use Rattle.rules.specs.State.{State, shaped, prnValid}
 use Rattle.rules.proofs.Bounds.{offer-id-bound}
-use Rattle.rules.proofs.Invariant.{Inv, heldKey}
+use Rattle.rules.proofs.Invariant.{Inv, heldkey}
 use Rattle.rules.proofs.Later.{entry, unchanged-inv, quiet-read-set, quiet-read-offer}
 
 -- ---- what waits
@@ -29,17 +29,17 @@ handing s =
       code = 0;
       message = offerMessage (s .offer);
       signature = offerSignature (s .offer);
-      key = keyBytes (s .publicKeys) (offerId (s .offer));
+      key = keyBytes (s .pubkeys) (offerId (s .offer));
       id = offerId (s .offer);
-      type = keyType (s .publicKeys) (offerId (s .offer));
+      type = keyType (s .pubkeys) (offerId (s .offer));
     }
 
 pub would-hand : (s : State) → shaped s ≡ true → offerWaits (s .offer) ≡ true → wouldHand s ≡ handing s
 unfolding offerRead offerReadChecks
 would-hand s h w = rw (h, w) refl
 
-pub offer-known : (o : Start) (b s : State) (l : Log) → Inv o b s l → offerWaits (s .offer) ≡ true → KeyKnown o (heldKey (s .publicKeys) (offerId (s .offer))) l
-offer-known o b s l v w = v .publicKeys .known (offerId (s .offer)) (offer-id-bound (s .offer)) (v .offer w)
+pub offer-known : (o : Start) (b s : State) (l : Log) → Inv o b s l → offerWaits (s .offer) ≡ true → KeyKnown o (heldkey (s .pubkeys) (offerId (s .offer))) l
+offer-known o b s l v w = v .pubkeys .known (offerId (s .offer)) (offer-id-bound (s .offer)) (v .offer w)
 
 -- ---- an entry that is no read and wrote no record
 

@@ -20,7 +20,7 @@ use Rattle.rules.specs.Verdict.{Verdict, judgedVerdict, trusting}
 use Rattle.rules.proofs.Choices.{by-number}
 
 same-kept : (s : State) → Kept s s
-same-kept s = record { config = refl; publicKeys = refl; chain = refl; slot = refl; key = refl; auth = refl }
+same-kept s = record { config = refl; pubkeys = refl; chain = refl; slot = refl; key = refl; auth = refl }
 
 -- ---- start, word, reads
 
@@ -43,7 +43,7 @@ read-offer-kept s m g k = refl
 -- ---- verdict: all stays, or what waits is dropped
 
 -- P of the state as it was and without what waits
-pub verdict-refused : (P : State → Type 0) (s : State) (v : Verdict) → P s → P (trusting s (s .publicKeys) (s .chain) (s .tesla)) → (step s (verdict v)) .reply .code ≢ 0 → P ((step s (verdict v)) .state)
+pub verdict-refused : (P : State → Type 0) (s : State) (v : Verdict) → P s → P (trusting s (s .pubkeys) (s .chain) (s .tesla)) → (step s (verdict v)) .reply .code ≢ 0 → P ((step s (verdict v)) .state)
 unfolding step verdictCall judgedVerdict
 verdict-refused P s v whole dropped h =
     let code = firstOf (verdictChecks s v) in
@@ -52,7 +52,7 @@ verdict-refused P s v whole dropped h =
 
 verdict-kept : (s : State) (v : Verdict) → (step s (verdict v)) .reply .code ≢ 0 → Kept s ((step s (verdict v)) .state)
 verdict-kept s v =
-    verdict-refused (Kept s) s v (same-kept s) (record { config = refl; publicKeys = refl; chain = refl; slot = refl; key = refl; auth = refl })
+    verdict-refused (Kept s) s v (same-kept s) (record { config = refl; pubkeys = refl; chain = refl; slot = refl; key = refl; auth = refl })
 
 -- ---- the halves
 
@@ -62,16 +62,16 @@ mack-half-kept s prn t header mack =
     by-number (λ (m : MackDone). m .code ≢ 0 → m .state ≡ s) ((sectionProved s prn t header mack) .code) (λ _ h. absurd (h refl)) (λ _ _. refl)
 
 -- a refused DSM-PKR adds no key and does not stop the core
-pub pkr-refused : (keys root d : List ℕ) → (pkrJudged keys root d) .code ≢ 0 → ((pkrJudged keys root d) .publicKeys ≡ keys) × ((pkrJudged keys root d) .stops ≡ false)
+pub pkr-refused : (keys root d : List ℕ) → (pkrJudged keys root d) .code ≢ 0 → ((pkrJudged keys root d) .pubkeys ≡ keys) × ((pkrJudged keys root d) .stops ≡ false)
 unfolding pkrJudged
 pkr-refused keys root d =
-    by-number (λ (j : Renewed). j .code ≢ 0 → (j .publicKeys ≡ keys) × (j .stops ≡ false)) (firstOf (pkrChecks keys root d)) (λ _ h. absurd (h refl)) (λ _ _. (refl, refl))
+    by-number (λ (j : Renewed). j .code ≢ 0 → (j .pubkeys ≡ keys) × (j .stops ≡ false)) (firstOf (pkrChecks keys root d)) (λ _ h. absurd (h refl)) (λ _ _. (refl, refl))
 
 pkr-done-kept : (s : State) (store : Store) (d : List ℕ) → (pkrDone s store d) .code ≢ 0 → Kept s ((pkrDone s store d) .state)
 unfolding pkrDone
 pkr-done-kept s store d h =
-    let p = pkr-refused (s .publicKeys) (treeRoot (s .config)) d h in
-    record { config = rw (p .1) refl; publicKeys = p .0; chain = refl; slot = refl; key = refl; auth = refl }
+    let p = pkr-refused (s .pubkeys) (treeRoot (s .config)) d h in
+    record { config = rw (p .1) refl; pubkeys = p .0; chain = refl; slot = refl; key = refl; auth = refl }
 
 hkroot-half-kept : (s : State) (t : ℕ) (hk : List ℕ) → (hkrootHalf s t hk) .code ≢ 0 → Kept s ((hkrootHalf s t hk) .state)
 unfolding hkrootHalf storeDone krootDone
@@ -79,17 +79,17 @@ hkroot-half-kept s t hk =
     let P : HkrootDone → Type 0 = λ a. a .code ≢ 0 → Kept s (a .state) in
     let g = gathered (s .store) t hk in
     by-test P (eqb (length (g .dsm)) 0)
-    (λ _ _. record { config = refl; publicKeys = refl; chain = refl; slot = refl; key = refl; auth = refl })
+    (λ _ _. record { config = refl; pubkeys = refl; chain = refl; slot = refl; key = refl; auth = refl })
     (λ _.
     by-test P (leb (dsmIdOf hk) 11)
-    (λ _ _. record { config = refl; publicKeys = refl; chain = refl; slot = refl; key = refl; auth = refl })
+    (λ _ _. record { config = refl; pubkeys = refl; chain = refl; slot = refl; key = refl; auth = refl })
     (λ _. pkr-done-kept s (g .store) (g .dsm)))
 
 -- ---- sub-frame: noting its time changes only clocks
 
 noted-first : (s s' : State) (x : Subframe) → Kept (noted s x) s' → Kept s s'
 unfolding noted
-noted-first s s' x k = record { config = k .config; publicKeys = k .publicKeys; chain = k .chain; slot = k .slot; key = k .key; auth = k .auth }
+noted-first s s' x k = record { config = k .config; pubkeys = k .pubkeys; chain = k .chain; slot = k .slot; key = k .key; auth = k .auth }
 
 noted-kept : (s : State) (x : Subframe) → Kept s (noted s x)
 noted-kept s x = noted-first s (noted s x) x (same-kept (noted s x))

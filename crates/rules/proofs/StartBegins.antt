@@ -22,9 +22,9 @@ use Rattle.rules.specs.Kroot.{noOffer, offerWaits, inForce}
 use Rattle.rules.specs.Log.{Log, start, stateAt, step}
 use Rattle.rules.specs.Navdata.{wordAt, wordPlace}
 use Rattle.rules.specs.PublicKeys.{keyLength, keyHeld, keyType, keyBytes, withKey}
-use Rattle.rules.specs.State.{State, nsOf, treeRoot, shaped, wordsLength, stampsLength, dsmIds, publicKeysLength, satellites}
+use Rattle.rules.specs.State.{State, nsOf, treeRoot, shaped, wordsLength, stampsLength, dsmIds, pubkeysLength, satellites}
 use Rattle.rules.proofs.Choices.{no, not-zero}
-use Rattle.rules.proofs.Invariant.{Inv, WordsAre, BlocksAre, KeysAre, SetsAre, Place, heldKey}
+use Rattle.rules.proofs.Invariant.{Inv, WordsAre, BlocksAre, KeysAre, SetsAre, Place, heldkey}
 use Rattle.rules.proofs.KeyPlaces.{keyNumber, added-number, added-bytes, other-number}
 use Rattle.rules.proofs.Later.{entry, refused-inv}
 use Rattle.rules.proofs.Marks.{none-marked}
@@ -100,13 +100,13 @@ key-short x f =
     let e = f .key in
     simp length-take (omega arith)
 
-given-key : (x : Start) (keys : List ℕ) (id : ℕ) → id ≡ x .id → keyNumber keys id ≡ x .type + 1 → keyBytes keys id ≡ filled 67 (take (keyLength (x .type)) (x .key)) → KeyKnown x (heldKey keys id) []
+given-key : (x : Start) (keys : List ℕ) (id : ℕ) → id ≡ x .id → keyNumber keys id ≡ x .type + 1 → keyBytes keys id ≡ filled 67 (take (keyLength (x .type)) (x .key)) → KeyKnown x (heldkey keys id) []
 unfolding keyType
 given-key x keys id e n b =
     let z : x .type + 1 - 1 ≡ x .type = omega arith in
     given (rw (b, n, z, e) refl)
 
-fresh-keys : (x : Start) → Fit x → KeysAre x ((fresh x) .publicKeys) []
+fresh-keys : (x : Start) → Fit x → KeysAre x ((fresh x) .pubkeys) []
 unfolding fresh keyHeld
 fresh-keys x f =
     record {
@@ -123,16 +123,16 @@ fresh-keys x f =
     }
   where
     none : List ℕ
-    none = replicate publicKeysLength 0
+    none = replicate pubkeysLength 0
 
-    none-length : length none ≡ publicKeysLength
-    none-length = length-replicate {A = ℕ} publicKeysLength 0
+    none-length : length none ≡ pubkeysLength
+    none-length = length-replicate {A = ℕ} pubkeysLength 0
 
     key : List ℕ
     key = take (keyLength (x .type)) (x .key)
 
     none-held : (id : ℕ) → id < 16 → id ≢ x .id → keyHeld (withKey none (x .id) (x .type) key) id ≡ false
-    none-held id h n = rw (other-number none (x .id) (x .type) key none-length (f .id) (key-short x f) id h n) (rw (getD-zeros publicKeysLength (id * 68)) refl)
+    none-held id h n = rw (other-number none (x .id) (x .type) key none-length (f .id) (key-short x f) id h n) (rw (getD-zeros pubkeysLength (id * 68)) refl)
 
 fresh-sets : (x : Start) (b : State) → SetsAre x b ((fresh x) .auth) []
 unfolding fresh authStamp
@@ -155,7 +155,7 @@ fresh-inv x f =
       root = fresh-root x f;
       words = fresh-words x;
       blocks = fresh-blocks x;
-      publicKeys = fresh-keys x f;
+      pubkeys = fresh-keys x f;
       offer = λ e. no (no-offer x) e;
       force = λ e. no (no-chain x _) e;
       held = λ e. no (no-chain x _) e;

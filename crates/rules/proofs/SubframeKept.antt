@@ -37,7 +37,7 @@ hkroot-inv o b s s' x l v q a at =
       root = a .root ∙ v .root;
       words = rw (a .nav) (words-later (q .no-word) (v .words));
       blocks = a .blocks;
-      publicKeys = a .publicKeys;
+      pubkeys = a .pubkeys;
       offer = a .offer;
       force = rw (a .in-force (s' .chain), a .chain) (λ h. force-later (q .no-verdict) (v .force h));
       held = rw (a .in-force (s' .chain), a .ns, a .chain, a .tesla) (λ h. held-later (v .held h));
@@ -68,8 +68,8 @@ mack-inv o b s s' x l m v q a k w at =
       root = rw (k .config) (a .root ∙ v .root);
       words = rw (k .nav, a .nav) (words-later (q .no-word) (v .words));
       blocks = rw (k .store) (a .blocks);
-      publicKeys = rw (k .publicKeys) (a .publicKeys);
-      offer = rw (k .publicKeys, k .offer) (a .offer);
+      pubkeys = rw (k .pubkeys) (a .pubkeys);
+      offer = rw (k .pubkeys, k .offer) (a .offer);
       force = rw (k .config, k .chain, a .in-force (s' .chain), a .chain) (λ h. force-later (q .no-verdict) (v .force h));
       held = λ h. k .held;
       waiting = λ h. k .waiting;
@@ -105,7 +105,7 @@ noted-is o s s' sub l a =
       in-force = a .in-force;
       nav = a .nav;
       blocks = a .blocks;
-      publicKeys = a .publicKeys;
+      pubkeys = a .pubkeys;
       offer = a .offer;
       chain = a .chain;
       tesla = a .tesla;
@@ -157,7 +157,7 @@ module _ (o : Start) (b s : State) (l : Log) (area : List ℕ) (sub : Subframe) 
   unfolding noted
   first-is r ok =
       noted-is o s (first .state) sub (entryOf area sub r ∷ l)
-      (hkroot-is o (noted s sub) (entryOf area sub r) sub l (λ e. rw e refl) (f .size .config) (f .size .blocks) (f .size .present) (f .size .publicKeys) (v .blocks) (v .publicKeys) (v .root) (v .offer) (sub .time) ok)
+      (hkroot-is o (noted s sub) (entryOf area sub r) sub l (λ e. rw e refl) (f .size .config) (f .size .blocks) (f .size .present) (f .size .pubkeys) (v .blocks) (v .pubkeys) (v .root) (v .offer) (sub .time) ok)
 
   -- "that sub-frame returns 0 and 4"
   stopped-good : Good o b l area sub (record { hkroot = first .code; mack = 4; count = 0; state = first .state; area = area })

@@ -25,7 +25,7 @@ use Rattle.rules.specs.Gather.{statusOf, cidOf}
 use Rattle.rules.specs.Kroot.{cidkrOf, ksOf, keyWidth, krootOf, rootSecondsOf, chainWith, chainContents, inForce, offerWaits, offerId, offerMessage, offerSignature, noOffer}
 use Rattle.rules.specs.Log.{verdict, Entry, Log, here, step, stateAt, chainIn}
 use Rattle.rules.specs.PublicKeys.{keyHeld, keyType, withoutLower}
-use Rattle.rules.specs.State.{State, shaped, nsOf, heldSlot, waitingCount, publicKeysLength, chainLength, waitingLength}
+use Rattle.rules.specs.State.{State, shaped, nsOf, heldSlot, waitingCount, pubkeysLength, chainLength, waitingLength}
 use Rattle.rules.specs.Tags.{entryAt, entryTag}
 use Rattle.rules.specs.Times.{keySeconds}
 use Rattle.rules.specs.Verdict.{Verdict, messageHeader, messageContents, namesOffer, sameContents, statusUnfit, vouchChecks, keyNotBefore, staying, stayingAt, rootHeld, tagsDropped, vouched, judgedVerdict, trusting, chainUnchanged, cidInForce}
@@ -120,7 +120,7 @@ unfolding noOffer offerWaits
 no-offer keys e = no refl e
 
 -- "drops keys of lower ID": the others are known as before
-lower-known : (o : Start) (keys : List ℕ) (id : ℕ) (x : Entry) (l : Log) → length keys ≡ publicKeysLength → id < 16 → KeysAre o keys l → KeysAre o (withoutLower keys id) (x ∷ l)
+lower-known : (o : Start) (keys : List ℕ) (id : ℕ) (x : Entry) (l : Log) → length keys ≡ pubkeysLength → id < 16 → KeysAre o keys l → KeysAre o (withoutLower keys id) (x ∷ l)
 unfolding keyHeld keyType
 lower-known o keys id x l size h v =
     record {
@@ -208,7 +208,7 @@ module _ (o : Start) (b s : State) (v : Verdict) (x : Entry) (l : Log) (i : Inv 
   contents = messageContents (v .message)
 
   abbrev lower : List ℕ
-  lower = withoutLower (s .publicKeys) (v .id)
+  lower = withoutLower (s .pubkeys) (v .id)
 
   abbrev Left : State → Type 0
   Left s' = s' ≡ stateAt b (x ∷ l) → Inv o b s' (x ∷ l)
@@ -217,7 +217,7 @@ module _ (o : Start) (b s : State) (v : Verdict) (x : Entry) (l : Log) (i : Inv 
   size = sized s (f .shape)
 
   -- "Status 3 .. drops the chain and the waiting tags"
-  dropped-inv : Left (trusting s (s .publicKeys) (set (s .chain) 0 2) (tagsDropped (s .tesla)))
+  dropped-inv : Left (trusting s (s .pubkeys) (set (s .chain) 0 2) (tagsDropped (s .tesla)))
   dropped-inv at =
       record {
         at = at;
@@ -225,8 +225,8 @@ module _ (o : Start) (b s : State) (v : Verdict) (x : Entry) (l : Log) (i : Inv 
         root = i .root;
         words = words-later (rw (is, ok) refl) (i .words);
         blocks = blocks-later (i .blocks);
-        publicKeys = keys-later (i .publicKeys);
-        offer = no-offer (s .publicKeys);
+        pubkeys = keys-later (i .pubkeys);
+        offer = no-offer (s .pubkeys);
         force = λ h. no (drop-ends (s .config) (s .chain) (size .chain)) h;
         held = λ h. no (drop-ends (s .config) (s .chain) (size .chain)) h;
         waiting = λ h. no (drop-ends (s .config) (s .chain) (size .chain)) h;
@@ -247,7 +247,7 @@ module _ (o : Start) (b s : State) (v : Verdict) (x : Entry) (l : Log) (i : Inv 
           root = i .root;
           words = words-later (rw (is, ok) refl) (i .words);
           blocks = blocks-later (i .blocks);
-          publicKeys = lower-known o (s .publicKeys) (v .id) x l (size .publicKeys) (f .id-small) (i .publicKeys);
+          pubkeys = lower-known o (s .pubkeys) (v .id) x l (size .pubkeys) (f .id-small) (i .pubkeys);
           offer = no-offer lower;
           force = λ h. in-force-now (chainContents (s .chain)) (same-true (chainContents (s .chain)) contents (and-right (inForce (s .config) (s .chain)) _ e));
           held = λ h. held-later (i .held h);
@@ -265,7 +265,7 @@ module _ (o : Start) (b s : State) (v : Verdict) (x : Entry) (l : Log) (i : Inv 
           root = i .root;
           words = words-later (rw (is, ok) refl) (i .words);
           blocks = blocks-later (i .blocks);
-          publicKeys = lower-known o (s .publicKeys) (v .id) x l (size .publicKeys) (f .id-small) (i .publicKeys);
+          pubkeys = lower-known o (s .pubkeys) (v .id) x l (size .pubkeys) (f .id-small) (i .pubkeys);
           offer = no-offer lower;
           force = λ h. in-force-now (chainContents (1 ∷ contents)) (new-contents contents c-size);
           held = λ h. rw (new-contents contents c-size) (root-held (nsOf (s .config)) contents (length (stayingAt s contents) / 84) (x ∷ l) c-size);
@@ -299,7 +299,7 @@ refused-inv o b s l v n i e =
     verdict-refused (λ (s' : State). s' ≡ stateAt b (entry s (verdict v) ∷ l) → Inv o b s' (entry s (verdict v) ∷ l)) s v
     (λ at. unchanged-inv o b s (entry s (verdict v)) l i (quiet-refused _ n e) at)
     (λ at.
-    same-inv o b s (trusting s (s .publicKeys) (s .chain) (s .tesla)) (entry s (verdict v)) l i ((quiet-refused (entry s (verdict v)) n e) .no-verdict) at refl refl refl refl refl refl (no-offer (s .publicKeys))
+    same-inv o b s (trusting s (s .pubkeys) (s .chain) (s .tesla)) (entry s (verdict v)) l i ((quiet-refused (entry s (verdict v)) n e) .no-verdict) at refl refl refl refl refl refl (no-offer (s .pubkeys))
     (words-later ((quiet-refused (entry s (verdict v)) n e) .no-word) (i .words)))
     (not-zero _ n e) (stepped-at b s l (verdict v) (i .at))
 

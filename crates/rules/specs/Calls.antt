@@ -15,8 +15,8 @@ use Rattle.rules.specs.Kroot.{krootJudged, Offer, noOffer, chainWith, ch
 use Rattle.rules.specs.Mack.{keysProved, Proved}
 use Rattle.rules.specs.Pkr.{pkrJudged, Renewed}
 use Rattle.rules.specs.State.{State, Nav, Store, Tesla, Auth, shaped, nsOf, treeRoot, stopped, lastSubframe, lastSubframeOf, lastWordOf, prnValid, heldSlot, waitingCount}
-use Rattle.rules.specs.State.{withConfig, withClocks, withNav, withStore, withPublicKeys, withOffer, withTesla, withAuth}
-use Rattle.rules.specs.State.{clocksLength, wordsLength, stampsLength, blocksLength, dsmIds, publicKeysLength, chainLength, heldKeyLength, waitingLength, setsLength, satellites}
+use Rattle.rules.specs.State.{withConfig, withClocks, withNav, withStore, withPubkeys, withOffer, withTesla, withAuth}
+use Rattle.rules.specs.State.{clocksLength, wordsLength, stampsLength, blocksLength, dsmIds, pubkeysLength, chainLength, heldkeyLength, waitingLength, setsLength, satellites}
 use Rattle.rules.specs.Tags.{Section, Work, duesJudged, ownsJudged}
 use Rattle.rules.specs.Times.{timeValid, stampOf, secondsOf}
 use Rattle.rules.specs.Verdict.{Verdict, vouchChecks, judgedVerdict, cidInForce}
@@ -77,10 +77,10 @@ fresh x =
       clocks = replicate clocksLength 0;
       nav = record { words = replicate wordsLength 0; stamps = replicate stampsLength 0 };
       store = record { blocks = replicate blocksLength 0; headers = replicate dsmIds 0; present = replicate dsmIds 0; since = replicate dsmIds 0 };
-      publicKeys = withKey (replicate publicKeysLength 0) (x .id) (x .type) (take (keyLength (x .type)) (x .key));
+      pubkeys = withKey (replicate pubkeysLength 0) (x .id) (x .type) (take (keyLength (x .type)) (x .key));
       offer = noOffer;
       chain = replicate chainLength 0;
-      tesla = record { numbers = 0 ∷ 0 ∷ []; key = replicate heldKeyLength 0; waiting = replicate waitingLength 0 };
+      tesla = record { numbers = 0 ∷ 0 ∷ []; key = replicate heldkeyLength 0; waiting = replicate waitingLength 0 };
       auth = record { sets = replicate setsLength 0; arrivals = replicate satellites 0 };
     }
 
@@ -151,17 +151,17 @@ pub record HkrootDone : Type 0 where
 -- a complete DSM: "IDs 0 to 11 are DSM-KROOT, 12 to 15 DSM-PKR."
 unfoldable pub krootDone : State → Store → ℕ → List ℕ → HkrootDone
 krootDone s store header d =
-    let j = krootJudged (s .publicKeys) (s .config) (s .offer) header d in
+    let j = krootJudged (s .pubkeys) (s .config) (s .offer) header d in
     record { code = j .code; stops = false; state = withOffer (withStore s store) (j .offer) }
 
 -- "A proved emergency message stops the core until a new start"
 unfoldable pub pkrDone : State → Store → List ℕ → HkrootDone
 pkrDone s store d =
-    let j = pkrJudged (s .publicKeys) (treeRoot (s .config)) d in
+    let j = pkrJudged (s .pubkeys) (treeRoot (s .config)) d in
     record {
       code = j .code;
       stops = j .stops;
-      state = withPublicKeys (withStore (withConfig s (cond (j .stops) (set (s .config) 62 1) (s .config))) store) (j .publicKeys);
+      state = withPubkeys (withStore (withConfig s (cond (j .stops) (set (s .config) 62 1) (s .config))) store) (j .pubkeys);
     }
 
 unfoldable pub storeDone : State → Gathered → HkrootDone
@@ -222,7 +222,7 @@ sectionTaken s h w =
     (withTesla s
     (record {
       numbers = h .slot ∷ w .count ∷ [];
-      key = filled heldKeyLength (h .key);
+      key = filled heldkeyLength (h .key);
       waiting = splice (s .tesla .waiting) 0 (w .kept);
     }))
     (record { sets = w .sets; arrivals = w .arrivals })
@@ -343,8 +343,8 @@ offerRead s message signature key =
       code = 0;
       message = offerMessage (s .offer);
       signature = offerSignature (s .offer);
-      key = keyBytes (s .publicKeys) id;
+      key = keyBytes (s .pubkeys) id;
       id = id;
-      type = keyType (s .publicKeys) id;
+      type = keyType (s .pubkeys) id;
     })
     (record { code = code; message = message; signature = signature; key = key; id = 0; type = 0 })

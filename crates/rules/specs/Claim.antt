@@ -94,7 +94,7 @@ pub record Vouched (origin : Start) (began : State) (v : Verdict) (x : Entry) (o
   pub signature-is : (wouldHand (stateAt began older)) .signature ≡ v .signature
   pub id-is : (wouldHand (stateAt began older)) .id ≡ v .id
   -- "under a public key ..": the one held, which that read would have handed out
-  pub held : keyHeld ((stateAt began older) .publicKeys) (v .id) ≡ true
+  pub held : keyHeld ((stateAt began older) .pubkeys) (v .id) ≡ true
   pub known : KeyKnown origin (handedKey (wouldHand (stateAt began older))) older
 
 -- the contents of the message of a verdict, the chain that they put in force, and its root
@@ -227,7 +227,7 @@ pub record Fair (origin : Start) (began : State) (x : Entry) (older : Log) : Typ
 -- decide which chain the contents give
 pub record Kept (s s' : State) : Type 0 where
   pub config : s' .config ≡ s .config
-  pub publicKeys : s' .publicKeys ≡ s .publicKeys
+  pub pubkeys : s' .pubkeys ≡ s .pubkeys
   pub chain : s' .chain ≡ s .chain
   pub slot : heldSlot (s' .tesla .numbers) ≡ heldSlot (s .tesla .numbers)
   pub key : s' .tesla .key ≡ s .tesla .key

@@ -107,10 +107,10 @@ krootBlocks width type = leastBlocks (13 + width + signatureLength type)
 
 -- "complete KROOT 7, 8, 6"
 unfoldable pub krootChecks : List ℕ → List ℕ → List ℕ → List Check
-krootChecks publicKeys config d =
-    refuse (not (keyHeld publicKeys (pkidOf d))) 7
+krootChecks pubkeys config d =
+    refuse (not (keyHeld pubkeys (pkidOf d))) 7
     ∷ refuse (parametersBad config (contentsOf d)) 8
-    ∷ refuse (neb (length d) (13 * krootBlocks (keyWidth (ksOf (contentsOf d))) (keyType publicKeys (pkidOf d)))) 6
+    ∷ refuse (neb (length d) (13 * krootBlocks (keyWidth (ksOf (contentsOf d))) (keyType pubkeys (pkidOf d)))) 6
     ∷ []
 
 -- "The signed message is the NMA header, then the DSM from byte 1 through KROOT.", in 45 bytes
@@ -147,10 +147,10 @@ pub record Offer : Type 0 where
   pub offer : List ℕ
 
 unfoldable pub krootJudged : List ℕ → List ℕ → List ℕ → ℕ → List ℕ → Offer
-krootJudged publicKeys config offer header d =
-    let code = firstOf (krootChecks publicKeys config d) in
+krootJudged pubkeys config offer header d =
+    let code = firstOf (krootChecks pubkeys config d) in
     unless code
-    (record { code = 0; offer = offered (pkidOf d) (signedMessage header d) (signatureOf d (keyType publicKeys (pkidOf d))) })
+    (record { code = 0; offer = offered (pkidOf d) (signedMessage header d) (signatureOf d (keyType pubkeys (pkidOf d))) })
     (record { code = code; offer = offer })
 
 -- ---- the chain

@@ -65,7 +65,7 @@ sectionNumber root second = (sectionProved (core 0 root nothing) 1 (gst 4 second
 
 -- a DSM-PKR of 13 blocks with a new key of type 1 and ID 0, which the core holds with other bytes; this root is installed
 abbrev pub pkrNumber : List ℕ → ℕ
-pkrNumber root = firstOf (pkrChecks ((fresh blankStart) .publicKeys) root (0x70 ∷ (replicate 128 0 ++ (0x10 ∷ replicate 39 0))))
+pkrNumber root = firstOf (pkrChecks ((fresh blankStart) .pubkeys) root (0x70 ∷ (replicate 128 0 ++ (0x10 ∷ replicate 39 0))))
 
 abbrev pub orders : List Point
 orders =

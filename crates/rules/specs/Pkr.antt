@@ -72,7 +72,7 @@ pkrChecks keys root d =
 -- what a complete DSM-PKR leaves: the public keys, and whether it stops the core
 pub record Renewed : Type 0 where
   pub code : ℕ
-  pub publicKeys : List ℕ
+  pub pubkeys : List ℕ
   pub stops : Bool
 
 -- "A proved key with an ID above all held is added; the same key again changes nothing."
@@ -84,5 +84,5 @@ unfoldable pub pkrJudged : List ℕ → List ℕ → List ℕ → Renewed
 pkrJudged keys root d =
     let code = firstOf (pkrChecks keys root d) in
     unless code
-    (record { code = 0; publicKeys = cond (emergency d) keys (keyAdded keys d); stops = emergency d })
-    (record { code = code; publicKeys = keys; stops = false })
+    (record { code = 0; pubkeys = cond (emergency d) keys (keyAdded keys d); stops = emergency d })
+    (record { code = code; pubkeys = keys; stops = false })

@@ -41,7 +41,7 @@ pub record State : Type 0 where
   pub nav : Nav
   pub store : Store
   -- public keys by key ID: the type plus 1 (0 where none is held), and the key in 67 bytes
-  pub publicKeys : List ℕ
+  pub pubkeys : List ℕ
   -- the message that waits for a verdict: 1 (0 where none waits), key ID, message 45, signature 132
   pub offer : List ℕ
   -- 1 in force, 2 dropped, 0 where there was none; then the contents that were put in force last (44)
@@ -51,13 +51,13 @@ pub record State : Type 0 where
 
 -- the state as its sixteen regions
 abbrev pub state : List ℕ → List ℕ → List ℕ → List ℕ → List ℕ → List ℕ → List ℕ → List ℕ → List ℕ → List ℕ → List ℕ → List ℕ → List ℕ → List ℕ → List ℕ → List ℕ → State
-state config clocks words stamps blocks headers present since publicKeys offer chain numbers key waiting sets arrivals =
+state config clocks words stamps blocks headers present since pubkeys offer chain numbers key waiting sets arrivals =
     record {
       config = config;
       clocks = clocks;
       nav = record { words = words; stamps = stamps };
       store = record { blocks = blocks; headers = headers; present = present; since = since };
-      publicKeys = publicKeys;
+      pubkeys = pubkeys;
       offer = offer;
       chain = chain;
       tesla = record { numbers = numbers; key = key; waiting = waiting };
@@ -67,31 +67,31 @@ state config clocks words stamps blocks headers present since publicKeys offer c
 -- ---- the state with one part replaced
 
 abbrev pub withConfig : State → List ℕ → State
-withConfig s config = record { config = config; clocks = s .clocks; nav = s .nav; store = s .store; publicKeys = s .publicKeys; offer = s .offer; chain = s .chain; tesla = s .tesla; auth = s .auth }
+withConfig s config = record { config = config; clocks = s .clocks; nav = s .nav; store = s .store; pubkeys = s .pubkeys; offer = s .offer; chain = s .chain; tesla = s .tesla; auth = s .auth }
 
 abbrev pub withClocks : State → List ℕ → State
-withClocks s clocks = record { config = s .config; clocks = clocks; nav = s .nav; store = s .store; publicKeys = s .publicKeys; offer = s .offer; chain = s .chain; tesla = s .tesla; auth = s .auth }
+withClocks s clocks = record { config = s .config; clocks = clocks; nav = s .nav; store = s .store; pubkeys = s .pubkeys; offer = s .offer; chain = s .chain; tesla = s .tesla; auth = s .auth }
 
 abbrev pub withNav : State → Nav → State
-withNav s nav = record { config = s .config; clocks = s .clocks; nav = nav; store = s .store; publicKeys = s .publicKeys; offer = s .offer; chain = s .chain; tesla = s .tesla; auth = s .auth }
+withNav s nav = record { config = s .config; clocks = s .clocks; nav = nav; store = s .store; pubkeys = s .pubkeys; offer = s .offer; chain = s .chain; tesla = s .tesla; auth = s .auth }
 
 abbrev pub withStore : State → Store → State
-withStore s store = record { config = s .config; clocks = s .clocks; nav = s .nav; store = store; publicKeys = s .publicKeys; offer = s .offer; chain = s .chain; tesla = s .tesla; auth = s .auth }
+withStore s store = record { config = s .config; clocks = s .clocks; nav = s .nav; store = store; pubkeys = s .pubkeys; offer = s .offer; chain = s .chain; tesla = s .tesla; auth = s .auth }
 
-abbrev pub withPublicKeys : State → List ℕ → State
-withPublicKeys s publicKeys = record { config = s .config; clocks = s .clocks; nav = s .nav; store = s .store; publicKeys = publicKeys; offer = s .offer; chain = s .chain; tesla = s .tesla; auth = s .auth }
+abbrev pub withPubkeys : State → List ℕ → State
+withPubkeys s pubkeys = record { config = s .config; clocks = s .clocks; nav = s .nav; store = s .store; pubkeys = pubkeys; offer = s .offer; chain = s .chain; tesla = s .tesla; auth = s .auth }
 
 abbrev pub withOffer : State → List ℕ → State
-withOffer s offer = record { config = s .config; clocks = s .clocks; nav = s .nav; store = s .store; publicKeys = s .publicKeys; offer = offer; chain = s .chain; tesla = s .tesla; auth = s .auth }
+withOffer s offer = record { config = s .config; clocks = s .clocks; nav = s .nav; store = s .store; pubkeys = s .pubkeys; offer = offer; chain = s .chain; tesla = s .tesla; auth = s .auth }
 
 abbrev pub withChain : State → List ℕ → State
-withChain s chain = record { config = s .config; clocks = s .clocks; nav = s .nav; store = s .store; publicKeys = s .publicKeys; offer = s .offer; chain = chain; tesla = s .tesla; auth = s .auth }
+withChain s chain = record { config = s .config; clocks = s .clocks; nav = s .nav; store = s .store; pubkeys = s .pubkeys; offer = s .offer; chain = chain; tesla = s .tesla; auth = s .auth }
 
 abbrev pub withTesla : State → Tesla → State
-withTesla s tesla = record { config = s .config; clocks = s .clocks; nav = s .nav; store = s .store; publicKeys = s .publicKeys; offer = s .offer; chain = s .chain; tesla = tesla; auth = s .auth }
+withTesla s tesla = record { config = s .config; clocks = s .clocks; nav = s .nav; store = s .store; pubkeys = s .pubkeys; offer = s .offer; chain = s .chain; tesla = tesla; auth = s .auth }
 
 abbrev pub withAuth : State → Auth → State
-withAuth s auth = record { config = s .config; clocks = s .clocks; nav = s .nav; store = s .store; publicKeys = s .publicKeys; offer = s .offer; chain = s .chain; tesla = s .tesla; auth = auth }
+withAuth s auth = record { config = s .config; clocks = s .clocks; nav = s .nav; store = s .store; pubkeys = s .pubkeys; offer = s .offer; chain = s .chain; tesla = s .tesla; auth = auth }
 
 -- ---- lengths of the regions, in elements
 
@@ -119,8 +119,8 @@ abbrev pub dsmIds : ℕ
 dsmIds = 16
 
 -- 16 key IDs, 1 + 67 bytes
-abbrev pub publicKeysLength : ℕ
-publicKeysLength = 1088
+abbrev pub pubkeysLength : ℕ
+pubkeysLength = 1088
 
 -- 1 + 1 + 45 + 132
 abbrev pub offerLength : ℕ
@@ -134,8 +134,8 @@ abbrev pub numbersLength : ℕ
 numbersLength = 2
 
 -- the widest TESLA key
-abbrev pub heldKeyLength : ℕ
-heldKeyLength = 32
+abbrev pub heldkeyLength : ℕ
+heldkeyLength = 32
 
 -- 256 places of 84 bytes
 abbrev pub waitingLength : ℕ
@@ -161,11 +161,11 @@ shaped s =
     ∷ eqb (length (s .store .headers)) dsmIds
     ∷ eqb (length (s .store .present)) dsmIds
     ∷ eqb (length (s .store .since)) dsmIds
-    ∷ eqb (length (s .publicKeys)) publicKeysLength
+    ∷ eqb (length (s .pubkeys)) pubkeysLength
     ∷ eqb (length (s .offer)) offerLength
     ∷ eqb (length (s .chain)) chainLength
     ∷ eqb (length (s .tesla .numbers)) numbersLength
-    ∷ eqb (length (s .tesla .key)) heldKeyLength
+    ∷ eqb (length (s .tesla .key)) heldkeyLength
     ∷ eqb (length (s .tesla .waiting)) waitingLength
     ∷ eqb (length (s .auth .sets)) setsLength
     ∷ eqb (length (s .auth .arrivals)) satellites

@@ -11,7 +11,7 @@ use Rattle.rules.specs.Gather.{statusOf, cidOf}
 use Rattle.rules.specs.PublicKeys.{withoutLower}
 use Rattle.rules.specs.Kroot.{cidkrOf, nmackOf, hfOf, mfOf, ksOf, msOf, macltFieldOf, moOf, alphaOf, krootOf, rootSecondsOf, rootWeekOf, rootHourOf}
 use Rattle.rules.specs.Kroot.{offerWaits, offerId, offerMessage, offerSignature, noOffer, chainContents, inForce, everForced}
-use Rattle.rules.specs.State.{State, Tesla, waitingCount, withPublicKeys, withOffer, withChain, withTesla}
+use Rattle.rules.specs.State.{State, Tesla, waitingCount, withPubkeys, withOffer, withChain, withTesla}
 use Rattle.rules.specs.Tags.{entryAt, entryTag}
 use Rattle.rules.specs.Times.{keySeconds}
 
@@ -127,16 +127,16 @@ tagsDropped t = record { numbers = set (t .numbers) 1 0; key = t .key; waiting =
 -- ---- the effect of a verdict that is past 14
 
 abbrev pub trusting : State → List ℕ → List ℕ → Tesla → State
-trusting s publicKeys chain tesla = withTesla (withChain (withOffer (withPublicKeys s publicKeys) noOffer) chain) tesla
+trusting s pubkeys chain tesla = withTesla (withChain (withOffer (withPubkeys s pubkeys) noOffer) chain) tesla
 
 -- "A good one answered 0 also ends the wait."
 unfoldable pub vouched : State → Verdict → State
 vouched s v =
     let header = messageHeader (v .message) in
     let c = messageContents (v .message) in
-    let lower = withoutLower (s .publicKeys) (v .id) in
+    let lower = withoutLower (s .pubkeys) (v .id) in
     cond (eqb (statusOf header) 3)
-    (trusting s (s .publicKeys) (set (s .chain) 0 2) (tagsDropped (s .tesla)))
+    (trusting s (s .pubkeys) (set (s .chain) 0 2) (tagsDropped (s .tesla)))
     (cond (sameContents s c)
     (trusting s lower (s .chain) (s .tesla))
     (trusting s lower (1 ∷ c) (rootHeld s c)))
@@ -144,4 +144,4 @@ vouched s v =
 -- 14 leaves all as before; 15, 11 and 9 drop the waiting message
 unfoldable pub judgedVerdict : State → Verdict → ℕ → State
 judgedVerdict s v code =
-    unless code (vouched s v) (cond (eqb code 14) s (trusting s (s .publicKeys) (s .chain) (s .tesla)))
+    unless code (vouched s v) (cond (eqb code 14) s (trusting s (s .pubkeys) (s .chain) (s .tesla)))

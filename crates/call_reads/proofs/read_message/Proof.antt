@@ -14,7 +14,7 @@ use Rattle.call_reads.proofs.read_message.Tie as tie
 -- the state of the sixteen lent regions
 abbrev whole : tie.Start → State
 whole c =
-    state (now (c .args .config)) (now (c .args .clocks)) (now (c .args .words)) (now (c .args .stamps)) (now (c .args .blocks)) (now (c .args .headers)) (now (c .args .present)) (now (c .args .since)) (now (c .args .public-keys)) (now (c .args .offer)) (now (c .args .chain)) (now (c .args .numbers)) (now (c .args .held-key)) (now (c .args .waiting)) (now (c .args .sets)) (now (c .args .arrivals))
+    state (now (c .args .config)) (now (c .args .clocks)) (now (c .args .words)) (now (c .args .stamps)) (now (c .args .blocks)) (now (c .args .headers)) (now (c .args .present)) (now (c .args .since)) (now (c .args .pubkeys)) (now (c .args .offer)) (now (c .args .chain)) (now (c .args .numbers)) (now (c .args .heldkey)) (now (c .args .waiting)) (now (c .args .sets)) (now (c .args .arrivals))
 
 abbrev start : tie.After-shaped → tie.Start
 start c = c .before .before .before .before .before .before .before .before .before .before .before .before .before .before .before .before .before .before .before .before
@@ -29,31 +29,31 @@ fits c = shaped-is (c .before) ∙ not-false _ (c .if1 .left)
 returns : tie.Need-returns
 returns c =
     let g = start (c .before) in
-    offer-unshaped (whole g) (now (g .args .message)) (now (g .args .signature)) (now (g .args .public-key)) (shaped-is (c .before) ∙ not-true _ (c .if1 .taken))
+    offer-unshaped (whole g) (now (g .args .message)) (now (g .args .signature)) (now (g .args .pubkey)) (shaped-is (c .before) ∙ not-true _ (c .if1 .taken))
 
 returns-2 : tie.Need-returns-2
 returns-2 c =
     let g = start (c .before .before) in
-    message-misfit (whole g) (now (g .args .message)) (now (g .args .signature)) (now (g .args .public-key)) (fits (c .before)) (c .if2 .taken)
+    message-misfit (whole g) (now (g .args .message)) (now (g .args .signature)) (now (g .args .pubkey)) (fits (c .before)) (c .if2 .taken)
 
 returns-3 : tie.Need-returns-3
 returns-3 c =
     let i = c .before .before in
     let g = start (i .before) in
-    signature-misfit (whole g) (now (g .args .message)) (now (g .args .signature)) (now (g .args .public-key)) (fits i) (c .before .if2 .left) (c .if3 .taken)
+    signature-misfit (whole g) (now (g .args .message)) (now (g .args .signature)) (now (g .args .pubkey)) (fits i) (c .before .if2 .left) (c .if3 .taken)
 
 returns-4 : tie.Need-returns-4
 returns-4 c =
     let i = c .before .before .before in
     let g = start (i .before) in
-    key-misfit (whole g) (now (g .args .message)) (now (g .args .signature)) (now (g .args .public-key)) (fits i) (c .before .before .if2 .left) (c .before .if3 .left) (c .if4 .taken)
+    key-misfit (whole g) (now (g .args .message)) (now (g .args .signature)) (now (g .args .pubkey)) (fits i) (c .before .before .if2 .left) (c .before .if3 .left) (c .if4 .taken)
 
 take-message-requires : tie.Need-take-message-requires
 take-message-requires c κs =
     let k = c .before .before .before .before .before in
     let i = k .before .before .before in
     let l = lengths (whole (start (i .before))) (fits i) in
-    ((l .publicKeys, l .offer), ((k .before .before .if2 .left, (k .before .if3 .left, k .if4 .left)), (refl, refl)))
+    ((l .pubkeys, l .offer), ((k .before .before .if2 .left, (k .before .if3 .left, k .if4 .left)), (refl, refl)))
 
 returns-5 : tie.Need-returns-5
 returns-5 c =
@@ -61,7 +61,7 @@ returns-5 c =
     let i = k .before .before .before in
     let g = start (i .before) in
     c .before .before .before .before .before .before .take-message .ensures (whole g) refl refl
-    (offer-lengths (whole g) (now (g .args .message)) (now (g .args .signature)) (now (g .args .public-key)) (fits i) (k .before .before .if2 .left) (k .before .if3 .left) (k .if4 .left))
+    (offer-lengths (whole g) (now (g .args .message)) (now (g .args .signature)) (now (g .args .pubkey)) (fits i) (k .before .before .if2 .left) (k .before .if3 .left) (k .if4 .left))
 
 pub read-message-spec : {M : Type 1} → statement M
 read-message-spec =

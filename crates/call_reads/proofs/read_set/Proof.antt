@@ -14,7 +14,7 @@ use Rattle.call_reads.proofs.read_set.Tie as tie
 -- the state of the sixteen lent regions
 abbrev whole : tie.Start → State
 whole c =
-    state (now (c .args .config)) (now (c .args .clocks)) (now (c .args .words)) (now (c .args .stamps)) (now (c .args .blocks)) (now (c .args .headers)) (now (c .args .present)) (now (c .args .since)) (now (c .args .public-keys)) (now (c .args .offer)) (now (c .args .chain)) (now (c .args .numbers)) (now (c .args .held-key)) (now (c .args .waiting)) (now (c .args .sets)) (now (c .args .arrivals))
+    state (now (c .args .config)) (now (c .args .clocks)) (now (c .args .words)) (now (c .args .stamps)) (now (c .args .blocks)) (now (c .args .headers)) (now (c .args .present)) (now (c .args .since)) (now (c .args .pubkeys)) (now (c .args .offer)) (now (c .args .chain)) (now (c .args .numbers)) (now (c .args .heldkey)) (now (c .args .waiting)) (now (c .args .sets)) (now (c .args .arrivals))
 
 abbrev start : tie.After-shaped → tie.Start
 start c = c .before .before .before .before .before .before .before .before .before .before .before .before .before .before .before .before .before .before

@@ -17,7 +17,7 @@ returns c =
     let g = p .args in
     λ s ek eo e.
     rw (p .pre .1 .1 .0, p .pre .1 .1 .1)
-    (offer-missing s (now (g .message)) (now (g .signature)) (now (g .public-key)) (now (g .public-keys)) (now (g .offer)) ek eo e (c .if1 .taken))
+    (offer-missing s (now (g .message)) (now (g .signature)) (now (g .pubkey)) (now (g .pubkeys)) (now (g .offer)) ek eo e (c .if1 .taken))
 
 -- the lent bytes are those of the region
 returns-2 : tie.Need-returns-2
@@ -30,7 +30,7 @@ returns-2 c =
     let lm = length-part (now (g .offer)) 2 45 (omega arith) in
     let ln = length-part (now (g .offer)) 47 132 (omega arith) in
     λ s ek eo e.
-    offer-found s (now (g .message)) (now (g .signature)) (now (g .public-key)) (now (g .public-keys)) (now (g .offer)) ek eo e
+    offer-found s (now (g .message)) (now (g .signature)) (now (g .pubkey)) (now (g .pubkeys)) (now (g .offer)) ek eo e
     (c .before .before .before .before .before .before .before .before .before .before .before .before .before .before .if1 .left)
     (c .before .before .before .before .before .before .before .before .before .before .before .copy-part .last .0)
     (c .before .before .before .before .before .before .before .copy-part2 .last .0)

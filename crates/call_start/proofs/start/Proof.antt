@@ -15,12 +15,12 @@ use Rattle.call_start.proofs.start.Tie as tie
 -- the state of the sixteen lent regions
 abbrev whole : tie.Start → State
 whole c =
-    state (now (c .args .config)) (now (c .args .clocks)) (now (c .args .words)) (now (c .args .stamps)) (now (c .args .blocks)) (now (c .args .headers)) (now (c .args .present)) (now (c .args .since)) (now (c .args .public-keys)) (now (c .args .offer)) (now (c .args .chain)) (now (c .args .numbers)) (now (c .args .held-key)) (now (c .args .waiting)) (now (c .args .sets)) (now (c .args .arrivals))
+    state (now (c .args .config)) (now (c .args .clocks)) (now (c .args .words)) (now (c .args .stamps)) (now (c .args .blocks)) (now (c .args .headers)) (now (c .args .present)) (now (c .args .since)) (now (c .args .pubkeys)) (now (c .args .offer)) (now (c .args .chain)) (now (c .args .numbers)) (now (c .args .heldkey)) (now (c .args .waiting)) (now (c .args .sets)) (now (c .args .arrivals))
 
 -- the settings that are lent
 abbrev given : tie.Start → S.Start
 given c =
-    record { ns = c .args .ns; id = c .args .id; type = c .args .kind; maclt = c .args .maclt; marks = now (c .args .marks); root = now (c .args .root); key = now (c .args .public-key) }
+    record { ns = c .args .ns; id = c .args .id; type = c .args .kind; maclt = c .args .maclt; marks = now (c .args .marks); root = now (c .args .root); key = now (c .args .pubkey) }
 
 abbrev begin : tie.After-start-refusal → tie.Start
 begin c = c .before .before .before .before .before .before .before .before .before .before .before .before .before .before .before .before .before .before .before .before .before .before .before .before .before .before .before .before .before .before .before .before .before .before .before .before
@@ -47,7 +47,7 @@ take-key-requires c κs =
     let i = c .before .before .before .before .before .before .before .before .before .before .before .before .before .before .before .before .before .before .before .before .before .before .before .before .before .before .before .before .before .before .before .before .before in
     let l = long i in
     let m = i .before .start-refusal .ensures .1 (i .if1 .left) .1 in
-    ((l .publicKeys, (l .offer, l .chain)), ((l .numbers, (l .heldKey, l .waiting)), ((l .sets, l .arrivals), (m .0 .1 .1, m .1))))
+    ((l .pubkeys, (l .offer, l .chain)), ((l .numbers, (l .heldkey, l .waiting)), ((l .sets, l .arrivals), (m .0 .1 .1, m .1))))
 
 returns-2 : tie.Need-returns-2
 returns-2 c =

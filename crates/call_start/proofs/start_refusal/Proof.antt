@@ -16,12 +16,12 @@ use Rattle.call_start.proofs.start_refusal.Tie as tie
 -- the state of the sixteen lent regions
 abbrev whole : tie.Start → State
 whole c =
-    state (now (c .args .config)) (now (c .args .clocks)) (now (c .args .words)) (now (c .args .stamps)) (now (c .args .blocks)) (now (c .args .headers)) (now (c .args .present)) (now (c .args .since)) (now (c .args .public-keys)) (now (c .args .offer)) (now (c .args .chain)) (now (c .args .numbers)) (now (c .args .held-key)) (now (c .args .waiting)) (now (c .args .sets)) (now (c .args .arrivals))
+    state (now (c .args .config)) (now (c .args .clocks)) (now (c .args .words)) (now (c .args .stamps)) (now (c .args .blocks)) (now (c .args .headers)) (now (c .args .present)) (now (c .args .since)) (now (c .args .pubkeys)) (now (c .args .offer)) (now (c .args .chain)) (now (c .args .numbers)) (now (c .args .heldkey)) (now (c .args .waiting)) (now (c .args .sets)) (now (c .args .arrivals))
 
 -- the settings that are lent
 abbrev given : tie.Start → ℕ → S.Start
 given c maclt =
-    record { ns = c .args .ns; id = c .args .id; type = c .args .kind; maclt = maclt; marks = now (c .args .marks); root = now (c .args .root); key = now (c .args .public-key) }
+    record { ns = c .args .ns; id = c .args .id; type = c .args .kind; maclt = maclt; marks = now (c .args .marks); root = now (c .args .root); key = now (c .args .pubkey) }
 
 abbrev start : tie.After-shaped → tie.Start
 start c = c .before .before .before .before .before .before .before .before .before .before .before .before .before .before .before .before .before .before .before .before
@@ -59,7 +59,7 @@ returns-5 c =
     let g = start (k .before .before .before .before) in (
       λ m.
           settings-unfit (whole g) (given g m) (fits (k .before .before .before)) (k .before .before .if2 .left) (k .before .if3 .left) (k .if4 .left)
-          (sym (c .before .start-unfit .ensures .0 m (now (g .args .root)) (now (g .args .public-key))) ∙ c .if5 .taken),
+          (sym (c .before .start-unfit .ensures .0 m (now (g .args .root)) (now (g .args .pubkey))) ∙ c .if5 .taken),
       λ z. absurd (omega (arith, z)),
     )
 
@@ -69,7 +69,7 @@ returns-6 c =
     let g = start (k .before .before .before .before) in (
       λ m.
           settings-fit (whole g) (given g m) (fits (k .before .before .before)) (k .before .before .if2 .left) (k .before .if3 .left) (k .if4 .left)
-          (sym (c .before .start-unfit .ensures .0 m (now (g .args .root)) (now (g .args .public-key))) ∙ c .if5 .left),
+          (sym (c .before .start-unfit .ensures .0 m (now (g .args .root)) (now (g .args .pubkey))) ∙ c .if5 .left),
       λ _. (fits (k .before .before .before), ((k .before .before .if2 .left, (k .before .if3 .left, k .if4 .left)), c .before .start-unfit .ensures .1 (c .if5 .left))),
     )
 

@@ -10,7 +10,7 @@ returns c =
     let p = c .before .before .before .before .before .before .before .before .before .before .before in
     let k = c .before .before .before .before .before .before .fill in
     let w = c .before .before .fill2 in
-    tags-clear (now (p .args .numbers)) (now (p .args .held-key)) (k .last .0) (now (p .args .waiting)) (w .last .0) (p .pre .0) (p .pre .1 .0) (p .pre .1 .1) (k .ensures) (w .ensures)
+    tags-clear (now (p .args .numbers)) (now (p .args .heldkey)) (k .last .0) (now (p .args .waiting)) (w .last .0) (p .pre .0) (p .pre .1 .0) (p .pre .1 .1) (k .ensures) (w .ensures)
 
 pub clear-tags-spec : {M : Type 1} → statement M
 clear-tags-spec =

@@ -27,8 +27,8 @@ returns c =
     let p = c .before .before .before .before .before .before .before .before .before .before .before .before in
     let f = c .before .before .before .before .before .before .before .before .fill in
     let n = c .before .before .before .before .before .key-length in
-    key-held (f .last .0) (c .before .before .add-key .last .0) (now (p .args .public-key)) (p .args .id) (p .args .kind) (n .result)
-    (cleared (now (p .args .public-keys)) (f .last .0) 1088 (p .pre .0 .0) (f .ensures))
+    key-held (f .last .0) (c .before .before .add-key .last .0) (now (p .args .pubkey)) (p .args .id) (p .args .kind) (n .result)
+    (cleared (now (p .args .pubkeys)) (f .last .0) 1088 (p .pre .0 .0) (f .ensures))
     (n .ensures)
     (c .before .before .add-key .ensures)
 

@@ -23,7 +23,7 @@ verdict c =
 -- the state with the lent regions
 abbrev lent : tie.Start → State → State
 lent c s =
-    trusted s (now (c .args .public-keys)) (now (c .args .offer)) (now (c .args .chain)) (tesla (now (c .args .numbers)) (now (c .args .held-key)) (now (c .args .waiting)))
+    trusted s (now (c .args .pubkeys)) (now (c .args .offer)) (now (c .args .chain)) (tesla (now (c .args .numbers)) (now (c .args .heldkey)) (now (c .args .waiting)))
 
 returns : tie.Need-returns
 returns c =

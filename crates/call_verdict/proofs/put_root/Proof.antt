@@ -29,7 +29,7 @@ returns c =
     let g = c .before .before .before .before .before .before .before .before .before .before .before .before .args in
     let w = c .before .before .before .before .before .before .before .before in
     rw (c .before .before .fill .ensures, c .before .before .before .before .before .before .copy-part .ensures)
-    (root-written (now (g .held-key)) (now (g .c)) (w .key-width .result) (omega arith) (omega arith) (w .key-width .ensures ∙ ap keyWidth (w .before .ks .ensures)))
+    (root-written (now (g .heldkey)) (now (g .c)) (w .key-width .result) (omega arith) (omega arith) (w .key-width .ensures ∙ ap keyWidth (w .before .ks .ensures)))
 
 pub put-root-spec : {M : Type 1} → statement M
 put-root-spec =

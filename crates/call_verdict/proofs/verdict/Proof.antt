@@ -20,7 +20,7 @@ verdict c =
 -- the state of the sixteen lent regions
 abbrev whole : tie.Start → State
 whole c =
-    state (now (c .args .config)) (now (c .args .clocks)) (now (c .args .words)) (now (c .args .stamps)) (now (c .args .blocks)) (now (c .args .headers)) (now (c .args .present)) (now (c .args .since)) (now (c .args .public-keys)) (now (c .args .offer)) (now (c .args .chain)) (now (c .args .numbers)) (now (c .args .held-key)) (now (c .args .waiting)) (now (c .args .sets)) (now (c .args .arrivals))
+    state (now (c .args .config)) (now (c .args .clocks)) (now (c .args .words)) (now (c .args .stamps)) (now (c .args .blocks)) (now (c .args .headers)) (now (c .args .present)) (now (c .args .since)) (now (c .args .pubkeys)) (now (c .args .offer)) (now (c .args .chain)) (now (c .args .numbers)) (now (c .args .heldkey)) (now (c .args .waiting)) (now (c .args .sets)) (now (c .args .arrivals))
 
 abbrev start : tie.After-shaped → tie.Start
 start c = c .before .before .before .before .before .before .before .before .before .before .before .before .before .before .before .before .before .before .before .before .before .before .before .before .before
@@ -51,7 +51,7 @@ judge-verdict-requires : tie.Need-judge-verdict-requires
 judge-verdict-requires c κs =
     let i = c .before .before .before .before .before .before .before .before in
     let h = lengths (whole (start (i .before))) (fits i) in
-    (((h .config, h .publicKeys), (h .offer, h .chain)), ((h .numbers, h .heldKey), (h .waiting, c .before .before .before .before .before .before .before .if2 .left)))
+    (((h .config, h .pubkeys), (h .offer, h .chain)), ((h .numbers, h .heldkey), (h .waiting, c .before .before .before .before .before .before .before .if2 .left)))
 
 returns-4 : tie.Need-returns-4
 returns-4 c =

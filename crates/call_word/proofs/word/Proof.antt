@@ -25,7 +25,7 @@ returns-3 : tie.Need-returns-3
 returns-3 c = let g = c .before .before .before .before .before .before .before .before .before .before .before .before .before .before .before .before .before .before .before .before .before .before .before .before .before .before .before .before .before .before .before .before .before .before .args in
     rw (← (c .before .before .before .before .before .before .before .index .ensures .0))
     (c .before .before .before .before .before .before .take-word .ensures
-    (state (now (g .config)) (now (g .clocks)) (now (g .words)) (now (g .stamps)) (now (g .blocks)) (now (g .headers)) (now (g .present)) (now (g .since)) (now (g .public-keys)) (now (g .offer)) (now (g .chain)) (now (g .numbers)) (now (g .held-key)) (now (g .waiting)) (now (g .sets)) (now (g .arrivals)))
+    (state (now (g .config)) (now (g .clocks)) (now (g .words)) (now (g .stamps)) (now (g .blocks)) (now (g .headers)) (now (g .present)) (now (g .since)) (now (g .pubkeys)) (now (g .offer)) (now (g .chain)) (now (g .numbers)) (now (g .heldkey)) (now (g .waiting)) (now (g .sets)) (now (g .arrivals)))
     refl
     refl
     refl

@@ -17,10 +17,10 @@ use Rattle.kroot.proofs.Judged.{no-key, bad-parameters, wrong-size, tak
 use Rattle.kroot.proofs.kroot_judge.Statement.{statement}
 use Rattle.kroot.proofs.kroot_judge.Tie as tie
 
-held-is : (c : tie.After-key-held) → keyHeld (now (c .before .before .before .before .before .args .public-keys)) (S.pkidOf (now (c .before .before .before .before .before .args .d))) ≡ c .key-held .result
+held-is : (c : tie.After-key-held) → keyHeld (now (c .before .before .before .before .before .args .pubkeys)) (S.pkidOf (now (c .before .before .before .before .before .args .d))) ≡ c .key-held .result
 held-is c = rw (← (c .before .pkid .ensures)) (sym (c .key-held .ensures))
 
-held : (c : tie.Else1) → keyHeld (now (c .before .before .before .before .before .before .args .public-keys)) (S.pkidOf (now (c .before .before .before .before .before .before .args .d))) ≡ true
+held : (c : tie.Else1) → keyHeld (now (c .before .before .before .before .before .before .args .pubkeys)) (S.pkidOf (now (c .before .before .before .before .before .before .args .d))) ≡ true
 held c = held-is (c .before) ∙ not-false _ (c .if1 .left)
 
 bad-is : (c : tie.After-parameters-bad)
@@ -35,11 +35,11 @@ unfolding S.contentsOf part
 width-is c = c .key-width .ensures ∙ ap S.keyWidth (c .before .ks .ensures)
 
 signed-is : (c : tie.After-signature-length)
-    → c .signature-length .result ≡ signatureLength (keyType (now (c .before .before .before .before .before .before .before .before .before .before .before .before .before .before .args .public-keys)) (S.pkidOf (now (c .before .before .before .before .before .before .before .before .before .before .before .before .before .before .args .d))))
+    → c .signature-length .result ≡ signatureLength (keyType (now (c .before .before .before .before .before .before .before .before .before .before .before .before .before .before .args .pubkeys)) (S.pkidOf (now (c .before .before .before .before .before .before .before .before .before .before .before .before .before .before .args .d))))
 signed-is c =
     let p = c .before .before .before .before .before .before .before .before .before .before in
-    let publicKeys = now (p .before .before .before .before .args .public-keys) in
-    c .signature-length .ensures ∙ ap signatureLength (c .before .key-type .ensures ∙ ap (λ (i : ℕ). keyType public-keys i) (p .pkid .ensures))
+    let pubkeys = now (p .before .before .before .before .args .pubkeys) in
+    c .signature-length .ensures ∙ ap signatureLength (c .before .key-type .ensures ∙ ap (λ (i : ℕ). keyType pubkeys i) (p .pkid .ensures))
 
 -- the widths are in range
 bounds : (c : tie.After-signature-length) → (c .before .before .key-width .result ≤ 32) × (c .signature-length .result ≤ 132)
@@ -47,7 +47,7 @@ bounds c =
     (omega (arith, c .before .before .key-width .ensures, width-bound (c .before .before .before .ks .result)), omega (arith, c .signature-length .ensures, signature-bound (c .before .key-type .result)))
 
 size-is : (c : tie.After-least-blocks)
-    → 13 * c .least-blocks .result ≡ 13 * S.krootBlocks (S.keyWidth (S.ksOf (S.contentsOf (now (c .before .before .before .before .before .before .before .before .before .before .before .before .before .before .before .args .d))))) (keyType (now (c .before .before .before .before .before .before .before .before .before .before .before .before .before .before .before .args .public-keys)) (S.pkidOf (now (c .before .before .before .before .before .before .before .before .before .before .before .before .before .before .before .args .d))))
+    → 13 * c .least-blocks .result ≡ 13 * S.krootBlocks (S.keyWidth (S.ksOf (S.contentsOf (now (c .before .before .before .before .before .before .before .before .before .before .before .before .before .before .before .args .d))))) (keyType (now (c .before .before .before .before .before .before .before .before .before .before .before .before .before .before .before .args .pubkeys)) (S.pkidOf (now (c .before .before .before .before .before .before .before .before .before .before .before .before .before .before .before .args .d))))
 unfolding S.krootBlocks
 size-is c = rw (c .least-blocks .ensures, signed-is (c .before), width-is (c .before .before .before))
 

@@ -18,7 +18,7 @@ use Rattle.pkr.proofs.renew.Statement.{statement}
 use Rattle.pkr.proofs.renew.Tie as tie
 
 same-is : (c : tie.After-same-key)
-    → K.sameKey (now (c .before .before .before .before .before .before .before .before .args .public-keys)) (S.newIdOf (now (c .before .before .before .before .before .before .before .before .args .d))) (S.newTypeOf (now (c .before .before .before .before .before .before .before .before .args .d))) (S.newKeyOf (now (c .before .before .before .before .before .before .before .before .args .d))) ≡ c .same-key .result
+    → K.sameKey (now (c .before .before .before .before .before .before .before .before .args .pubkeys)) (S.newIdOf (now (c .before .before .before .before .before .before .before .before .args .d))) (S.newTypeOf (now (c .before .before .before .before .before .before .before .before .args .d))) (S.newKeyOf (now (c .before .before .before .before .before .before .before .before .args .d))) ≡ c .same-key .result
 unfolding S.newKeyOf
 same-is c =
     let k = c .before .before .before in
@@ -26,7 +26,7 @@ same-is c =
     sym (c .same-key .ensures ∙ rw (range-part (now (i .before .before .before .args .d)) 130 (k .key-length .result), k .key-length .ensures, k .before .new-type .ensures, i .new-id .ensures))
 
 above-is : (c : tie.After-above-all)
-    → K.aboveAll (now (c .before .before .before .before .before .before .before .before .before .before .before .args .public-keys)) (S.newIdOf (now (c .before .before .before .before .before .before .before .before .before .before .before .args .d))) ≡ c .above-all .result
+    → K.aboveAll (now (c .before .before .before .before .before .before .before .before .before .before .before .args .pubkeys)) (S.newIdOf (now (c .before .before .before .before .before .before .before .before .before .before .before .args .d))) ≡ c .above-all .result
 above-is c = rw (← (c .before .before .before .before .before .before .before .before .new-id .ensures)) (sym (c .above-all .ensures))
 
 facts : (c : tie.After-key-length)

@@ -12,10 +12,10 @@ use Rattle.public_keys.proofs.above_all.Statement.{statement}
 use Rattle.public_keys.proofs.above_all.Tie as tie
 
 abbrev Inv-loop : tie.InvT-loop
-Inv-loop public-keys id n₀ n = (n ≤ 16 - id) × (S.heldAmong public-keys id n ≡ false)
+Inv-loop pubkeys id n₀ n = (n ≤ 16 - id) × (S.heldAmong pubkeys id n ≡ false)
 
 abbrev μ-loop : tie.MeasureT-loop
-μ-loop public-keys id n₀ n = 16 - id - n
+μ-loop pubkeys id n₀ n = 16 - id - n
 
 loop-holds : tie.Need-loop-holds Inv-loop μ-loop
 unfolding S.heldAmong
@@ -26,13 +26,13 @@ unfolding S.aboveAll
 returns c =
     let g = c .before .before .before .before .before .args in
     let l = c .before .before .before .loop in
-    rw (held-among (now (g .public-keys)) (g .id) (l .n) (16 - g .id) (omega arith) (sym (c .before .key-held .ensures) ∙ c .if1 .taken))
+    rw (held-among (now (g .pubkeys)) (g .id) (l .n) (16 - g .id) (omega arith) (sym (c .before .key-held .ensures) ∙ c .if1 .taken))
 
 loop-again : tie.Need-loop-again Inv-loop μ-loop
 loop-again c =
     let g = c .before .before .before .before .before .args in
     let l = c .before .before .before .loop in
-    (omega arith, held-more (now (g .public-keys)) (g .id) (l .n) (l .inv .1) (sym (c .before .key-held .ensures) ∙ c .if1 .left))
+    (omega arith, held-more (now (g .pubkeys)) (g .id) (l .n) (l .inv .1) (sym (c .before .key-held .ensures) ∙ c .if1 .left))
 
 returns-2 : tie.Need-returns-2 Inv-loop μ-loop
 unfolding S.aboveAll

@@ -25,7 +25,7 @@ returns c =
     let g = c .before .before .before .before .before .before .before .before .args in
     let f = c .before .before .before .before .before in
     c .before .before .copy-at .ensures
-    ∙ splice-cons (now (g .public-keys)) (g .id * 68) (g .kind + 1) (f .filled-key .result) (omega (arith, long f))
+    ∙ splice-cons (now (g .pubkeys)) (g .id * 68) (g .kind + 1) (f .filled-key .result) (omega (arith, long f))
     ∙ rw (f .filled-key .ensures)
 
 pub add-key-spec : {M : Type 1} → statement M

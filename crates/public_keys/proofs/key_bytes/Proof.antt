@@ -15,7 +15,7 @@ unfolding S.keyBytes
 returns c =
     let g = c .before .before .before .before .before .before .args in
     c .before .before .copy-part .ensures
-    ∙ splice-whole (now (g .out)) _ (length-part (now (g .public-keys)) (g .id * 68 + 1) 67 (omega arith) ∙ omega arith)
+    ∙ splice-whole (now (g .out)) _ (length-part (now (g .pubkeys)) (g .id * 68 + 1) 67 (omega arith) ∙ omega arith)
 
 pub key-bytes-spec : {M : Type 1} → statement M
 key-bytes-spec =

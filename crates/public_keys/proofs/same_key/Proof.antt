@@ -29,8 +29,8 @@ returns-3 c =
     let h = t .before .before in
     let g = h .before .before .before .before .args in
     c .equal .ensures
-    ∙ rw (range-part (now (g .public-keys)) (g .id * 68 + 1) 67, f .filled-key .ensures)
-    (same-key-bytes (now (g .public-keys)) (g .id) (g .kind) (now (g .key)) (sym (h .before .key-held .ensures) ∙ not-false _ (h .if1 .left)) (sym (t .before .key-type .ensures) ∙ t .if2 .left))
+    ∙ rw (range-part (now (g .pubkeys)) (g .id * 68 + 1) 67, f .filled-key .ensures)
+    (same-key-bytes (now (g .pubkeys)) (g .id) (g .kind) (now (g .key)) (sym (h .before .key-held .ensures) ∙ not-false _ (h .if1 .left)) (sym (t .before .key-type .ensures) ∙ t .if2 .left))
 
 pub same-key-spec : {M : Type 1} → statement M
 same-key-spec =
