@@ -116,7 +116,7 @@ macro_rules! lend {
     };
 }
 
-/// The calls that write give document 01's number.
+/// The calls that write give document 01's number, but for a sub-frame, which has two.
 impl Lent<'_> {
     /// `marks` are those of second 0, then those of second 30.
     #[allow(clippy::too_many_arguments)]
@@ -161,6 +161,34 @@ impl Lent<'_> {
                 time,
                 word.as_ptr(),
                 word.len()
+            )
+        }
+    }
+
+    /// The authentication fields of a sub-frame: the count of tag records in `area`, and the numbers
+    /// of both halves.
+    pub fn subframe(
+        &mut self,
+        area: &mut [u8],
+        prn: u8,
+        time: u32,
+        fields: &[u8],
+        hkroot: &mut u32,
+        mack: &mut u32,
+    ) -> u32 {
+        // SAFETY: as above.
+        unsafe {
+            lend!(
+                osnma_regions_subframe,
+                self.as_mut_ptr,
+                area.as_mut_ptr(),
+                area.len(),
+                prn,
+                time,
+                fields.as_ptr(),
+                fields.len(),
+                hkroot,
+                mack
             )
         }
     }

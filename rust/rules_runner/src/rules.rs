@@ -310,6 +310,11 @@ impl Run<'_> {
         }
     }
 
+    /// The area of tag records that is lent to sub-frames, with any length and contents.
+    pub fn lend_area(&mut self, area: &[u8]) {
+        self.area = list(area);
+    }
+
     /// The lent area of tag records as the last sub-frame left it.
     pub fn area(&self) -> Vec<u8> {
         bytes(&self.area)

@@ -7,6 +7,7 @@
 //! start leaves zeros in all of them.
 
 use osnma::regions::Regions;
+use second_receiver::gather::Hkroot;
 use second_receiver::tags::WaitingTag;
 use second_receiver::times::Gst;
 use second_receiver::Receiver;
@@ -36,6 +37,32 @@ fn entry(waiting: &WaitingTag) -> [u8; ENTRY] {
     entry[10..15].copy_from_slice(&tag.bits.to_be_bytes()[3..]);
     entry[15..].copy_from_slice(&waiting.set.0);
     entry
+}
+
+/// The block of a sub-frame, if it is one that is stored. The second receiver takes a complete message
+/// out whole; the region keeps the bytes of its blocks, of the one that completed it too.
+pub struct Block(Option<Hkroot>);
+
+impl Block {
+    /// The receiver is as it was before the sub-frame.
+    pub fn of(fields: &[u8; 75], time: u32, receiver: &Receiver) -> Block {
+        let new = Hkroot::read(&std::array::from_fn(|at| fields[5 * at]));
+        let stored = receiver.dsm(new.dsm_id).is_some_and(|store| {
+            let age_is_known = receiver
+                .last_subframe()
+                .is_none_or(|last| last <= Gst(time));
+            age_is_known && store.clone().add(&new, Gst(time)).is_ok()
+        });
+        Block(stored.then_some(new))
+    }
+
+    /// The sub-frame is past check 5.
+    pub fn write(&self, regions: &mut Regions) {
+        if let Some(new) = &self.0 {
+            let place = 208 * usize::from(new.dsm_id) + 13 * usize::from(new.block_id);
+            regions.blocks[place..place + 13].copy_from_slice(&new.block);
+        }
+    }
 }
 
 /// Writes all that the receiver knows; the rest of `regions` stays. The receiver is started.
