@@ -50,19 +50,24 @@ module _ (s : State) (area : List ℕ) (x : Subframe) where
   times-twelve : (n k : ℕ) → n ≡ k * 12 → k ≡ n / 12
   times-twelve n k e = omega arith
 
-  pub goes-on : (a : Half) (s' s'' : State) (n count : ℕ) (area′ : List ℕ) → done a s' ≡ hkrootHalf s (x .time) (hkrootOf (x .bytes) 15) → a .stops ≡ false
-      → Gives (mackHalf s' (x .prn) (x .time) (headerOf (hkrootOf (x .bytes) 15)) (mackOf (x .bytes) 15)) n count s'' area area′
+  pub goes-on : (a : Half) (s' s'' : State) (n count header : ℕ) (mack area′ : List ℕ) → done a s' ≡ hkrootHalf s (x .time) (hkrootOf (x .bytes) 15) → a .stops ≡ false
+      → header ≡ headerOf (hkrootOf (x .bytes) 15) → mack ≡ mackOf (x .bytes) 15 → Gives (mackHalf s' (x .prn) (x .time) header mack) n count s'' area area′
       → subframeTold (a .code) n count s'' area′ ≡ halvesDone s area x
   unfolding halvesDone
-  goes-on a s' s'' n count area′ e f g =
+  goes-on a s' s'' n count header mack area′ e f eh em g =
       let m = mackHalf s' (x .prn) (x .time) (headerOf (hkrootOf (x .bytes) 15)) (mackOf (x .bytes) 15) in
-      rw (← e, f) (told-by (a .code) m n count s'' area′ g)
+      rw (← e, f) (told-by (a .code) m n count s'' area′ (rw (eh, em) at g))
     where
       told-by : (c : ℕ) (m : MackDone) (n count : ℕ) (s'' : State) (area′ : List ℕ) → Gives m n count s'' area area′
           → subframeTold c n count s'' area′ ≡ record { hkroot = c; mack = m .code; count = length (m .records) / 12; state = m .state; area = splice area 0 (m .records) }
       told-by c m n count s'' area′ g = rw (g .code-is, g .state-is, g .area-is, ← (times-twelve (length (m .records)) count (g .count-is)))
 
 -- ---- the checks by their cases
+
+-- a wrong length
+pub unshaped : (s : State) (area : List ℕ) (x : Subframe) → (shaped s && (eqb (length area) 3240 && eqb (length (x .bytes)) 75)) ≡ false → subframeTold 1 1 0 s area ≡ subframeCall s area x
+unfolding subframeChecks
+unshaped s area x e = refused s area x 1 (λ z. absurd (omega (arith, z))) (λ z. absurd (omega (arith, z))) (rw e)
 
 module _ (s : State) (area : List ℕ) (x : Subframe) (e : (shaped s && (eqb (length area) 3240 && eqb (length (x .bytes)) 75)) ≡ true) where
   pub no-prn : prnValid (x .prn) ≡ false → 2 ≡ firstOf (subframeChecks s area x)

@@ -77,7 +77,7 @@ fn note(clocks: &mut [u32], prn: u8, time: u32)
 // ---- both halves
 
 // The HKROOT half, then the MACK half; a proved emergency message gives 0 and 4.
-fn halves(
+fn both_halves(
     config: &mut [u8],
     words: &[u8],
     stamps: &[u32],
@@ -176,6 +176,11 @@ pub fn take_subframe(
     let code = subframe_refusal(config, clocks, prn, time, bytes);
     if code == 5 {
         note(clocks, prn, time);
+        return Halves {
+            hkroot: 5,
+            mack: 5,
+            count: 0,
+        };
     }
     if code != 0 {
         return Halves {
@@ -185,7 +190,7 @@ pub fn take_subframe(
         };
     }
     note(clocks, prn, time);
-    halves(
+    both_halves(
         config,
         words,
         stamps,

@@ -10,8 +10,18 @@ use Rattle.mack_half.proofs.Sections.{two-numbers}
 use Rattle.mack_half.proofs.hold.Statement.{statement}
 use Rattle.mack_half.proofs.hold.Tie as tie
 
+-- a key by value has 32 bytes
+long : (c : tie.Start) → length (c .args .t5) ≡ 32
+long c = search needs
+
 returns : tie.Need-returns
-returns c = ?
+returns c =
+    let s = c .before .before .before .before .before .before .before in
+    let g = s .args in
+    (
+      two-numbers (now (g .numbers)) (g .slot) (g .kept) (s .pre .0),
+      c .before .before .copy-at .ensures ∙ splice-whole (now (g .heldkey)) (g .t5) (omega (arith, s .pre .1, long s)),
+    )
 
 pub hold-spec : {M : Type 1} → statement M
 hold-spec =

@@ -32,11 +32,39 @@ returns-3 c =
 
 returns-4 : tie.Need-returns-4
 unfolding chainContents part
-returns-4 c = ?
+returns-4 c =
+    let d = c .before .before in
+    let e3 = d .before .before in
+    let e2 = e3 .before in
+    let f = forced (e2 .before .before) in
+    let st = e2 .before .status-of .ensures in
+    (
+      λ s ec eh. other-cid s _ _ _ _ ec eh f (rw st at (e2 .if2 .left)) (rw st at (e3 .if3 .left)) (rw (d .cidkr .ensures, c .before .cid-of .ensures) at (c .if4 .taken)),
+      λ e. f,
+    )
 
 returns-5 : tie.Need-returns-5
 unfolding chainContents part
-returns-5 c = ?
+returns-5 c =
+    let e4 = c .before .before .before in
+    let d = e4 .before .before in
+    let e3 = d .before .before in
+    let e2 = e3 .before in
+    let f = forced (e2 .before .before) in
+    let st = e2 .before .status-of .ensures in
+    (
+      λ s ec eh.
+          rw (c .root-seconds .ensures, c .before .before .seconds-of .ensures)
+          (by-root s _ _ _ _ ec eh f (rw st at (e2 .if2 .left)) (rw st at (e3 .if3 .left)) (rw (d .cidkr .ensures, e4 .before .cid-of .ensures) at (e4 .if4 .left))),
+      λ e. f,
+    )
 
 pub section-unfit-spec : {M : Type 1} → statement M
-section-unfit-spec = ?
+section-unfit-spec =
+    tie.close
+    (tie.spec (λ c κs. search needs)
+    returns (λ c κs. search needs)
+    returns-2
+    returns-3 (λ c. search needs) (λ c. search needs) (λ c. search needs) (λ c κs. search needs) (λ c κs. search needs)
+    returns-4 (λ c κs. search needs) (λ c. search needs) (λ c. search needs) (λ c. search needs) (λ c κs. search needs)
+    returns-5)
