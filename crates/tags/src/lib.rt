@@ -15,7 +15,7 @@ ghost use Prim.Native.Nat.{_+_, _*_, _≤_, _<_};
 ghost use lib.ListN.{length};
 ghost use Rattle.laws.specs.Lists.{splice};
 ghost use Rattle.laws.specs.Refusal.{refuse, firstOf};
-ghost use Rattle.rules.specs.Answers.{outcomeNumber};
+ghost use Rattle.rules.specs.Outcomes.{outcomeNumber};
 ghost use Rattle.rules.specs.Mack.{fieldAt, fieldTag, fieldInfo, macseqOf};
 ghost use Rattle.rules.specs.State.{markOf};
 ghost use Rattle.rules.specs.Tags.{ownTag, secondHalf, notAllowed};
