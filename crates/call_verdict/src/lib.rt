@@ -114,7 +114,7 @@ fn end_wait(offer: &mut [u8])
     requires { ⌜ length (now offer) ≡ offerLength ⌝ }
     ensures { λ _. ⌜ now (offer .exit) ≡ noOffer ⌝ }
 {
-    buffer::fill(offer, 0, 179, 0);
+    buffer::fill(offer, 0, regions::OFFER_LENGTH, 0);
 }
 
 // Status 3 drops the chain and the waiting tags. Any other drops keys of lower ID and puts the root in force.
@@ -206,7 +206,7 @@ fn keep_tags(config: &[u8], chain: &[u8], waiting: &mut [u8], n: usize, c: &[u8]
     if !kroot::in_force(config, chain) {
         return 0;
     }
-    if !kroot::chain_unchanged(&chain[1..45], c) {
+    if !kroot::chain_unchanged(kroot::chain_contents(chain), c) {
         return 0;
     }
     waiting_tags::keep_staying(waiting, kroot::root_seconds(c), n)
@@ -219,5 +219,5 @@ fn put_root(heldkey: &mut [u8], c: &[u8])
 {
     let width = kroot::key_width(kroot::ks(c));
     buffer::copy_part(heldkey, 0, c, 12, width);
-    buffer::fill(heldkey, width, 32 - width, 0);
+    buffer::fill(heldkey, width, regions::HELDKEY_LENGTH - width, 0);
 }

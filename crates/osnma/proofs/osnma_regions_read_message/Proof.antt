@@ -50,5 +50,8 @@ osnma-regions-read-message-spec =
     tie.close
     (tie.spec (λ c κs. search needs)
     returns
-    read-message-requires (λ c. search needs) (λ c. search needs) (λ c. search needs)
+    read-message-requires
+    (λ c. c .before .before .before .before .before .before .read-message .kept .1 .1 .0)
+    (λ c. c .before .before .before .before .before .before .read-message .kept .1 .1 .1 .0)
+    (λ c. c .before .before .before .before .before .before .read-message .kept .1 .1 .1 .1 .0)
     returns-2)

@@ -50,5 +50,5 @@ osnma-regions-read-set-spec =
     tie.close
     (tie.spec (λ c κs. search needs)
     returns
-    read-set-requires (λ c. search needs)
+    read-set-requires (λ c. c .before .before .read-set .kept .1 .1 .1 .0)
     returns-2)

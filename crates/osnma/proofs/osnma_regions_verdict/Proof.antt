@@ -45,16 +45,25 @@ judge-verdict-requires c κs =
     let l = long-two (whole g) (now (g .args .message)) (now (g .args .signature)) 45 132 (fits i) in
     (((l .0 .config, l .0 .pubkeys), (l .0 .offer, l .0 .chain)), ((l .0 .numbers, l .0 .heldkey), (l .0 .waiting, l .1 .0)))
 
+abbrev judged : tie.After-slice-known12 → tie.After-judge-verdict
+judged c = c .before .before .before .before .before .before .before .before .before .before .before .before
+
 returns-2 : tie.Need-returns-2
 returns-2 c =
-    let j = c .before .before .before .before .before .before .before .before .before .before .before .before in
+    let j = judged c in
     let i = j .before .before .before .before .before .before .before in
     j .judge-verdict .ensures (whole (start (i .before))) refl (fits i)
 
 pub osnma-regions-verdict-spec : {M : Type 1} → statement M
 osnma-regions-verdict-spec =
     tie.close
-    (tie.spec (λ c κs. search needs) (λ c. search needs) (λ c. search needs) (λ c. search needs) (λ c. search needs) (λ c. search needs) (λ c. search needs)
+    (tie.spec (λ c κs. search needs) (λ c. refl) (λ c. refl) (λ c. refl) (λ c. refl) (λ c. refl) (λ c. refl)
     returns
-    judge-verdict-requires (λ c. search needs) (λ c. search needs) (λ c. search needs) (λ c. search needs) (λ c. search needs) (λ c. search needs)
+    judge-verdict-requires
+    (λ c. (judged c) .judge-verdict .kept .1 .0)
+    (λ c. (judged c) .judge-verdict .kept .1 .1 .0)
+    (λ c. (judged c) .judge-verdict .kept .1 .1 .1 .0)
+    (λ c. (judged c) .judge-verdict .kept .1 .1 .1 .1 .0)
+    (λ c. (judged c) .judge-verdict .kept .1 .1 .1 .1 .1 .0)
+    (λ c. (judged c) .judge-verdict .kept .1 .1 .1 .1 .1 .1 .0)
     returns-2)

@@ -44,16 +44,19 @@ take-word-requires c κs =
     let l = long-one (whole g) (now (g .args .bytes)) 16 (fits i) in
     ((l .0 .config, l .0 .clocks), (l .0 .words, (l .0 .stamps, l .1)))
 
+abbrev taken : tie.After-slice-known6 → tie.After-take-word
+taken c = c .before .before .before .before .before .before
+
 returns-2 : tie.Need-returns-2
 returns-2 c =
-    let t = c .before .before .before .before .before .before in
+    let t = taken c in
     let i = t .before .before .before .before in
     t .take-word .ensures (whole (start (i .before))) refl refl refl (fits i)
 
 pub osnma-regions-word-spec : {M : Type 1} → statement M
 osnma-regions-word-spec =
     tie.close
-    (tie.spec (λ c κs. search needs) (λ c. search needs) (λ c. search needs) (λ c. search needs)
+    (tie.spec (λ c κs. search needs) (λ c. refl) (λ c. refl) (λ c. refl)
     returns
-    take-word-requires (λ c. search needs) (λ c. search needs) (λ c. search needs)
+    take-word-requires (λ c. (taken c) .take-word .kept .1 .0) (λ c. (taken c) .take-word .kept .1 .1 .0) (λ c. (taken c) .take-word .kept .1 .1 .1 .0)
     returns-2)
