@@ -1,6 +1,6 @@
 -- The tests of a verdict by their cases: NMA status 0, 3, and 1 or 2; a chain in force and none.
 -- Assumes nothing.
-use mathlib.Core.Path.{_≡_, refl, sym, _∙_}
+use mathlib.Core.Path.{_≡_, sym, _∙_}
 use mathlib.Core.Bool.{Bool, true, false, not, _&&_, _||_}
 use mathlib.Core.List.{List}
 use Prim.Native.Nat.{ℕ, _<_}
@@ -14,7 +14,7 @@ use Rattle.laws.specs.Refusal.{neb, firstOf}
 use Rattle.rules.specs.Bits.{within}
 use Rattle.rules.specs.Gather.{statusOf, cidOf}
 use Rattle.rules.specs.Kroot.{cidkrOf, rootSecondsOf, chainContents, inForce, everForced}
-use Rattle.rules.specs.State.{State, macltOf}
+use Rattle.rules.specs.State.{State}
 use Rattle.rules.specs.Verdict as S
 
 -- status 1 or 2, where it is neither 0 nor 3
@@ -61,8 +61,8 @@ module _ (s : State) (h : ℕ) (c : List ℕ) where
 
 -- ---- the contents and the CID in force, and the root
 
-module _ (s : State) (maclt : ℕ) (chain : List ℕ) (m : macltOf (s .config) ≡ maclt) (e : s .chain ≡ chain) where
-  module _ (none : inForce maclt chain ≡ false) where
+module _ (s : State) (config chain : List ℕ) (m : s .config ≡ config) (e : s .chain ≡ chain) where
+  module _ (none : inForce config chain ≡ false) where
     pub same-none : (c : List ℕ) → false ≡ S.sameContents s c
     unfolding S.sameContents
     same-none c = rw (m, e, none)
@@ -75,7 +75,7 @@ module _ (s : State) (maclt : ℕ) (chain : List ℕ) (m : macltOf (s .config) �
     unfolding S.rootUnfit everForced
     root-after c = rw (m, e, none)
 
-  module _ (some : inForce maclt chain ≡ true) where
+  module _ (some : inForce config chain ≡ true) where
     pub same-some : (c : List ℕ) → same (chainContents chain) c ≡ S.sameContents s c
     unfolding S.sameContents
     same-some c = rw (m, e, some)

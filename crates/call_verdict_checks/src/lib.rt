@@ -1,9 +1,8 @@
 // The tests of a verdict (01, "Verdicts", and rows 14, 15, 11 and 9 of its table). Each function gives what the definition of the same name
-// in rules/specs/Verdict.antt gives, for every state with the lent regions. `maclt` is the MACLT number of the start, `chain` the region of
-// the chain in force, `c` the contents of a message (its bytes after the NMA header).
+// in rules/specs/Verdict.antt gives, for every state with the lent regions. `c` are the contents of a message (its bytes after the
+// NMA header).
 // Public calls:
 //   same_contents, cid_in_force   the contents and the CID in force
-//   status_unfit, root_unfit      rows 11 and 9
 //   vouch_refusal                 the number of a verdict past 1, 2 and 4: 14, 15, 11, 9 or 0
 ghost use mathlib.Core.Path.{_≡_};
 ghost use mathlib.Core.Bool.{_&&_};
@@ -12,35 +11,35 @@ ghost use lib.ListN.{length};
 ghost use Rattle.laws.specs.Refusal.{firstOf};
 ghost use Rattle.rules.specs.Bits.{within};
 ghost use Rattle.rules.specs.Gather.{statusOf};
-ghost use Rattle.rules.specs.State.{State, macltOf};
+ghost use Rattle.rules.specs.State.{State, configLength, offerLength, chainLength};
 ghost use Rattle.rules.specs.Verdict as S;
 
 // Whether the contents are those in force.
-pub fn same_contents(maclt: u8, chain: &[u8], c: &[u8]) -> bool
-    requires { ⌜ length (now chain) ≡ 45 ⌝ }
-    ensures { λ r. ⌜ ((s : State) → macltOf (s .config) ≡ maclt → s .chain ≡ now (chain .entry) → r ≡ S.sameContents s (now (c .entry))) ⌝ }
+pub fn same_contents(config: &[u8], chain: &[u8], c: &[u8]) -> bool
+    requires { ⌜ (length (now config) ≡ configLength) × (length (now chain) ≡ chainLength) ⌝ }
+    ensures { λ r. ⌜ ((s : State) → s .config ≡ now (config .entry) → s .chain ≡ now (chain .entry) → r ≡ S.sameContents s (now (c .entry))) ⌝ }
 {
-    if !kroot::in_force(maclt, chain) {
+    if !kroot::in_force(config, chain) {
         return false;
     }
-    buffer::equal(&chain[1..45], c)
+    buffer::equal(kroot::chain_contents(chain), c)
 }
 
 // Whether the chain in force has this CID.
-pub fn cid_in_force(maclt: u8, chain: &[u8], cid: u8) -> bool
-    requires { ⌜ length (now chain) ≡ 45 ⌝ }
-    ensures { λ r. ⌜ ((s : State) → macltOf (s .config) ≡ maclt → s .chain ≡ now (chain .entry) → r ≡ S.cidInForce s cid) ⌝ }
+pub fn cid_in_force(config: &[u8], chain: &[u8], cid: u8) -> bool
+    requires { ⌜ (length (now config) ≡ configLength) × (length (now chain) ≡ chainLength) ⌝ }
+    ensures { λ r. ⌜ ((s : State) → s .config ≡ now (config .entry) → s .chain ≡ now (chain .entry) → r ≡ S.cidInForce s cid) ⌝ }
 {
-    if !kroot::in_force(maclt, chain) {
+    if !kroot::in_force(config, chain) {
         return false;
     }
-    kroot::cidkr(&chain[1..45]) == cid
+    kroot::cidkr(kroot::chain_contents(chain)) == cid
 }
 
 // Status 0; status 3 with no chain or other CID; status 1 or 2 with CIDKR not CID.
-pub fn status_unfit(maclt: u8, chain: &[u8], header: u8, c: &[u8]) -> bool
-    requires { ⌜ (length (now chain) ≡ 45) × (44 ≤ length (now c)) ⌝ }
-    ensures { λ r. ⌜ ((s : State) → macltOf (s .config) ≡ maclt → s .chain ≡ now (chain .entry) → r ≡ S.statusUnfit s header (now (c .entry))) ⌝ }
+fn status_unfit(config: &[u8], chain: &[u8], header: u8, c: &[u8]) -> bool
+    requires { ⌜ (length (now config) ≡ configLength) × ((length (now chain) ≡ chainLength) × (44 ≤ length (now c))) ⌝ }
+    ensures { λ r. ⌜ ((s : State) → s .config ≡ now (config .entry) → s .chain ≡ now (chain .entry) → r ≡ S.statusUnfit s header (now (c .entry))) ⌝ }
 {
     let status = gather::status_of(header);
     if status == 0 {
@@ -48,20 +47,20 @@ pub fn status_unfit(maclt: u8, chain: &[u8], header: u8, c: &[u8]) -> bool
     }
     let cid = gather::cid_of(header);
     if status == 3 {
-        return !cid_in_force(maclt, chain, cid);
+        return !cid_in_force(config, chain, cid);
     }
     kroot::cidkr(c) != cid
 }
 
 // The root is earlier than the last put in force, or equal with other contents, or not later after a drop.
-pub fn root_unfit(maclt: u8, chain: &[u8], c: &[u8]) -> bool
-    requires { ⌜ (length (now chain) ≡ 45) × (44 ≤ length (now c)) ⌝ }
-    ensures { λ r. ⌜ ((s : State) → macltOf (s .config) ≡ maclt → s .chain ≡ now (chain .entry) → r ≡ S.rootUnfit s (now (c .entry))) ⌝ }
+fn root_unfit(config: &[u8], chain: &[u8], c: &[u8]) -> bool
+    requires { ⌜ (length (now config) ≡ configLength) × ((length (now chain) ≡ chainLength) × (44 ≤ length (now c))) ⌝ }
+    ensures { λ r. ⌜ ((s : State) → s .config ≡ now (config .entry) → s .chain ≡ now (chain .entry) → r ≡ S.rootUnfit s (now (c .entry))) ⌝ }
 {
-    let last = kroot::root_seconds(&chain[1..45]);
+    let last = kroot::root_seconds(kroot::chain_contents(chain));
     let root = kroot::root_seconds(c);
-    if kroot::in_force(maclt, chain) {
-        let equal = same_contents(maclt, chain, c);
+    if kroot::in_force(config, chain) {
+        let equal = same_contents(config, chain, c);
         return (root < last) | ((root == last) & !equal);
     }
     (chain[0] != 0) & (root <= last)
@@ -69,7 +68,7 @@ pub fn root_unfit(maclt: u8, chain: &[u8], c: &[u8]) -> bool
 
 // The number of a verdict's checks against what waits and the chain: 14, 15, 11, 9 or 0.
 pub fn vouch_refusal(
-    maclt: u8,
+    config: &[u8],
     chain: &[u8],
     offer: &[u8],
     good: u8,
@@ -77,8 +76,8 @@ pub fn vouch_refusal(
     message: &[u8],
     signature: &[u8],
 ) -> u32
-    requires { ⌜ (length (now chain) ≡ 45) × ((length (now offer) ≡ 179) × (length (now message) ≡ 45)) ⌝ }
-    ensures { λ r. ⌜ ((s : State) → macltOf (s .config) ≡ maclt → s .chain ≡ now (chain .entry) → s .offer ≡ now (offer .entry) → r ≡ firstOf (S.vouchChecks s (record { good = good; id = id; message = now (message .entry); signature = now (signature .entry) }))) ⌝ }
+    requires { ⌜ ((length (now config) ≡ configLength) × (length (now chain) ≡ chainLength)) × ((length (now offer) ≡ offerLength) × (length (now message) ≡ 45)) ⌝ }
+    ensures { λ r. ⌜ ((s : State) → s .config ≡ now (config .entry) → s .chain ≡ now (chain .entry) → s .offer ≡ now (offer .entry) → r ≡ firstOf (S.vouchChecks s (record { good = good; id = id; message = now (message .entry); signature = now (signature .entry) }))) ⌝ }
 {
     if !kroot::names_offer(offer, id, message, signature) {
         return 14;
@@ -86,19 +85,19 @@ pub fn vouch_refusal(
     if good != 1 {
         return 15;
     }
-    if status_unfit(maclt, chain, message[0], &message[1..45]) {
+    if status_unfit(config, chain, message[0], &message[1..45]) {
         return 11;
     }
-    if new_root_unfit(maclt, chain, message[0], &message[1..45]) {
+    if new_root_unfit(config, chain, message[0], &message[1..45]) {
         return 9;
     }
     0
 }
 
 // A verdict that would put a root in force (status 1 or 2), whose root is unfit.
-fn new_root_unfit(maclt: u8, chain: &[u8], header: u8, c: &[u8]) -> bool
-    requires { ⌜ (length (now chain) ≡ 45) × (44 ≤ length (now c)) ⌝ }
-    ensures { λ r. ⌜ ((s : State) → macltOf (s .config) ≡ maclt → s .chain ≡ now (chain .entry) → r ≡ (within 1 2 (statusOf header) && S.rootUnfit s (now (c .entry)))) ⌝ }
+fn new_root_unfit(config: &[u8], chain: &[u8], header: u8, c: &[u8]) -> bool
+    requires { ⌜ (length (now config) ≡ configLength) × ((length (now chain) ≡ chainLength) × (44 ≤ length (now c))) ⌝ }
+    ensures { λ r. ⌜ ((s : State) → s .config ≡ now (config .entry) → s .chain ≡ now (chain .entry) → r ≡ (within 1 2 (statusOf header) && S.rootUnfit s (now (c .entry)))) ⌝ }
 {
     let status = gather::status_of(header);
     if status == 0 {
@@ -107,5 +106,5 @@ fn new_root_unfit(maclt: u8, chain: &[u8], header: u8, c: &[u8]) -> bool
     if status == 3 {
         return false;
     }
-    root_unfit(maclt, chain, c)
+    root_unfit(config, chain, c)
 }

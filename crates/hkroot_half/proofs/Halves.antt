@@ -1,17 +1,17 @@
 -- The HKROOT half by its cases: nothing complete, a complete DSM-KROOT, a complete DSM-PKR. Assumes nothing.
-use mathlib.Core.Path.{_≡_, sym, _∙_}
-use mathlib.Core.Bool.{Bool, true, false, cond}
+use mathlib.Core.Path.{_≡_}
+use mathlib.Core.Bool.{false, cond}
 use mathlib.Core.List.{List, []}
-use Prim.Native.Nat.{ℕ, _≤_, _<_}
-use lib.Dec.{leb, eqb}
-use lib.ListN.{length, getD, set}
+use Prim.Native.Nat.{ℕ, _≤_}
+use lib.Dec.{leb}
+use lib.ListN.{length, set}
 use borrow.Author.Tests.{ne-eqb}
 use native.Mathlib.Omega.{arith}
 use Rattle.rules.specs.Calls.{HkrootDone, hkrootHalf, storeDone, krootDone, pkrDone}
-use Rattle.rules.specs.Gather.{Gathered, gathered, dsmIdOf, headerOf}
+use Rattle.rules.specs.Gather.{gathered, dsmIdOf, headerOf}
 use Rattle.rules.specs.Kroot.{krootJudged}
 use Rattle.rules.specs.Pkr.{pkrJudged}
-use Rattle.rules.specs.State.{State, Store, macltOf, treeRoot}
+use Rattle.rules.specs.State.{State, Store, treeRoot}
 use Rattle.hkroot_half.specs.Done.{done, gathering}
 use Rattle.hkroot_half.specs.declared.Half.{Half}
 
@@ -26,8 +26,8 @@ unfolding hkrootHalf
 one-complete s t hk d left x h e p = rw (← e, ne-eqb (length d) 0 (λ z. absurd (omega (arith, h, z)))) p
 
 -- a DSM-KROOT: the waiting message may be another
-pub kroot-done : (s : State) (left : Store) (config pubkeys offer given d : List ℕ) (header code : ℕ) → s .config ≡ config → s .pubkeys ≡ pubkeys → s .offer ≡ offer → code ≡ (krootJudged pubkeys (getD config 1 0) offer header d) .code → given ≡ (krootJudged pubkeys (getD config 1 0) offer header d) .offer → done (record { code = code; stops = false }) (gathering s config left pubkeys given) ≡ krootDone s left header d
-unfolding krootDone macltOf
+pub kroot-done : (s : State) (left : Store) (config pubkeys offer given d : List ℕ) (header code : ℕ) → s .config ≡ config → s .pubkeys ≡ pubkeys → s .offer ≡ offer → code ≡ (krootJudged pubkeys config offer header d) .code → given ≡ (krootJudged pubkeys config offer header d) .offer → done (record { code = code; stops = false }) (gathering s config left pubkeys given) ≡ krootDone s left header d
+unfolding krootDone
 kroot-done s left config pubkeys offer given d header code ec ek eo e f = rw (e, f, ec, ek, eo)
 
 -- a DSM-PKR: the public keys may be others, and the core may stop

@@ -13,7 +13,7 @@ ghost use Rattle.gather.specs.Store.{Lent, store};
 ghost use Rattle.rules.specs.Calls.{hkrootHalf, krootDone, pkrDone};
 ghost use Rattle.rules.specs.Gather.{dsmIdOf, headerOf};
 ghost use Rattle.rules.specs.Pkr.{pkrJudged};
-ghost use Rattle.rules.specs.State.{State, Store, treeRoot};
+ghost use Rattle.rules.specs.State.{State, Store, treeRoot, configLength, blocksLength, pubkeysLength, offerLength};
 ghost use Rattle.hkroot_half.specs.Done.{done, gathering};
 
 // What the half gives: its number, and whether a proved emergency message came.
@@ -34,7 +34,7 @@ pub fn hkroot_half(
     t: u32,
     hk: &[u8; 15],
 ) -> Half
-    requires { ⌜ Lent (now blocks) (now headers) (now present) (now since) × ((length (now config) ≡ 63) × ((length (now pubkeys) ≡ 1088) × (length (now offer) ≡ 179))) ⌝ }
+    requires { ⌜ Lent (now blocks) (now headers) (now present) (now since) × ((length (now config) ≡ configLength) × ((length (now pubkeys) ≡ pubkeysLength) × (length (now offer) ≡ offerLength))) ⌝ }
     ensures { λ r. ⌜ ((s : State) → s .config ≡ now (config .entry) → s .store ≡ store (now (blocks .entry)) (now (headers .entry)) (now (present .entry)) (now (since .entry)) → s .pubkeys ≡ now (pubkeys .entry) → s .offer ≡ now (offer .entry) → done r (gathering s (now (config .exit)) (store (now (blocks .exit)) (now (headers .exit)) (now (present .exit)) (now (since .exit))) (now (pubkeys .exit)) (now (offer .exit))) ≡ hkrootHalf s t (now (hk .entry))) ⌝ }
 {
     match gather::gather(blocks, headers, present, since, t, hk) {
@@ -59,7 +59,7 @@ fn complete(
     hk: &[u8; 15],
     n: usize,
 ) -> Half
-    requires { ⌜ ((length (now config) ≡ 63) × (length (now blocks) ≡ 3328)) × (((length (now pubkeys) ≡ 1088) × (length (now offer) ≡ 179)) × ((91 ≤ n) × (n ≤ 208))) ⌝ }
+    requires { ⌜ ((length (now config) ≡ configLength) × (length (now blocks) ≡ blocksLength)) × (((length (now pubkeys) ≡ pubkeysLength) × (length (now offer) ≡ offerLength)) × ((91 ≤ n) × (n ≤ 208))) ⌝ }
     ensures { λ r. ⌜ ((s : State) (left : Store) → s .config ≡ now (config .entry) → s .pubkeys ≡ now (pubkeys .entry) → s .offer ≡ now (offer .entry) → done r (gathering s (now (config .exit)) left (now (pubkeys .exit)) (now (offer .exit))) ≡ cond (leb (dsmIdOf (now (hk .entry))) 11) (krootDone s left (headerOf (now (hk .entry))) (part (now (blocks .entry)) (dsmIdOf (now (hk .entry)) * 208) n)) (pkrDone s left (part (now (blocks .entry)) (dsmIdOf (now (hk .entry)) * 208) n))) × (dsmIdOf (now (hk .entry)) < 16) ⌝ }
 {
     let id = gather::dsm_id_of(hk);
@@ -67,7 +67,7 @@ fn complete(
     if id <= 11 {
         let code = kroot::kroot_judge(
             pubkeys,
-            config[1],
+            config,
             offer,
             gather::header_of(hk),
             &blocks[at..at + n],
@@ -82,12 +82,12 @@ fn complete(
 
 // A complete DSM-PKR. Proved with type 4 (an emergency message), it stops the core.
 fn renewed(config: &mut [u8], pubkeys: &mut [u8], d: &[u8]) -> Half
-    requires { ⌜ ((length (now config) ≡ 63) × (length (now pubkeys) ≡ 1088)) × ((91 ≤ length (now d)) × (length (now d) ≤ 208)) ⌝ }
+    requires { ⌜ ((length (now config) ≡ configLength) × (length (now pubkeys) ≡ pubkeysLength)) × ((91 ≤ length (now d)) × (length (now d) ≤ 208)) ⌝ }
     ensures { λ r. ⌜ ((r .code ≡ (pkrJudged (now (pubkeys .entry)) (treeRoot (now (config .entry))) (now (d .entry))) .code) × (r .stops ≡ (pkrJudged (now (pubkeys .entry)) (treeRoot (now (config .entry))) (now (d .entry))) .stops)) × ((now (pubkeys .exit) ≡ (pkrJudged (now (pubkeys .entry)) (treeRoot (now (config .entry))) (now (d .entry))) .pubkeys) × (now (config .exit) ≡ cond ((pkrJudged (now (pubkeys .entry)) (treeRoot (now (config .entry))) (now (d .entry))) .stops) (set (now (config .entry)) 62 1) (now (config .entry)))) ⌝ }
 {
     let r = pkr::pkr_judge(pubkeys, &config[30..62], d);
     if r.stops {
-        config[62] = 1;
+        regions::stop(config);
     }
     Half {
         code: r.code,

@@ -1,33 +1,33 @@
 -- A complete DSM-KROOT by its checks, and the bytes of what then waits.
 -- Assumes nothing.
 use mathlib.Core.Path.{_≡_, refl, sym, ap, _∙_}
-use mathlib.Core.Bool.{Bool, true, false}
+use mathlib.Core.Bool.{true, false}
 use mathlib.Core.List.{List, [], _∷_, _++_, append-assoc}
-use Prim.Native.Nat.{ℕ, suc, _+_, _-_, _*_, _≤_, _<_}
+use Prim.Native.Nat.{ℕ, suc, _+_, _-_, _*_, _≤_}
 use native.Mathlib.Omega.{arith}
 use native.Mathlib.Nat.{zero-add}
 use lib.ListN.{length, set, replicate, length-append, length-replicate}
 use borrow.Author.Tests.{eq-eqb, ne-eqb}
-use Rattle.laws.specs.Lists.{part, splice}
+use Rattle.laws.specs.Lists.{splice}
 use Rattle.laws.proofs.Splice.{splice-two, splice-append, splice-whole, length-splice}
 use Rattle.public_keys.proofs.Keys.{splice-one}
 use Rattle.rules.specs.Bits.{filled}
-use Rattle.rules.specs.PublicKeys.{keyHeld, keyType, signatureLength}
+use Rattle.rules.specs.PublicKeys.{keyHeld, keyType}
 use Rattle.rules.specs.Kroot as S
 
-module _ (pubkeys : List ℕ) (maclt : ℕ) (offer : List ℕ) (header : ℕ) (d : List ℕ) where
+module _ (pubkeys config offer : List ℕ) (header : ℕ) (d : List ℕ) where
   abbrev judged : S.Offer
-  judged = S.krootJudged pubkeys maclt offer header d
+  judged = S.krootJudged pubkeys config offer header d
 
   pub no-key : keyHeld pubkeys (S.pkidOf d) ≡ false → (7 ≡ judged .code) × (offer ≡ judged .offer)
   unfolding S.krootJudged S.krootChecks
   no-key h = rw h (refl, refl)
 
-  pub bad-parameters : keyHeld pubkeys (S.pkidOf d) ≡ true → S.parametersBad maclt (S.contentsOf d) ≡ true → (8 ≡ judged .code) × (offer ≡ judged .offer)
+  pub bad-parameters : keyHeld pubkeys (S.pkidOf d) ≡ true → S.parametersBad config (S.contentsOf d) ≡ true → (8 ≡ judged .code) × (offer ≡ judged .offer)
   unfolding S.krootJudged S.krootChecks
   bad-parameters h k = rw (h, k) (refl, refl)
 
-  module _ (held : keyHeld pubkeys (S.pkidOf d) ≡ true) (good : S.parametersBad maclt (S.contentsOf d) ≡ false) where
+  module _ (held : keyHeld pubkeys (S.pkidOf d) ≡ true) (good : S.parametersBad config (S.contentsOf d) ≡ false) where
     pub wrong-size : (length d ≡ 13 * S.krootBlocks (S.keyWidth (S.ksOf (S.contentsOf d))) (keyType pubkeys (S.pkidOf d)) → ⊥) → (6 ≡ judged .code) × (offer ≡ judged .offer)
     unfolding S.krootJudged S.krootChecks
     wrong-size n = rw (held, good, ne-eqb (length d) (13 * S.krootBlocks (S.keyWidth (S.ksOf (S.contentsOf d))) (keyType pubkeys (S.pkidOf d))) n) (refl, refl)

@@ -17,6 +17,7 @@ use Rattle.rules.specs.Bits.{bits}
 use Rattle.laws.proofs.Table.{table-range}
 use Rattle.laws.proofs.Tests.{and-true}
 use Rattle.rules.specs.Kroot as S
+use Rattle.rules.specs.State.{macltOf}
 use Rattle.rules.specs.Verdict.{Verdict, namesOffer, chainUnchanged}
 use Rattle.kroot.specs.Groups as G
 
@@ -91,11 +92,11 @@ and-groups true true true true true true true true false = refl
 and-groups true true true true true true true true true = refl
 
 -- the tests on contents are three groups
-pub bad-is : (maclt : ℕ) (c : List ℕ) → G.functionsBad c || (G.widthsBad maclt c || G.rootTimeBad c) ≡ S.parametersBad maclt c
+pub bad-is : (config c : List ℕ) → G.functionsBad c || (G.widthsBad config c || G.rootTimeBad c) ≡ S.parametersBad config c
 unfolding S.parametersBad G.functionsBad G.widthsBad G.rootTimeBad
-bad-is maclt c =
+bad-is config c =
     or-groups (neb (S.hfOf c) 0) (neb (S.mfOf c) 0) (neb (S.moOf c) 0) (eqb (S.nmackOf c) 0)
-    (ltb 8 (S.ksOf c)) (ltb 9 (S.msOf c)) (neb (S.macltFieldOf c) maclt)
+    (ltb 8 (S.ksOf c)) (ltb 9 (S.msOf c)) (neb (S.macltFieldOf c) (macltOf config))
     (ltb (S.blockBits (S.nmackOf c)) (8 * S.keyWidth (S.ksOf c) + S.tagWidth (S.msOf c) + 16))
     (ltb 167 (S.rootHourOf c)) (eqb (S.rootWeekOf c) 0 && eqb (S.rootHourOf c) 0)
 

@@ -6,17 +6,18 @@ use mathlib.Core.List.{List}
 use lib.Dec.{ltb, eqb}
 use Rattle.laws.specs.Refusal.{neb}
 use Rattle.rules.specs.Kroot as S
+use Rattle.rules.specs.State.{macltOf}
 
 -- "HF, MF or MO not 0; NMACK 0"
 unfoldable pub functionsBad : List ℕ → Bool
 functionsBad c = neb (S.hfOf c) 0 || (neb (S.mfOf c) 0 || (neb (S.moOf c) 0 || eqb (S.nmackOf c) 0))
 
 -- "KS code above 8, MS code above 9; other MACLT; block shorter than KS + MS + 16"
-unfoldable pub widthsBad : ℕ → List ℕ → Bool
-widthsBad maclt c =
+unfoldable pub widthsBad : List ℕ → List ℕ → Bool
+widthsBad config c =
     ltb 8 (S.ksOf c)
     || (ltb 9 (S.msOf c)
-    || (neb (S.macltFieldOf c) maclt
+    || (neb (S.macltFieldOf c) (macltOf config)
     || ltb (S.blockBits (S.nmackOf c)) (8 * S.keyWidth (S.ksOf c) + S.tagWidth (S.msOf c) + 16)))
 
 -- "hour above 167; week 0 hour 0"

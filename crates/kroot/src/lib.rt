@@ -2,9 +2,10 @@
 // the definition of the same name in rules/specs/Kroot.antt or Verdict.antt gives.
 // Public calls:
 //   kroot_judge                       a complete DSM-KROOT: its number, and the message that then waits
-//   in_force, chain_with              the chain in force and its numbers
+//   in_force, chain_contents, chain_with    the chain in force, its contents and its numbers
 //   names_offer, chain_unchanged      a verdict against what waits; a new root against the chain in force
-//   cidkr .. root_seconds             fields of contents: the 44 bytes after the first of a DSM, a message or the chain's region
+//   cidkr, ks, root_seconds           fields of contents: the 44 bytes after the first of a DSM, a message or the chain's region
+//   key_width, least_blocks           bytes of a key by its KS code; blocks that a message fits
 ghost use mathlib.Core.Path.{_≡_};
 ghost use mathlib.Core.List.{_∷_};
 ghost use Prim.Native.Nat.{ℕ, _+_, _≤_, _<_};
@@ -12,6 +13,7 @@ ghost use lib.ListN.{length};
 ghost use Rattle.laws.specs.Lists.{part};
 ghost use Rattle.rules.specs.Bits.{filled};
 ghost use Rattle.rules.specs.Kroot as S;
+ghost use Rattle.rules.specs.State.{configLength, pubkeysLength, offerLength, chainLength};
 ghost use Rattle.rules.specs.Verdict.{namesOffer, chainUnchanged};
 ghost use Rattle.kroot.specs.Groups as G;
 use rules::Chain;
@@ -19,15 +21,15 @@ use rules::Chain;
 // ---- a complete DSM-KROOT
 
 // Its number (7, 8, 6 or 0); with 0 it waits for a verdict, in place of one that waited.
-pub fn kroot_judge(pubkeys: &[u8], maclt: u8, offer: &mut [u8], header: u8, d: &[u8]) -> u32
-    requires { ⌜ (length (now pubkeys) ≡ 1088) × ((length (now offer) ≡ 179) × (91 ≤ length (now d))) ⌝ }
-    ensures { λ r. ⌜ (r ≡ (S.krootJudged (now (pubkeys .entry)) maclt (now (offer .entry)) header (now (d .entry))) .code) × (now (offer .exit) ≡ (S.krootJudged (now (pubkeys .entry)) maclt (now (offer .entry)) header (now (d .entry))) .offer) ⌝ }
+pub fn kroot_judge(pubkeys: &[u8], config: &[u8], offer: &mut [u8], header: u8, d: &[u8]) -> u32
+    requires { ⌜ ((length (now pubkeys) ≡ pubkeysLength) × (length (now config) ≡ configLength)) × ((length (now offer) ≡ offerLength) × (91 ≤ length (now d))) ⌝ }
+    ensures { λ r. ⌜ (r ≡ (S.krootJudged (now (pubkeys .entry)) (now (config .entry)) (now (offer .entry)) header (now (d .entry))) .code) × (now (offer .exit) ≡ (S.krootJudged (now (pubkeys .entry)) (now (config .entry)) (now (offer .entry)) header (now (d .entry))) .offer) ⌝ }
 {
     let id = pkid(d);
     if !public_keys::key_held(pubkeys, id) {
         return 7;
     }
-    if parameters_bad(maclt, &d[1..45]) {
+    if parameters_bad(config, &d[1..45]) {
         return 8;
     }
     let width = key_width(ks(&d[1..45]));
@@ -41,7 +43,7 @@ pub fn kroot_judge(pubkeys: &[u8], maclt: u8, offer: &mut [u8], header: u8, d: &
 
 // The message that waits: 1, key ID, message in 45 bytes, signature in 132.
 fn store_offer(offer: &mut [u8], id: u8, header: u8, d: &[u8], width: usize, signed: usize)
-    requires { ⌜ ((length (now offer) ≡ 179) × (width ≤ 32)) × ((signed ≤ 132) × (13 + width + signed ≤ length (now d))) ⌝ }
+    requires { ⌜ ((length (now offer) ≡ offerLength) × (width ≤ 32)) × ((signed ≤ 132) × (13 + width + signed ≤ length (now d))) ⌝ }
     ensures { λ _. ⌜ now (offer .exit) ≡ S.offered id (filled 45 (header ∷ part (now (d .entry)) 1 (12 + width))) (filled 132 (part (now (d .entry)) (13 + width) signed)) ⌝ }
 {
     offer[0] = 1;
@@ -54,7 +56,7 @@ fn store_offer(offer: &mut [u8], id: u8, header: u8, d: &[u8], width: usize, sig
 }
 
 // The ID of the public key that a DSM-KROOT is signed with.
-pub fn pkid(d: &[u8]) -> u8
+fn pkid(d: &[u8]) -> u8
     requires { ⌜ 1 ≤ length (now d) ⌝ }
     ensures { λ r. ⌜ r ≡ S.pkidOf (now (d .entry)) ⌝ }
 {
@@ -75,14 +77,22 @@ pub fn least_blocks(n: usize) -> usize
 // ---- the chain
 
 // Whether a chain is in force.
-pub fn in_force(maclt: u8, chain: &[u8]) -> bool
-    requires { ⌜ length (now chain) ≡ 45 ⌝ }
-    ensures { λ r. ⌜ r ≡ S.inForce maclt (now (chain .entry)) ⌝ }
+pub fn in_force(config: &[u8], chain: &[u8]) -> bool
+    requires { ⌜ (length (now config) ≡ configLength) × (length (now chain) ≡ chainLength) ⌝ }
+    ensures { λ r. ⌜ r ≡ S.inForce (now (config .entry)) (now (chain .entry)) ⌝ }
 {
     if chain[0] != 1 {
         return false;
     }
-    !parameters_bad(maclt, &chain[1..45])
+    !parameters_bad(config, chain_contents(chain))
+}
+
+// The contents that were put in force last.
+pub fn chain_contents(chain: &[u8]) -> &[u8]
+    requires { ⌜ length (now chain) ≡ chainLength ⌝ }
+    ensures { λ r. ⌜ (now r ≡ S.chainContents (now (chain .entry))) × (length (now r) ≡ 44) ⌝ }
+{
+    &chain[1..45]
 }
 
 // The chain's numbers.
@@ -111,7 +121,7 @@ pub fn chain_with(ns: u64, c: &[u8]) -> Chain
 
 // Whether a verdict names what waits: key ID, message and signature.
 pub fn names_offer(offer: &[u8], id: u8, message: &[u8], signature: &[u8]) -> bool
-    requires { ⌜ length (now offer) ≡ 179 ⌝ }
+    requires { ⌜ length (now offer) ≡ offerLength ⌝ }
     ensures { λ r. ⌜ ((good : ℕ) → r ≡ namesOffer (now (offer .entry)) (record { good = good; id = id; message = now (message .entry); signature = now (signature .entry) })) ⌝ }
 {
     if offer[0] != 1 {
@@ -153,11 +163,11 @@ fn widths_same(a: &[u8], b: &[u8]) -> bool
 // ---- row 8 of the table
 
 // Whether contents have a parameter that is refused.
-pub fn parameters_bad(maclt: u8, c: &[u8]) -> bool
-    requires { ⌜ 44 ≤ length (now c) ⌝ }
-    ensures { λ r. ⌜ r ≡ S.parametersBad maclt (now (c .entry)) ⌝ }
+fn parameters_bad(config: &[u8], c: &[u8]) -> bool
+    requires { ⌜ (length (now config) ≡ configLength) × (44 ≤ length (now c)) ⌝ }
+    ensures { λ r. ⌜ r ≡ S.parametersBad (now (config .entry)) (now (c .entry)) ⌝ }
 {
-    functions_bad(c) | (widths_bad(maclt, c) | root_time_bad(c))
+    functions_bad(c) | (widths_bad(config, c) | root_time_bad(c))
 }
 
 // HF, MF or MO not 0; NMACK 0.
@@ -169,14 +179,15 @@ fn functions_bad(c: &[u8]) -> bool
 }
 
 // KS code above 8, MS code above 9; other MACLT; block shorter than KS + MS + 16.
-fn widths_bad(maclt: u8, c: &[u8]) -> bool
-    requires { ⌜ 44 ≤ length (now c) ⌝ }
-    ensures { λ r. ⌜ r ≡ G.widthsBad maclt (now (c .entry)) ⌝ }
+fn widths_bad(config: &[u8], c: &[u8]) -> bool
+    requires { ⌜ (length (now config) ≡ configLength) × (44 ≤ length (now c)) ⌝ }
+    ensures { λ r. ⌜ r ≡ G.widthsBad (now (config .entry)) (now (c .entry)) ⌝ }
 {
     let k = ks(c);
     let m = ms(c);
     let used = 8 * (key_width(k) as u64) + tag_width(m) + 16;
     let block = bitfields::block_bits(bitfields::wide(nmack(c)));
+    let maclt = regions::maclt_of(config);
     (8 < k) | ((9 < m) | ((maclt_field(c) != maclt) | (block < used)))
 }
 
@@ -206,7 +217,7 @@ pub fn key_width(code: u8) -> usize
 }
 
 // Bits of a tag by its MS code (000, table 13).
-pub fn tag_width(code: u8) -> u64
+fn tag_width(code: u8) -> u64
     ensures { λ r. ⌜ r ≡ S.tagWidth code ⌝ }
 {
     if 9 < code {
@@ -216,7 +227,7 @@ pub fn tag_width(code: u8) -> u64
 }
 
 // Fields of a MACK block, for a key of ks bits and tags of ms bits.
-pub fn fields_for(nmack: u8, ks: u64, ms: u64) -> u64
+fn fields_for(nmack: u8, ks: u64, ms: u64) -> u64
     requires { ⌜ ms < 256 ⌝ }
     ensures { λ r. ⌜ r ≡ S.fieldsFor nmack ks ms ⌝ }
 {
@@ -236,21 +247,21 @@ pub fn cidkr(c: &[u8]) -> u8
     (c[0] >> 6) % 4
 }
 
-pub fn nmack(c: &[u8]) -> u8
+fn nmack(c: &[u8]) -> u8
     requires { ⌜ 44 ≤ length (now c) ⌝ }
     ensures { λ r. ⌜ r ≡ S.nmackOf (now (c .entry)) ⌝ }
 {
     (c[0] >> 4) % 4
 }
 
-pub fn hf(c: &[u8]) -> u8
+fn hf(c: &[u8]) -> u8
     requires { ⌜ 44 ≤ length (now c) ⌝ }
     ensures { λ r. ⌜ r ≡ S.hfOf (now (c .entry)) ⌝ }
 {
     (c[0] >> 2) % 4
 }
 
-pub fn mf(c: &[u8]) -> u8
+fn mf(c: &[u8]) -> u8
     requires { ⌜ 44 ≤ length (now c) ⌝ }
     ensures { λ r. ⌜ r ≡ S.mfOf (now (c .entry)) ⌝ }
 {
@@ -264,35 +275,35 @@ pub fn ks(c: &[u8]) -> u8
     (c[1] >> 4) % 16
 }
 
-pub fn ms(c: &[u8]) -> u8
+fn ms(c: &[u8]) -> u8
     requires { ⌜ 44 ≤ length (now c) ⌝ }
     ensures { λ r. ⌜ r ≡ S.msOf (now (c .entry)) ⌝ }
 {
     c[1] % 16
 }
 
-pub fn maclt_field(c: &[u8]) -> u8
+fn maclt_field(c: &[u8]) -> u8
     requires { ⌜ 44 ≤ length (now c) ⌝ }
     ensures { λ r. ⌜ r ≡ S.macltFieldOf (now (c .entry)) ⌝ }
 {
     c[2]
 }
 
-pub fn mo(c: &[u8]) -> u8
+fn mo(c: &[u8]) -> u8
     requires { ⌜ 44 ≤ length (now c) ⌝ }
     ensures { λ r. ⌜ r ≡ S.moOf (now (c .entry)) ⌝ }
 {
     (c[3] >> 4) % 4
 }
 
-pub fn root_week(c: &[u8]) -> u64
+fn root_week(c: &[u8]) -> u64
     requires { ⌜ 44 ≤ length (now c) ⌝ }
     ensures { λ r. ⌜ r ≡ S.rootWeekOf (now (c .entry)) ⌝ }
 {
     bitfields::wide(c[3]) % 16 * 256 + bitfields::wide(c[4])
 }
 
-pub fn root_hour(c: &[u8]) -> u8
+fn root_hour(c: &[u8]) -> u8
     requires { ⌜ 44 ≤ length (now c) ⌝ }
     ensures { λ r. ⌜ r ≡ S.rootHourOf (now (c .entry)) ⌝ }
 {
@@ -308,7 +319,7 @@ pub fn root_seconds(c: &[u8]) -> u64
 }
 
 // The chain's pattern α.
-pub fn alpha(c: &[u8]) -> [u8; 6]
+fn alpha(c: &[u8]) -> [u8; 6]
     requires { ⌜ 44 ≤ length (now c) ⌝ }
     ensures { λ r. ⌜ r ≡ S.alphaOf (now (c .entry)) ⌝ }
 {

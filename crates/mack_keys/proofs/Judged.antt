@@ -174,3 +174,25 @@ pub all-blocks : (c : Chain) (g prn b n code slot : ℕ) (m key₀ key : List �
 all-blocks c g prn b n code slot m key₀ key h l k p =
     let e : n ≡ b = omega arith in
     rw e p
+
+-- ---- the key that is proved has the chain's width
+
+-- what holds where nothing was refused and where something was holds of the choice
+by-number : {A : Type 0} (P : A → Type 0) (n : ℕ) {x y : A} → P x → P y → P (unless n x y)
+by-number P zero f g = f
+by-number P (suc n) f g = g
+
+block-long : (c : Chain) (g prn first : ℕ) (m : List ℕ) (h : Held) (b : ℕ) → length (h .key) ≡ c .width → length ((S.blockProved c g prn first m h b) .held .key) ≡ c .width
+unfolding S.blockProved higher
+block-long c g prn first m h b e =
+    by-number (λ (k : Held). length (k .key) ≡ c .width) (firstOf (S.blockChecks c g prn first m h b))
+    (by-test (λ (k : Held). length (k .key) ≡ c .width) (ltb (h .slot) (sentSlot c g b prn)) (λ _. length-key c m b) λ _. e)
+    e
+
+pub proved-long : (c : Chain) (g prn : ℕ) (m : List ℕ) (h : Held) (n : ℕ) → length (h .key) ≡ c .width → length ((S.keysProved c g prn m h n) .held .key) ≡ c .width
+unfolding S.keysProved
+proved-long c g prn m h zero e = e
+proved-long c g prn m h (suc b) e =
+    by-number (λ (p : S.Proved). length (p .held .key) ≡ c .width) ((S.keysProved c g prn m h b) .code)
+    (block-long c g prn (h .slot) m ((S.keysProved c g prn m h b) .held) (suc b) (proved-long c g prn m h b e))
+    (proved-long c g prn m h b e)

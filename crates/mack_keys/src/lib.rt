@@ -25,7 +25,7 @@ pub struct Keys {
 // `slot` and `key` are the held key's; the highest key proved takes its place in `key`, the bytes past its width stay.
 pub fn keys_proved(c: Chain, g: u32, prn: u8, m: &[u8], slot: u64, key: &mut [u8; 32]) -> Keys
     requires { ⌜ Sound c × ((length (now m) ≡ 60) × ((slot < 2 ^ 34) × (length (now key) ≡ 32))) ⌝ }
-    ensures { λ r. ⌜ Hands (S.keysProved c g prn (now (m .entry)) (held slot (take (c .width) (now (key .entry)))) (c .nmack)) (r .code) (r .slot) (now (key .entry)) (now (key .exit)) ⌝ }
+    ensures { λ r. ⌜ Hands (S.keysProved c g prn (now (m .entry)) (held slot (take (c .width) (now (key .entry)))) (c .nmack)) (r .code) (r .slot) (now (key .entry)) (now (key .exit)) × (r .slot < 2 ^ 34) ⌝ }
 {
     let nmack = c.nmack;
     let mut p = Keys {

@@ -1,14 +1,14 @@
 // DSM-PKR: the new public key, its place in the tree, and what a complete message changes (01, "HKROOT"; 000, 3.4, 5.2 and 5.3). Each
 // function gives what the definition of the same name in rules/specs/Pkr.antt gives.
-// Public calls:
+// Public call:
 //   pkr_judge        a complete DSM-PKR: its number, whether it stops the core, and the public keys then held
-//   tree_proved      whether a message's nodes give the installed root
 ghost use mathlib.Core.Path.{_≡_};
 ghost use mathlib.Core.Bool.{false, cond};
 ghost use Prim.Native.Nat.{_+_, _≤_, _<_};
 ghost use lib.ListN.{length, getD};
 ghost use Rattle.rules.specs.PublicKeys as K;
 ghost use Rattle.rules.specs.Pkr as S;
+ghost use Rattle.rules.specs.State.{pubkeysLength};
 
 // What a complete DSM-PKR is answered: its number, and whether it stops the core (an emergency message that is proved).
 pub struct Renewal {
@@ -18,7 +18,7 @@ pub struct Renewal {
 
 // The number (6, 10, 9 or 0) of a complete DSM-PKR; with 0 a new key is added to those held.
 pub fn pkr_judge(pubkeys: &mut [u8], root: &[u8], d: &[u8]) -> Renewal
-    requires { ⌜ (length (now pubkeys) ≡ 1088) × ((91 ≤ length (now d)) × (length (now d) ≤ 208)) ⌝ }
+    requires { ⌜ (length (now pubkeys) ≡ pubkeysLength) × ((91 ≤ length (now d)) × (length (now d) ≤ 208)) ⌝ }
     ensures { λ r. ⌜ (r .code ≡ (S.pkrJudged (now (pubkeys .entry)) (now (root .entry)) (now (d .entry))) .code) × ((r .stops ≡ (S.pkrJudged (now (pubkeys .entry)) (now (root .entry)) (now (d .entry))) .stops) × (now (pubkeys .exit) ≡ (S.pkrJudged (now (pubkeys .entry)) (now (root .entry)) (now (d .entry))) .pubkeys)) ⌝ }
 {
     if size_bad(d) {
@@ -47,7 +47,7 @@ pub fn pkr_judge(pubkeys: &mut [u8], root: &[u8], d: &[u8]) -> Renewal
 
 // A proved key: 0 where it is the same as one held, or has an ID above all held and is added; else 9.
 fn renew(pubkeys: &mut [u8], d: &[u8]) -> u32
-    requires { ⌜ (length (now pubkeys) ≡ 1088) × ((S.newTypeOf (now d) < 4) × (130 + K.keyLength (S.newTypeOf (now d)) ≤ length (now d))) ⌝ }
+    requires { ⌜ (length (now pubkeys) ≡ pubkeysLength) × ((S.newTypeOf (now d) < 4) × (130 + K.keyLength (S.newTypeOf (now d)) ≤ length (now d))) ⌝ }
     ensures { λ r. ⌜ (r ≡ cond (S.keyWelcome (now (pubkeys .entry)) (now (d .entry))) 0 9) × (now (pubkeys .exit) ≡ cond (S.keyWelcome (now (pubkeys .entry)) (now (d .entry))) (S.keyAdded (now (pubkeys .entry)) (now (d .entry))) (now (pubkeys .entry))) ⌝ }
 {
     let id = new_id(d);
@@ -64,7 +64,7 @@ fn renew(pubkeys: &mut [u8], d: &[u8]) -> u32
 }
 
 // Whether the message has another size than its type asks, or an emergency message another key ID than 0.
-pub fn size_bad(d: &[u8]) -> bool
+fn size_bad(d: &[u8]) -> bool
     requires { ⌜ 91 ≤ length (now d) ⌝ }
     ensures { λ r. ⌜ r ≡ S.pkrSizeBad (now (d .entry)) ⌝ }
 {
@@ -79,7 +79,7 @@ pub fn size_bad(d: &[u8]) -> bool
 // ---- the tree
 
 // Whether the leaf, joined with the four nodes, gives the installed root.
-pub fn tree_proved(root: &[u8], d: &[u8]) -> bool
+fn tree_proved(root: &[u8], d: &[u8]) -> bool
     requires { ⌜ (S.pkrSizeBad (now d) ≡ false) × (length (now d) ≤ 208) ⌝ }
     ensures { λ r. ⌜ r ≡ S.treeProved (now (root .entry)) (now (d .entry)) ⌝ }
 {
@@ -141,14 +141,14 @@ fn new_head(d: &[u8]) -> u8
 }
 
 // The new key's type.
-pub fn new_type(d: &[u8]) -> u8
+fn new_type(d: &[u8]) -> u8
     ensures { λ r. ⌜ r ≡ S.newTypeOf (now (d .entry)) ⌝ }
 {
     (new_head(d) >> 4) % 16
 }
 
 // The new key's ID.
-pub fn new_id(d: &[u8]) -> u8
+fn new_id(d: &[u8]) -> u8
     ensures { λ r. ⌜ r ≡ S.newIdOf (now (d .entry)) ⌝ }
 {
     new_head(d) % 16

@@ -1,26 +1,50 @@
-// The checks of the calls over lent memory. The caller lends sixteen regions (rules, State.antt) to every call; nobody else writes them.
-//   shaped          every region has its length (01, row 1)
-//   word_unfit      PRN or time out of range, or a word 4 whose SVID is not the PRN (row 2)
-//   word_refusal    the number that refuses a word whose lengths are right: 2, 4, 3, or 0
-// Each equals its part of the rule (rules, Calls.antt): for every state with the lent regions, the number is the first of the rule's checks.
+// Accessors over the memory that the caller lends: sixteen regions (rules, State.antt), lent to every call; nobody else writes them. Offsets and
+// lengths of the regions that several calls share stand here alone. Each function gives what the definition of its name in State.antt gives.
+//   shaped                                       every region has its length (01, row 1)
+//   ns_of, maclt_of, stopped, stop               the settings
+//   prn_valid                                    a PRN that is heard
+//   last_subframe, last_subframe_of, last_word_of    the clocks, as stamps: a time plus 1, 0 for never
+//   note_subframe, note_word                     a time is noted
+//   later, reached                               a stamp against a time
+//   held_slot, waiting_count                     the held key's slot, and how many tags wait
 ghost use mathlib.Core.Path.{_≡_};
-ghost use mathlib.Core.Bool.{false, true, _&&_};
-ghost use Prim.Native.Nat.{ℕ, _+_, _≤_, _<_};
-ghost use lib.Dec.{eqb, ltb};
-ghost use lib.ListN.{length};
-ghost use Rattle.laws.specs.Refusal.{firstOf};
-ghost use Rattle.rules.specs.State.{State, state};
-ghost use Rattle.rules.specs.State as rules;
+ghost use mathlib.Core.Bool.{true, _&&_};
+ghost use Prim.Native.Nat.{_+_, _≤_, _<_};
+ghost use lib.Dec.{leb, ltb};
+ghost use lib.ListN.{length, set};
+ghost use Rattle.rules.specs.State.{state, configLength, clocksLength, numbersLength};
+ghost use Rattle.rules.specs.State as S;
 ghost use Rattle.rules.specs.Times.{stampOf};
-ghost use Rattle.rules.specs.Calls.{wordUnfit, wordChecks};
 
-// ---- lengths of the lent regions
+// ---- lengths of the regions, in elements
 
-fn four(a: bool, b: bool, c: bool, d: bool) -> bool
-    ensures { λ r. ⌜ r ≡ (a && (b && (c && d))) ⌝ }
-{
-    bools::both(a, bools::both(b, bools::both(c, d)))
-}
+pub const CONFIG_LENGTH: usize = 63;
+
+pub const CLOCKS_LENGTH: usize = 73;
+
+pub const WORDS_LENGTH: usize = 2880;
+
+pub const STAMPS_LENGTH: usize = 180;
+
+pub const BLOCKS_LENGTH: usize = 3328;
+
+pub const DSM_IDS: usize = 16;
+
+pub const PUBKEYS_LENGTH: usize = 1088;
+
+pub const OFFER_LENGTH: usize = 179;
+
+pub const CHAIN_LENGTH: usize = 45;
+
+pub const NUMBERS_LENGTH: usize = 2;
+
+pub const HELDKEY_LENGTH: usize = 32;
+
+pub const WAITING_LENGTH: usize = 21504;
+
+pub const SETS_LENGTH: usize = 2484;
+
+pub const SATELLITES: usize = 36;
 
 // Every region has its length.
 pub fn shaped(
@@ -41,80 +65,175 @@ pub fn shaped(
     sets: &[u8],
     arrivals: &[u32],
 ) -> bool
-    ensures { λ r. ⌜ r ≡ rules.shaped (state (now (config .entry)) (now (clocks .entry)) (now (words .entry)) (now (stamps .entry)) (now (blocks .entry)) (now (headers .entry)) (now (present .entry)) (now (since .entry)) (now (pubkeys .entry)) (now (offer .entry)) (now (chain .entry)) (now (numbers .entry)) (now (heldkey .entry)) (now (waiting .entry)) (now (sets .entry)) (now (arrivals .entry))) ⌝ }
+    ensures { λ r. ⌜ r ≡ S.shaped (state (now (config .entry)) (now (clocks .entry)) (now (words .entry)) (now (stamps .entry)) (now (blocks .entry)) (now (headers .entry)) (now (present .entry)) (now (since .entry)) (now (pubkeys .entry)) (now (offer .entry)) (now (chain .entry)) (now (numbers .entry)) (now (heldkey .entry)) (now (waiting .entry)) (now (sets .entry)) (now (arrivals .entry))) ⌝ }
 {
     let last = four(
-        heldkey.len() == 32,
-        waiting.len() == 21504,
-        sets.len() == 2484,
-        arrivals.len() == 36,
+        heldkey.len() == HELDKEY_LENGTH,
+        waiting.len() == WAITING_LENGTH,
+        sets.len() == SETS_LENGTH,
+        arrivals.len() == SATELLITES,
     );
     let third = four(
-        pubkeys.len() == 1088,
-        offer.len() == 179,
-        chain.len() == 45,
-        numbers.len() == 2,
+        pubkeys.len() == PUBKEYS_LENGTH,
+        offer.len() == OFFER_LENGTH,
+        chain.len() == CHAIN_LENGTH,
+        numbers.len() == NUMBERS_LENGTH,
     );
     let second = four(
-        blocks.len() == 3328,
-        headers.len() == 16,
-        present.len() == 16,
-        since.len() == 16,
+        blocks.len() == BLOCKS_LENGTH,
+        headers.len() == DSM_IDS,
+        present.len() == DSM_IDS,
+        since.len() == DSM_IDS,
     );
     let first = four(
-        config.len() == 63,
-        clocks.len() == 73,
-        words.len() == 2880,
-        stamps.len() == 180,
+        config.len() == CONFIG_LENGTH,
+        clocks.len() == CLOCKS_LENGTH,
+        words.len() == WORDS_LENGTH,
+        stamps.len() == STAMPS_LENGTH,
     );
     four(first, second, third, last)
 }
 
-// ---- word
-
-// PRN or time out of range, or a word 4 whose SVID is not the PRN.
-pub fn word_unfit(prn: usize, time: u32, bytes: &[u8]) -> bool
-    requires { ⌜ length (now bytes) ≡ 16 ⌝ }
-    ensures { λ r. ⌜ (r ≡ wordUnfit (record { prn = prn; time = time; bytes = now (bytes .entry) })) × (r ≡ false → ((1 ≤ prn) × (prn ≤ 36)) × (time < 4294967295)) ⌝ }
+fn four(a: bool, b: bool, c: bool, d: bool) -> bool
+    ensures { λ r. ⌜ r ≡ (a && (b && (c && d))) ⌝ }
 {
-    if prn < 1 {
-        return true;
-    }
-    if 36 < prn {
-        return true;
-    }
-    if !times::time_valid(time) {
-        return true;
-    }
-    if navdata::word_type(bytes) != 4 {
-        return false;
-    }
-    navdata::svid(bytes) != prn
+    bools::both(a, bools::both(b, bools::both(c, d)))
 }
 
-// The number that refuses a word past the check of lengths, or 0.
-pub fn word_refusal(config: &[u8], clocks: &[u32], prn: usize, time: u32, bytes: &[u8]) -> u32
-    requires { ⌜ (length (now config) ≡ 63) × ((length (now clocks) ≡ 73) × (length (now bytes) ≡ 16)) ⌝ }
-    ensures { λ r. ⌜ ((s : State) → s .config ≡ now (config .entry) → s .clocks ≡ now (clocks .entry) → (rules.shaped s && eqb (length (now (bytes .entry))) 16) ≡ true → r ≡ firstOf (wordChecks s (record { prn = prn; time = time; bytes = now (bytes .entry) }))) × (r ≡ 0 → ((1 ≤ prn) × (prn ≤ 36)) × (time < 4294967295)) ⌝ }
+// ---- settings
+
+// NS; a number that no start takes counts as 1.
+pub fn ns_of(config: &[u8]) -> u64
+    requires { ⌜ length (now config) ≡ configLength ⌝ }
+    ensures { λ r. ⌜ (r ≡ S.nsOf (now (config .entry))) × ((1 ≤ r) × (r ≤ 36)) ⌝ }
 {
-    if word_unfit(prn, time, bytes) {
-        return 2;
+    let ns = config[0];
+    if ns < 1 {
+        return 1;
     }
-    if config[62] != 0 {
-        return 4;
+    if 36 < ns {
+        return 1;
     }
-    if later(clocks[36 + prn], time) {
-        return 3;
+    ns as u64
+}
+
+// The MACLT number of the start.
+pub fn maclt_of(config: &[u8]) -> u8
+    requires { ⌜ length (now config) ≡ configLength ⌝ }
+    ensures { λ r. ⌜ r ≡ S.macltOf (now (config .entry)) ⌝ }
+{
+    config[1]
+}
+
+// An emergency message stopped the core.
+pub fn stopped(config: &[u8]) -> bool
+    requires { ⌜ length (now config) ≡ configLength ⌝ }
+    ensures { λ r. ⌜ r ≡ S.stopped (now (config .entry)) ⌝ }
+{
+    config[62] != 0
+}
+
+// Stops the core until a new start.
+pub fn stop(config: &mut [u8])
+    requires { ⌜ length (now config) ≡ configLength ⌝ }
+    ensures { λ _. ⌜ now (config .exit) ≡ set (now (config .entry)) 62 1 ⌝ }
+{
+    config[62] = 1;
+}
+
+// ---- clocks
+
+// A PRN that is heard: 1 to 36.
+pub fn prn_valid(prn: u8) -> bool
+    ensures { λ r. ⌜ (r ≡ S.prnValid prn) × (r ≡ true → (1 ≤ prn) × (prn ≤ 36)) ⌝ }
+{
+    if prn < 1 {
+        return false;
     }
-    0
+    prn <= 36
+}
+
+// The stamp of the last sub-frame.
+pub fn last_subframe(clocks: &[u32]) -> u32
+    requires { ⌜ length (now clocks) ≡ clocksLength ⌝ }
+    ensures { λ r. ⌜ r ≡ S.lastSubframe (now (clocks .entry)) ⌝ }
+{
+    clocks[0]
+}
+
+// The stamp of a satellite's last sub-frame.
+pub fn last_subframe_of(clocks: &[u32], prn: u8) -> u32
+    requires { ⌜ (length (now clocks) ≡ clocksLength) × (prn ≤ 36) ⌝ }
+    ensures { λ r. ⌜ r ≡ S.lastSubframeOf (now (clocks .entry)) prn ⌝ }
+{
+    clocks[prn as usize]
+}
+
+// The stamp of a satellite's last word.
+pub fn last_word_of(clocks: &[u32], prn: u8) -> u32
+    requires { ⌜ (length (now clocks) ≡ clocksLength) × (prn ≤ 36) ⌝ }
+    ensures { λ r. ⌜ r ≡ S.lastWordOf (now (clocks .entry)) prn ⌝ }
+{
+    clocks[36 + prn as usize]
+}
+
+// The time of a sub-frame is noted: the last over all satellites, and this one's.
+pub fn note_subframe(clocks: &mut [u32], prn: u8, time: u32)
+    requires { ⌜ (length (now clocks) ≡ clocksLength) × ((prn ≤ 36) × (time < 4294967295)) ⌝ }
+    ensures { λ _. ⌜ now (clocks .exit) ≡ set (set (now (clocks .entry)) 0 (stampOf time)) prn (stampOf time) ⌝ }
+{
+    clocks[0] = time + 1;
+    clocks[prn as usize] = time + 1;
+}
+
+// The time of a satellite's word is noted.
+pub fn note_word(clocks: &mut [u32], prn: u8, time: u32)
+    requires { ⌜ (length (now clocks) ≡ clocksLength) × ((prn ≤ 36) × (time < 4294967295)) ⌝ }
+    ensures { λ _. ⌜ now (clocks .exit) ≡ set (now (clocks .entry)) (36 + prn) (stampOf time) ⌝ }
+{
+    let at = 36 + prn as usize;
+    clocks[at] = time + 1;
 }
 
 // A stamp is that of a later time.
-fn later(stamp: u32, time: u32) -> bool
+pub fn later(stamp: u32, time: u32) -> bool
     ensures { λ r. ⌜ r ≡ ltb (stampOf time) stamp ⌝ }
 {
     if stamp == 0 {
         return false;
     }
     time < stamp - 1
+}
+
+// A stamp is that of this time or of a later one.
+pub fn reached(stamp: u32, time: u32) -> bool
+    ensures { λ r. ⌜ r ≡ leb (stampOf time) stamp ⌝ }
+{
+    time < stamp
+}
+
+// ---- the held key and the waiting tags
+
+// The held key's slot; a number past every slot counts as 0.
+pub fn held_slot(numbers: &[u64]) -> u64
+    requires { ⌜ length (now numbers) ≡ numbersLength ⌝ }
+    ensures { λ r. ⌜ (r ≡ S.heldSlot (now (numbers .entry))) × (r < 17179869184) ⌝ }
+{
+    let slot = numbers[0];
+    if 17179869184 <= slot {
+        return 0;
+    }
+    slot
+}
+
+// How many tags wait; at most 256 do.
+pub fn waiting_count(numbers: &[u64]) -> usize
+    requires { ⌜ length (now numbers) ≡ numbersLength ⌝ }
+    ensures { λ r. ⌜ (r ≡ S.waitingCount (now (numbers .entry))) × (r ≤ 256) ⌝ }
+{
+    let count = numbers[1];
+    if 256 < count {
+        return 0;
+    }
+    count as usize
 }

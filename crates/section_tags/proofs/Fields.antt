@@ -18,7 +18,7 @@ use Rattle.laws.specs.Refusal.{neb}
 use Rattle.rules.specs.Bits.{anyOf}
 use Rattle.rules.specs.Chain.{Held}
 use Rattle.rules.specs.State.{Nav, markOf, prnValid}
-use Rattle.rules.specs.Tags.{Work, Section, told, kept, recordIssue, tagEntry, tagMatches, ownTag, notAllowed, secondHalf, flexible, macseqFits, ownOutcome, ownJudged, ownsJudged}
+use Rattle.rules.specs.Tags.{Work, Section, told, marksSet, kept, recordIssue, tagEntry, tagMatches, ownTag, notAllowed, secondHalf, flexible, macseqFits, ownOutcome, ownJudged, ownsJudged}
 use Rattle.rules.specs.Times.{delayOf}
 use Rattle.rules.specs.Navdata.{usable, setOf}
 use Rattle.rules.specs.declared.Chain.{Chain}
@@ -58,7 +58,7 @@ allowed-prn config j t p =
 
 -- the record of a refused tag does not read the set
 refused-any : (t : Tag) (s u : List ℕ) (w : Work) → settled 4 t s w ≡ settled 4 t u w
-unfolding settled told recordIssue
+unfolding settled told marksSet recordIssue
 refused-any t s u w = refl
 
 module _ (config : List ℕ) (n : Nav) (c : Chain) (h : Held) (x : Section) (j : ℕ) (fits : Bool) (w : Work) (p : ℕ) (set : List ℕ)

@@ -16,7 +16,7 @@ returns-3 : tie.Need-returns-3
 returns-3 c =
     let i = c .before in
     let t = i .before .before in
-    let g = t .before .before .before .args in
+    let g = t .before .before .before .before .args in
     λ s m e. root-put s (g .header) _ _ (search needs) (λ k. i .before .if1 .left (t .status-of .ensures ∙ k)) (λ k. i .if2 .left (t .status-of .ensures ∙ k)) (c .root-unfit .ensures s m e)
 
 pub new-root-unfit-spec : {M : Type 1} → statement M

@@ -19,7 +19,7 @@ returns-3 : tie.Need-returns-3
 returns-3 c =
     let i = c .before .before in
     let t = i .before .before in
-    let g = t .before .before .before .args in
+    let g = t .before .before .before .before .args in
     λ s m e.
     rw (c .cidkr .ensures)
     (status-put s (g .header) _ _ (search needs) (λ k. i .before .if1 .left (t .status-of .ensures ∙ k)) (λ k. c .before .if2 .left (t .status-of .ensures ∙ k)) (i .cid-of .ensures))

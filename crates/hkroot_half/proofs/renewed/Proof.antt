@@ -1,4 +1,4 @@
--- `hkroot_half::renewed` meets its contract: what the tree's leaf says of the message, and the stop byte.
+-- `hkroot_half::renewed` meets its contract: what the tree's leaf says of the message, and the stop.
 -- Assumes nothing.
 use borrow.Author.Needs.{needs}
 use Rattle.laws.specs.Lists.{part}
@@ -8,7 +8,10 @@ use Rattle.hkroot_half.proofs.renewed.Tie as tie
 
 returns : tie.Need-returns
 unfolding treeRoot part
-returns c = let e = c .before .before .before .pkr-judge .ensures in ((e .0, e .1 .0), (e .1 .1, rw (← (e .1 .0), c .if1 .taken)))
+returns c =
+    let i = c .before .before .before .before in
+    let e = i .before .before .before .pkr-judge .ensures in
+    ((e .0, e .1 .0), (e .1 .1, rw (← (e .1 .0), i .if1 .taken) (c .before .before .stop .ensures)))
 
 returns-2 : tie.Need-returns-2
 unfolding treeRoot part
@@ -17,6 +20,6 @@ returns-2 c = let e = c .before .before .before .pkr-judge .ensures in ((e .0, e
 pub renewed-spec : {M : Type 1} → statement M
 renewed-spec =
     tie.close
-    (tie.spec (λ c. search needs) (λ c. search needs) (λ c. search needs) (λ c κs. search needs) (λ c. search needs) (λ c. search needs) (λ c. search needs)
+    (tie.spec (λ c. search needs) (λ c. search needs) (λ c. search needs) (λ c κs. search needs) (λ c κs. search needs) (λ c. search needs) (λ c. search needs)
     returns (λ c. search needs) (λ c. search needs)
     returns-2)

@@ -1,10 +1,9 @@
 -- `kroot::kroot_judge` meets its contract: each return is the case of its checks.
 -- Assumes nothing.
 use mathlib.Core.Path.{_≡_, sym, ap, _∙_}
-use mathlib.Core.Bool.{true, false}
+use mathlib.Core.Bool.{true}
 use Prim.Native.Nat.{ℕ, _+_, _*_, _<_, _≤_}
 use denote.Ref.{now}
-use lib.ListN.{length}
 use native.Mathlib.Omega.{arith}
 use borrow.Author.Tests.{not-true, not-false}
 use borrow.Author.Needs.{needs}
@@ -17,28 +16,28 @@ use Rattle.kroot.proofs.Judged.{no-key, bad-parameters, wrong-size, tak
 use Rattle.kroot.proofs.kroot_judge.Statement.{statement}
 use Rattle.kroot.proofs.kroot_judge.Tie as tie
 
-held-is : (c : tie.After-key-held) → keyHeld (now (c .before .before .before .before .before .args .pubkeys)) (S.pkidOf (now (c .before .before .before .before .before .args .d))) ≡ c .key-held .result
+held-is : (c : tie.After-key-held) → keyHeld (now (c .before .before .before .before .before .before .args .pubkeys)) (S.pkidOf (now (c .before .before .before .before .before .before .args .d))) ≡ c .key-held .result
 held-is c = rw (← (c .before .pkid .ensures)) (sym (c .key-held .ensures))
 
-held : (c : tie.Else1) → keyHeld (now (c .before .before .before .before .before .before .args .pubkeys)) (S.pkidOf (now (c .before .before .before .before .before .before .args .d))) ≡ true
+held : (c : tie.Else1) → keyHeld (now (c .before .before .before .before .before .before .before .args .pubkeys)) (S.pkidOf (now (c .before .before .before .before .before .before .before .args .d))) ≡ true
 held c = held-is (c .before) ∙ not-false _ (c .if1 .left)
 
 bad-is : (c : tie.After-parameters-bad)
-    → S.parametersBad (c .before .before .before .before .before .before .before .before .args .maclt) (S.contentsOf (now (c .before .before .before .before .before .before .before .before .args .d))) ≡ c .parameters-bad .result
+    → S.parametersBad (now (c .before .before .before .before .before .before .before .before .before .args .config)) (S.contentsOf (now (c .before .before .before .before .before .before .before .before .before .args .d))) ≡ c .parameters-bad .result
 unfolding S.contentsOf part
 bad-is c = sym (c .parameters-bad .ensures)
 
 -- the key's width, the signature's length and the bytes of the blocks, as the definition has them
 width-is : (c : tie.After-key-width)
-    → c .key-width .result ≡ S.keyWidth (S.ksOf (S.contentsOf (now (c .before .before .before .before .before .before .before .before .before .before .before .before .args .d))))
+    → c .key-width .result ≡ S.keyWidth (S.ksOf (S.contentsOf (now (c .before .before .before .before .before .before .before .before .before .before .before .before .before .args .d))))
 unfolding S.contentsOf part
 width-is c = c .key-width .ensures ∙ ap S.keyWidth (c .before .ks .ensures)
 
 signed-is : (c : tie.After-signature-length)
-    → c .signature-length .result ≡ signatureLength (keyType (now (c .before .before .before .before .before .before .before .before .before .before .before .before .before .before .args .pubkeys)) (S.pkidOf (now (c .before .before .before .before .before .before .before .before .before .before .before .before .before .before .args .d))))
+    → c .signature-length .result ≡ signatureLength (keyType (now (c .before .before .before .before .before .before .before .before .before .before .before .before .before .before .before .args .pubkeys)) (S.pkidOf (now (c .before .before .before .before .before .before .before .before .before .before .before .before .before .before .before .args .d))))
 signed-is c =
     let p = c .before .before .before .before .before .before .before .before .before .before in
-    let pubkeys = now (p .before .before .before .before .args .pubkeys) in
+    let pubkeys = now (p .before .before .before .before .before .args .pubkeys) in
     c .signature-length .ensures ∙ ap signatureLength (c .before .key-type .ensures ∙ ap (λ (i : ℕ). keyType pubkeys i) (p .pkid .ensures))
 
 -- the widths are in range
@@ -47,12 +46,12 @@ bounds c =
     (omega (arith, c .before .before .key-width .ensures, width-bound (c .before .before .before .ks .result)), omega (arith, c .signature-length .ensures, signature-bound (c .before .key-type .result)))
 
 size-is : (c : tie.After-least-blocks)
-    → 13 * c .least-blocks .result ≡ 13 * S.krootBlocks (S.keyWidth (S.ksOf (S.contentsOf (now (c .before .before .before .before .before .before .before .before .before .before .before .before .before .before .before .args .d))))) (keyType (now (c .before .before .before .before .before .before .before .before .before .before .before .before .before .before .before .args .pubkeys)) (S.pkidOf (now (c .before .before .before .before .before .before .before .before .before .before .before .before .before .before .before .args .d))))
+    → 13 * c .least-blocks .result ≡ 13 * S.krootBlocks (S.keyWidth (S.ksOf (S.contentsOf (now (c .before .before .before .before .before .before .before .before .before .before .before .before .before .before .before .before .args .d))))) (keyType (now (c .before .before .before .before .before .before .before .before .before .before .before .before .before .before .before .before .args .pubkeys)) (S.pkidOf (now (c .before .before .before .before .before .before .before .before .before .before .before .before .before .before .before .before .args .d))))
 unfolding S.krootBlocks
 size-is c = rw (c .least-blocks .ensures, signed-is (c .before), width-is (c .before .before .before))
 
 id-small : (c : tie.After-pkid) → c .pkid .result < 16
-id-small c = omega (arith, c .pkid .ensures, pkid-bound (now (c .before .before .before .before .args .d)))
+id-small c = omega (arith, c .pkid .ensures, pkid-bound (now (c .before .before .before .before .before .args .d)))
 
 key-held-requires : tie.Need-key-held-requires
 key-held-requires c κs = (search needs, omega (arith, id-small c))
@@ -91,7 +90,7 @@ store-offer-requires c κs =
     let s = b .before in
     let w = s .before .before .key-width .result in
     let k = s .signature-length .result in
-    let r = s .before .before .before .before .before .before .before .before .before .before .before .before .before .before .pre in
+    let r = s .before .before .before .before .before .before .before .before .before .before .before .before .before .before .before .pre in
     ((r .1 .0, omega (arith, bounds s)), (omega (arith, bounds s), omega (arith, c .before .if3 .left, b .least-blocks .ensures, least-fits (13 + w + k))))
 
 returns-4 : tie.Need-returns-4

@@ -8,8 +8,8 @@ use Rattle.kroot.proofs.parameters_bad.Tie as tie
 
 returns : tie.Need-returns
 returns c =
-    let g = c .before .before .before .before .args in
-    rw (c .root-time-bad .ensures, c .before .widths-bad .ensures, c .before .before .functions-bad .ensures) (bad-is (g .maclt) (now (g .c)))
+    let g = c .before .before .before .before .before .args in
+    rw (c .root-time-bad .ensures, c .before .widths-bad .ensures, c .before .before .functions-bad .ensures) (bad-is (now (g .config)) (now (g .c)))
 
 pub parameters-bad-spec : {M : Type 1} → statement M
 parameters-bad-spec =

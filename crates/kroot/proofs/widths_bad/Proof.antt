@@ -19,8 +19,8 @@ add-used-2 c = omega (arith, c .tag-width .ensures, tag-bound (c .before .before
 returns : tie.Need-returns
 unfolding G.widthsBad
 returns c =
-    let c4 = c .before .before .before .before .before in
-    rw (c .maclt-field .ensures, c .before .block-bits .ensures, c .before .before .wide .ensures .0, c .before .before .before .nmack .ensures, c .before .before .before .before .tag-width .ensures, c4 .key-width .ensures, c4 .before .ms .ensures, c4 .before .before .ks .ensures)
+    let c4 = c .before .before .before .before .before .before in
+    rw (c .maclt-field .ensures, c .before .maclt-of .ensures, c .before .before .block-bits .ensures, c .before .before .before .wide .ensures .0, c .before .before .before .before .nmack .ensures, c .before .before .before .before .before .tag-width .ensures, c4 .key-width .ensures, c4 .before .ms .ensures, c4 .before .before .ks .ensures)
 
 pub widths-bad-spec : {M : Type 1} → statement M
 widths-bad-spec =
@@ -28,5 +28,5 @@ widths-bad-spec =
     (tie.spec (λ c κs. search needs) (λ c κs. search needs) (λ c κs. search needs)
     mul-used (λ c κs. search needs)
     add-used
-    add-used-2 (λ c κs. search needs) (λ c κs. search needs) (λ c κs. search needs) (λ c κs. search needs)
+    add-used-2 (λ c κs. search needs) (λ c κs. search needs) (λ c κs. search needs) (λ c κs. search needs) (λ c κs. search needs)
     returns)

@@ -42,7 +42,7 @@ loop-again c =
 returns : tie.Need-returns Inv-loop μ-loop
 returns c =
     let l = c .before .loop in
-    all-blocks _ _ _ (l .b) _ _ _ _ _ _ _ (search needs) (search needs) (l .inv .1 .1)
+    (all-blocks _ _ _ (l .b) _ _ _ _ _ _ _ (search needs) (search needs) (l .inv .1 .1), l .inv .1 .0)
 
 pub keys-proved-spec : {M : Type 1} → statement M
 keys-proved-spec =

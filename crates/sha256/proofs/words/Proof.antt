@@ -1,13 +1,17 @@
 -- `sha256::words` meets its contract, by what each read ensures.
 -- Assumes nothing.
-use Rattle.sha256.specs.Sha256 as S
-use Rattle.sha256.proofs.Rounds.{sixteen-same}
+use mathlib.Core.Path.{_≡_}
+use denote.Ref.{now}
+use lib.ListN.{length}
+use Rattle.sha256.proofs.Laid.{block-laid}
 use borrow.Author.Needs.{needs}
 use Rattle.sha256.proofs.words.Statement.{statement}
 use Rattle.sha256.proofs.words.Tie as tie
 
+length-b : (c : tie.After-word-at-arg) → length (now (c .before .args .b)) ≡ 64
+length-b c = search needs
+
 returns : tie.Need-returns
-unfolding S.words
 returns c =
     let c1 = c .before .before in
     let c2 = c1 .before .before in
@@ -24,7 +28,7 @@ returns c =
     let c13 = c12 .before .before in
     let c14 = c13 .before .before in
     let c15 = c14 .before .before in
-    sixteen-same (c15 .get-u32 .ensures) (c14 .get-u322 .ensures) (c13 .get-u323 .ensures) (c12 .get-u324 .ensures) (c11 .get-u325 .ensures) (c10 .get-u326 .ensures) (c9 .get-u327 .ensures) (c8 .get-u328 .ensures) (c7 .get-u329 .ensures) (c6 .get-u3210 .ensures) (c5 .get-u3211 .ensures) (c4 .get-u3212 .ensures) (c3 .get-u3213 .ensures) (c2 .get-u3214 .ensures) (c1 .get-u3215 .ensures) (c .get-u3216 .ensures)
+    block-laid _ _ _ _ _ _ _ _ _ _ _ _ _ _ _ _ _ (length-b (c15 .before)) (c15 .word-at .ensures) (c14 .word-at2 .ensures) (c13 .word-at3 .ensures) (c12 .word-at4 .ensures) (c11 .word-at5 .ensures) (c10 .word-at6 .ensures) (c9 .word-at7 .ensures) (c8 .word-at8 .ensures) (c7 .word-at9 .ensures) (c6 .word-at10 .ensures) (c5 .word-at11 .ensures) (c4 .word-at12 .ensures) (c3 .word-at13 .ensures) (c2 .word-at14 .ensures) (c1 .word-at15 .ensures) (c .word-at16 .ensures)
 
 pub words-spec : {M : Type 1} → statement M
 words-spec =

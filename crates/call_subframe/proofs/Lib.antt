@@ -1,0 +1,2 @@
+-- Laws of the sub-frame call.
+pub mod Subframes

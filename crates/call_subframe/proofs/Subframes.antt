@@ -1,0 +1,99 @@
+-- The sub-frame call by its cases: refused in both halves, 75 zero bytes, an emergency message, or both halves done.
+-- Assumes nothing.
+use mathlib.Core.Path.{_≡_, refl, sym, ap, _∙_}
+use mathlib.Core.Bool.{Bool, true, false, cond, not, _&&_, _||_}
+use mathlib.Core.List.{List, []}
+use Prim.Native.Nat.{ℕ, zero, suc, _*_, _/_, _<_, _≤_}
+use native.Mathlib.Omega.{arith}
+use lib.Dec.{leb, ltb, eqb}
+use lib.ListN.{length, set, replicate}
+use borrow.Author.Tests.{ne-eqb}
+use Rattle.laws.specs.Lists.{splice, same}
+use Rattle.laws.specs.Refusal.{firstOf, unless}
+use Rattle.laws.proofs.Splice.{splice-nil}
+use Rattle.rules.specs.Calls.{Subframe, SubframeTold, HkrootDone, MackDone, subframeChecks, noted, hkrootHalf, mackHalf, halvesDone, subframeCall}
+use Rattle.rules.specs.Gather.{hkrootOf, mackOf, headerOf}
+use Rattle.rules.specs.State.{State, shaped, stopped, lastSubframe, lastSubframeOf, prnValid, withClocks}
+use Rattle.rules.specs.Times.{stampOf, timeValid}
+use Rattle.hkroot_half.specs.Done.{done}
+use Rattle.hkroot_half.specs.declared.Half.{Half}
+use Rattle.mack_half.specs.Half.{Gives}
+use Rattle.call_subframe.specs.Told.{subframeTold}
+
+module _ (s : State) (area : List ℕ) (x : Subframe) where
+  abbrev code : ℕ
+  code = firstOf (subframeChecks s area x)
+
+  -- 1 to 4 leave all as before
+  pub refused : (n : ℕ) → (n ≡ 0 → ⊥) → (n ≡ 5 → ⊥) → n ≡ code → subframeTold n n 0 s area ≡ subframeCall s area x
+  unfolding subframeCall
+  refused zero h f e = absurd (h refl)
+  refused (suc n) h f e = rw (← e, ne-eqb (suc n) 5 f)
+
+  -- 5 notes the time
+  pub zero-bytes : (k : List ℕ) → 5 ≡ code → k ≡ set (set (s .clocks) 0 (stampOf (x .time))) (x .prn) (stampOf (x .time)) → subframeTold 5 5 0 (withClocks s k) area ≡ subframeCall s area x
+  unfolding subframeCall noted
+  zero-bytes k e q = rw (← e, q)
+
+  -- both halves are done in the state whose time is noted
+  pub accepted : (t : SubframeTold) (k : List ℕ) → 0 ≡ code → k ≡ set (set (s .clocks) 0 (stampOf (x .time))) (x .prn) (stampOf (x .time)) → t ≡ halvesDone (withClocks s k) area x → t ≡ subframeCall s area x
+  unfolding subframeCall noted
+  accepted t k e q h = rw (← e) (rw q at h)
+
+  -- ---- both halves
+
+  -- a proved emergency message
+  pub stops : (a : Half) (s' : State) → done a s' ≡ hkrootHalf s (x .time) (hkrootOf (x .bytes) 15) → a .stops ≡ true → subframeTold (a .code) 4 0 s' area ≡ halvesDone s area x
+  unfolding halvesDone
+  stops a s' e f = rw (← e, f)
+
+  times-twelve : (n k : ℕ) → n ≡ k * 12 → k ≡ n / 12
+  times-twelve n k e = omega arith
+
+  pub goes-on : (a : Half) (s' s'' : State) (n count header : ℕ) (mack area′ : List ℕ) → done a s' ≡ hkrootHalf s (x .time) (hkrootOf (x .bytes) 15) → a .stops ≡ false
+      → header ≡ headerOf (hkrootOf (x .bytes) 15) → mack ≡ mackOf (x .bytes) 15 → Gives (mackHalf s' (x .prn) (x .time) header mack) n count s'' area area′
+      → subframeTold (a .code) n count s'' area′ ≡ halvesDone s area x
+  unfolding halvesDone
+  goes-on a s' s'' n count header mack area′ e f eh em g =
+      let m = mackHalf s' (x .prn) (x .time) (headerOf (hkrootOf (x .bytes) 15)) (mackOf (x .bytes) 15) in
+      rw (← e, f) (told-by (a .code) m n count s'' area′ (rw (eh, em) at g))
+    where
+      told-by : (c : ℕ) (m : MackDone) (n count : ℕ) (s'' : State) (area′ : List ℕ) → Gives m n count s'' area area′
+          → subframeTold c n count s'' area′ ≡ record { hkroot = c; mack = m .code; count = length (m .records) / 12; state = m .state; area = splice area 0 (m .records) }
+      told-by c m n count s'' area′ g = rw (g .code-is, g .state-is, g .area-is, ← (times-twelve (length (m .records)) count (g .count-is)))
+
+-- ---- the checks by their cases
+
+-- a wrong length
+pub unshaped : (s : State) (area : List ℕ) (x : Subframe) → (shaped s && (eqb (length area) 3240 && eqb (length (x .bytes)) 75)) ≡ false → subframeTold 1 1 0 s area ≡ subframeCall s area x
+unfolding subframeChecks
+unshaped s area x e = refused s area x 1 (λ z. absurd (omega (arith, z))) (λ z. absurd (omega (arith, z))) (rw e)
+
+module _ (s : State) (area : List ℕ) (x : Subframe) (e : (shaped s && (eqb (length area) 3240 && eqb (length (x .bytes)) 75)) ≡ true) where
+  pub no-prn : prnValid (x .prn) ≡ false → 2 ≡ firstOf (subframeChecks s area x)
+  unfolding subframeChecks
+  no-prn p = rw (e, p)
+
+  module _ (p : prnValid (x .prn) ≡ true) where
+    pub no-time : timeValid (x .time) ≡ false → 2 ≡ firstOf (subframeChecks s area x)
+    unfolding subframeChecks
+    no-time t = rw (e, p, t)
+
+    module _ (t : timeValid (x .time) ≡ true) where
+      pub is-stopped : stopped (s .config) ≡ true → 4 ≡ firstOf (subframeChecks s area x)
+      unfolding subframeChecks
+      is-stopped k = rw (e, p, t, k)
+
+      module _ (k : stopped (s .config) ≡ false) where
+        pub not-later : (ltb (stampOf (x .time)) (lastSubframe (s .clocks)) || leb (stampOf (x .time)) (lastSubframeOf (s .clocks) (x .prn))) ≡ true → 3 ≡ firstOf (subframeChecks s area x)
+        unfolding subframeChecks
+        not-later o = rw (e, p, t, k, o)
+
+        module _ (o : (ltb (stampOf (x .time)) (lastSubframe (s .clocks)) || leb (stampOf (x .time)) (lastSubframeOf (s .clocks) (x .prn))) ≡ false) where
+          pub zeros : same (x .bytes) (replicate 75 0) ≡ true → 5 ≡ firstOf (subframeChecks s area x)
+          unfolding subframeChecks
+          zeros z = rw (e, p, t, k, o, z)
+
+          pub passes : same (x .bytes) (replicate 75 0) ≡ false → 0 ≡ firstOf (subframeChecks s area x)
+          unfolding subframeChecks
+          passes z = rw (e, p, t, k, o, z)

@@ -1,0 +1,2 @@
+-- What the contracts of the sub-frame call speak of.
+pub mod Told

@@ -1,0 +1,214 @@
+// The call that lends the authentication fields of a sub-frame (01, "HKROOT", "MACK"; "Checks go 1, 2, 4, 3, 5"), past the check of lengths.
+//   take_subframe       the call: 2, 4, 3 or 5 for both halves, or the time is noted and both halves are done
+//   subframe_refusal    the number that refuses both halves, or 0
+ghost use mathlib.Core.Path.{_≡_};
+ghost use mathlib.Core.Bool.{true, _&&_, _||_};
+ghost use mathlib.Core.List.{List};
+ghost use Prim.Native.Nat.{ℕ, _≤_, _<_};
+ghost use lib.Dec.{eqb, ltb, leb};
+ghost use lib.ListN.{length, set, replicate};
+ghost use Rattle.laws.specs.Lists.{same};
+ghost use Rattle.laws.specs.Refusal.{firstOf};
+ghost use Rattle.gather.specs.Store.{Lent};
+ghost use Rattle.rules.specs.Calls.{subframeChecks, halvesDone, subframeCall};
+ghost use Rattle.rules.specs.State.{State, state, shaped, lastSubframe, lastSubframeOf, configLength, clocksLength};
+ghost use Rattle.rules.specs.Times.{stampOf};
+ghost use Rattle.call_subframe.specs.Told.{subframeTold, subframe};
+
+// What the call gives: a number for each half, and how many tag records were written.
+pub struct Halves {
+    pub hkroot: u32,
+    pub mack: u32,
+    pub count: u32,
+}
+
+// ---- what refuses both halves
+
+// Row 3: earlier than the last sub-frame, or not later for its PRN.
+fn out_of_order(clocks: &[u32], prn: u8, time: u32) -> bool
+    requires { ⌜ (length (now clocks) ≡ clocksLength) × (prn ≤ 36) ⌝ }
+    ensures { λ r. ⌜ r ≡ (ltb (stampOf time) (lastSubframe (now (clocks .entry))) || leb (stampOf time) (lastSubframeOf (now (clocks .entry)) prn)) ⌝ }
+{
+    let early = regions::later(regions::last_subframe(clocks), time);
+    let again = regions::reached(regions::last_subframe_of(clocks, prn), time);
+    bools::either(early, again)
+}
+
+// Row 5: 75 zero bytes.
+fn all_zero(bytes: &[u8]) -> bool
+    ensures { λ r. ⌜ r ≡ same (now (bytes .entry)) (replicate 75 0) ⌝ }
+{
+    let zeros = [0u8; 75];
+    buffer::equal(bytes, &zeros)
+}
+
+// The number that refuses a sub-frame whose lengths are right: 2, 4, 3, 5, or 0.
+fn subframe_refusal(config: &[u8], clocks: &[u32], prn: u8, time: u32, bytes: &[u8]) -> u32
+    requires { ⌜ (length (now config) ≡ configLength) × (length (now clocks) ≡ clocksLength) ⌝ }
+    ensures { λ r. ⌜ ((s : State) (area : List ℕ) → s .config ≡ now (config .entry) → s .clocks ≡ now (clocks .entry) → (shaped s && (eqb (length area) 3240 && eqb (length (now (bytes .entry))) 75)) ≡ true → r ≡ firstOf (subframeChecks s area (subframe prn time (now (bytes .entry))))) × ((r ≡ 0 → ((1 ≤ prn) × (prn ≤ 36)) × (time < 4294967295)) × (r ≡ 5 → ((1 ≤ prn) × (prn ≤ 36)) × (time < 4294967295))) ⌝ }
+{
+    if !regions::prn_valid(prn) {
+        return 2;
+    }
+    if !times::time_valid(time) {
+        return 2;
+    }
+    if regions::stopped(config) {
+        return 4;
+    }
+    if out_of_order(clocks, prn, time) {
+        return 3;
+    }
+    if all_zero(bytes) {
+        return 5;
+    }
+    0
+}
+
+// The time is noted: the last sub-frame of all, and of its satellite.
+fn note(clocks: &mut [u32], prn: u8, time: u32)
+    requires { ⌜ (length (now clocks) ≡ clocksLength) × ((prn ≤ 36) × (time < 4294967295)) ⌝ }
+    ensures { λ _. ⌜ now (clocks .exit) ≡ set (set (now (clocks .entry)) 0 (stampOf time)) prn (stampOf time) ⌝ }
+{
+    clocks[0] = time + 1;
+    clocks[prn as usize] = time + 1;
+}
+
+// ---- both halves
+
+// The HKROOT half, then the MACK half; a proved emergency message gives 0 and 4.
+fn both_halves(
+    config: &mut [u8],
+    words: &[u8],
+    stamps: &[u32],
+    blocks: &mut [u8],
+    headers: &mut [u8],
+    present: &mut [u16],
+    since: &mut [u32],
+    pubkeys: &mut [u8],
+    offer: &mut [u8],
+    chain: &[u8],
+    numbers: &mut [u64],
+    heldkey: &mut [u8],
+    waiting: &mut [u8],
+    sets: &mut [u8],
+    arrivals: &mut [u32],
+    area: &mut [u8],
+    prn: u8,
+    time: u32,
+    bytes: &[u8],
+) -> Halves
+    requires { ⌜ Lent (now blocks) (now headers) (now present) (now since) × ((length (now config) ≡ 63) × ((length (now pubkeys) ≡ 1088) × (length (now offer) ≡ 179))) ⌝ }
+    requires { ⌜ ((length (now words) ≡ 2880) × (length (now stamps) ≡ 180)) × ((length (now chain) ≡ 45) × ((length (now numbers) ≡ 2) × (length (now heldkey) ≡ 32))) ⌝ }
+    requires { ⌜ ((length (now sets) ≡ 2484) × (length (now arrivals) ≡ 36)) × ((length (now waiting) ≡ 21504) × (length (now area) ≡ 3240)) ⌝ }
+    requires { ⌜ length (now bytes) ≡ 75 ⌝ }
+    ensures { λ r. ⌜ ((clocks : List ℕ) → subframeTold (r .hkroot) (r .mack) (r .count) (state (now (config .exit)) clocks (now (words .entry)) (now (stamps .entry)) (now (blocks .exit)) (now (headers .exit)) (now (present .exit)) (now (since .exit)) (now (pubkeys .exit)) (now (offer .exit)) (now (chain .entry)) (now (numbers .exit)) (now (heldkey .exit)) (now (waiting .exit)) (now (sets .exit)) (now (arrivals .exit))) (now (area .exit)) ≡ halvesDone (state (now (config .entry)) clocks (now (words .entry)) (now (stamps .entry)) (now (blocks .entry)) (now (headers .entry)) (now (present .entry)) (now (since .entry)) (now (pubkeys .entry)) (now (offer .entry)) (now (chain .entry)) (now (numbers .entry)) (now (heldkey .entry)) (now (waiting .entry)) (now (sets .entry)) (now (arrivals .entry))) (now (area .entry)) (subframe prn time (now (bytes .entry)))) ⌝ }
+{
+    let hk = gather::hkroot_of(bytes);
+    let mack = gather::mack_of(bytes);
+    let a = hkroot_half::hkroot_half(
+        config,
+        blocks,
+        headers,
+        present,
+        since,
+        pubkeys,
+        offer,
+        time,
+        &hk,
+    );
+    if a.stops {
+        return Halves {
+            hkroot: a.code,
+            mack: 4,
+            count: 0,
+        };
+    }
+    let m = mack_half::mack_half(
+        config,
+        words,
+        stamps,
+        chain,
+        numbers,
+        heldkey,
+        waiting,
+        sets,
+        arrivals,
+        area,
+        prn,
+        time,
+        gather::header_of(&hk),
+        &mack,
+    );
+    Halves {
+        hkroot: a.code,
+        mack: m.code,
+        count: m.count as u32,
+    }
+}
+
+// The fields of a sub-frame, 15 of five bytes, that satellite `prn` sent at `time`. Records stand one after the other at the front of `area`.
+pub fn take_subframe(
+    config: &mut [u8],
+    clocks: &mut [u32],
+    words: &[u8],
+    stamps: &[u32],
+    blocks: &mut [u8],
+    headers: &mut [u8],
+    present: &mut [u16],
+    since: &mut [u32],
+    pubkeys: &mut [u8],
+    offer: &mut [u8],
+    chain: &[u8],
+    numbers: &mut [u64],
+    heldkey: &mut [u8],
+    waiting: &mut [u8],
+    sets: &mut [u8],
+    arrivals: &mut [u32],
+    area: &mut [u8],
+    prn: u8,
+    time: u32,
+    bytes: &[u8],
+) -> Halves
+    requires { ⌜ (shaped (state (now config) (now clocks) (now words) (now stamps) (now blocks) (now headers) (now present) (now since) (now pubkeys) (now offer) (now chain) (now numbers) (now heldkey) (now waiting) (now sets) (now arrivals)) ≡ true) × ((length (now area) ≡ 3240) × (length (now bytes) ≡ 75)) ⌝ }
+    ensures { λ r. ⌜ subframeTold (r .hkroot) (r .mack) (r .count) (state (now (config .exit)) (now (clocks .exit)) (now (words .entry)) (now (stamps .entry)) (now (blocks .exit)) (now (headers .exit)) (now (present .exit)) (now (since .exit)) (now (pubkeys .exit)) (now (offer .exit)) (now (chain .entry)) (now (numbers .exit)) (now (heldkey .exit)) (now (waiting .exit)) (now (sets .exit)) (now (arrivals .exit))) (now (area .exit)) ≡ subframeCall (state (now (config .entry)) (now (clocks .entry)) (now (words .entry)) (now (stamps .entry)) (now (blocks .entry)) (now (headers .entry)) (now (present .entry)) (now (since .entry)) (now (pubkeys .entry)) (now (offer .entry)) (now (chain .entry)) (now (numbers .entry)) (now (heldkey .entry)) (now (waiting .entry)) (now (sets .entry)) (now (arrivals .entry))) (now (area .entry)) (subframe prn time (now (bytes .entry))) ⌝ }
+{
+    let code = subframe_refusal(config, clocks, prn, time, bytes);
+    if code == 5 {
+        note(clocks, prn, time);
+        return Halves {
+            hkroot: 5,
+            mack: 5,
+            count: 0,
+        };
+    }
+    if code != 0 {
+        return Halves {
+            hkroot: code,
+            mack: code,
+            count: 0,
+        };
+    }
+    note(clocks, prn, time);
+    both_halves(
+        config,
+        words,
+        stamps,
+        blocks,
+        headers,
+        present,
+        since,
+        pubkeys,
+        offer,
+        chain,
+        numbers,
+        heldkey,
+        waiting,
+        sets,
+        arrivals,
+        area,
+        prn,
+        time,
+        bytes,
+    )
+}

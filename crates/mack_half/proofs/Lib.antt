@@ -1,0 +1,3 @@
+-- Laws of the MACK half.
+pub mod Sections
+mod Taken

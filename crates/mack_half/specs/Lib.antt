@@ -1,0 +1,2 @@
+-- What the contracts of the MACK half speak of.
+pub mod Half

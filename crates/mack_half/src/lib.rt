@@ -1,0 +1,244 @@
+// The MACK half of a sub-frame (01, "MACK"; "section 11, then block by block 13, 12"): the section is refused, or its keys are proved and
+// its tags judged: those that waited and are due, then its own.
+//   mack_half      the half, over the regions that it touches
+//   judge_tags     the waiting tags that are due, then the section's own
+use rules::Chain;
+ghost use mathlib.Core.Path.{_≡_};
+ghost use mathlib.Core.Bool.{true, false};
+ghost use mathlib.Core.List.{[], _∷_};
+ghost use Prim.Native.Nat.{_*_, _^_, _≤_, _<_};
+ghost use lib.ListN.{length, take};
+ghost use Rattle.rules.specs.Bits.{filled};
+ghost use Rattle.rules.specs.Calls.{sectionUnfit, mackHalf};
+ghost use Rattle.rules.specs.Chain.{held};
+ghost use Rattle.rules.specs.Kroot.{inForce, chainWith, chainContents};
+ghost use Rattle.rules.specs.State.{State, nsOf, configLength, chainLength, numbersLength, heldkeyLength};
+ghost use Rattle.rules.specs.Tags.{ownsJudged, duesJudged};
+ghost use Rattle.authentic_sets.specs.Regions.{auth};
+ghost use Rattle.chain.specs.Sound.{Sound};
+ghost use Rattle.navdata.specs.Pieces.{nav};
+ghost use Rattle.tag_records.specs.Told.{start, Leaves};
+ghost use Rattle.tags.specs.Layout.{Laid, section};
+ghost use Rattle.mack_half.specs.Half.{tesla, judging, Gives};
+
+// ---- the chain and the held key
+
+// The numbers of the chain in force.
+fn chain_of(config: &[u8], chain: &[u8]) -> Chain
+    requires { ⌜ (length (now config) ≡ configLength) × (length (now chain) ≡ chainLength) ⌝ }
+    ensures { λ r. ⌜ (r ≡ chainWith (nsOf (now (config .entry))) (chainContents (now (chain .entry)))) × (inForce (now (config .entry)) (now (chain .entry)) ≡ true → Sound r × Laid r) ⌝ }
+{
+    kroot::chain_with(regions::ns_of(config), &chain[1..45])
+}
+
+// Row 11: no chain, status 0 or 3, other CID, or before sub-frame 0.
+fn section_unfit(config: &[u8], chain: &[u8], time: u32, header: u8) -> bool
+    requires { ⌜ (length (now config) ≡ configLength) × (length (now chain) ≡ chainLength) ⌝ }
+    ensures { λ r. ⌜ ((s : State) → s .config ≡ now (config .entry) → s .chain ≡ now (chain .entry) → r ≡ sectionUnfit s time header) × (r ≡ false → inForce (now (config .entry)) (now (chain .entry)) ≡ true) ⌝ }
+{
+    if !kroot::in_force(config, chain) {
+        return true;
+    }
+    let status = gather::status_of(header);
+    if status < 1 {
+        return true;
+    }
+    if 2 < status {
+        return true;
+    }
+    if kroot::cidkr(&chain[1..45]) != gather::cid_of(header) {
+        return true;
+    }
+    times::seconds_of(time) < kroot::root_seconds(&chain[1..45])
+}
+
+// The held key in its first bytes, zeros after it.
+fn held_key(heldkey: &[u8], width: usize) -> [u8; 32]
+    requires { ⌜ (length (now heldkey) ≡ heldkeyLength) × (width ≤ 32) ⌝ }
+    ensures { λ r. ⌜ r ≡ filled 32 (take width (now (heldkey .entry))) ⌝ }
+{
+    let mut key = [0u8; 32];
+    buffer::copy_part(&mut key, 0, heldkey, 0, width);
+    key
+}
+
+// The held key, its slot and the count of waiting tags are these.
+fn hold(numbers: &mut [u64], heldkey: &mut [u8], slot: u64, kept: usize, key: [u8; 32])
+    requires { ⌜ (length (now numbers) ≡ numbersLength) × (length (now heldkey) ≡ heldkeyLength) ⌝ }
+    ensures { λ _. ⌜ (now (numbers .exit) ≡ slot ∷ kept ∷ []) × (now (heldkey .exit) ≡ key) ⌝ }
+{
+    numbers[0] = slot;
+    numbers[1] = kept as u64;
+    buffer::copy_at(heldkey, 0, &key);
+}
+
+// ---- tags
+
+// How many tags wait after a section, and how many records it wrote.
+pub struct Judged {
+    pub kept: usize,
+    pub records: usize,
+}
+
+// The first n waiting tags that are due under the held key of this slot, then the tags of a section of 60 bytes that satellite `prn` sent at
+// `time`. Records stand one after the other at the front of `area`, and the tags that wait at the front of `waiting`; other bytes stay.
+fn judge_tags(
+    config: &[u8],
+    words: &[u8],
+    stamps: &[u32],
+    c: Chain,
+    slot: u64,
+    key: [u8; 32],
+    prn: u8,
+    time: u32,
+    status: u8,
+    mack: &[u8],
+    waiting: &mut [u8],
+    n: usize,
+    sets: &mut [u8],
+    arrivals: &mut [u32],
+    area: &mut [u8],
+) -> Judged
+    requires { ⌜ ((length (now config) ≡ 63) × (length (now words) ≡ 2880)) × ((length (now stamps) ≡ 180) × (length (now mack) ≡ 60)) ⌝ }
+    requires { ⌜ ((length (now sets) ≡ 2484) × (length (now arrivals) ≡ 36)) × ((length (now waiting) ≡ 21504) × (length (now area) ≡ 3240)) ⌝ }
+    requires { ⌜ (Sound c × Laid c) × ((slot < 2 ^ 34) × (n ≤ 256)) ⌝ }
+    ensures { λ r. ⌜ Leaves (ownsJudged (now (config .entry)) (nav (now (words .entry)) (now (stamps .entry))) c (held slot (take (c .width) key)) (section prn time status (now (mack .entry))) (c .nmack * c .fields) (duesJudged c (held slot (take (c .width) key)) (now (waiting .entry)) n (start 0 (now (sets .entry)) (now (arrivals .entry))))) 0 0 (now (waiting .entry)) (now (area .entry)) (now (waiting .exit)) (now (sets .exit)) (now (arrivals .exit)) (now (area .exit)) (r .kept) × ((length ((ownsJudged (now (config .entry)) (nav (now (words .entry)) (now (stamps .entry))) c (held slot (take (c .width) key)) (section prn time status (now (mack .entry))) (c .nmack * c .fields) (duesJudged c (held slot (take (c .width) key)) (now (waiting .entry)) n (start 0 (now (sets .entry)) (now (arrivals .entry))))) .records) ≡ r .records * 12) × (r .records ≤ 270)) ⌝ }
+{
+    let stay = due_tags::judge_due(c, slot, key, waiting, n, sets, arrivals, area);
+    let told = n - stay;
+    let fields = (c.nmack * c.fields) as usize;
+    let kept = section_tags::judge_own(
+        config,
+        words,
+        stamps,
+        c,
+        slot,
+        key,
+        prn,
+        time,
+        status,
+        mack,
+        waiting,
+        stay,
+        sets,
+        arrivals,
+        area,
+        told,
+    );
+    Judged {
+        kept: kept,
+        records: told + fields,
+    }
+}
+
+// ---- the half
+
+// What the half gives: its number, and how many tag records were written.
+pub struct Mack {
+    pub code: u32,
+    pub count: usize,
+}
+
+// A section that row 11 does not refuse: its keys are proved, then tags are judged, and the highest key proved is held.
+fn judge_section(
+    config: &[u8],
+    words: &[u8],
+    stamps: &[u32],
+    chain: &[u8],
+    numbers: &mut [u64],
+    heldkey: &mut [u8],
+    waiting: &mut [u8],
+    sets: &mut [u8],
+    arrivals: &mut [u32],
+    area: &mut [u8],
+    prn: u8,
+    time: u32,
+    header: u8,
+    mack: &[u8],
+) -> Mack
+    requires { ⌜ ((length (now config) ≡ 63) × (length (now words) ≡ 2880)) × ((length (now stamps) ≡ 180) × (length (now mack) ≡ 60)) ⌝ }
+    requires { ⌜ ((length (now sets) ≡ 2484) × (length (now arrivals) ≡ 36)) × ((length (now waiting) ≡ 21504) × (length (now area) ≡ 3240)) ⌝ }
+    requires { ⌜ ((length (now chain) ≡ 45) × (length (now numbers) ≡ 2)) × ((length (now heldkey) ≡ 32) × (inForce (now config) (now chain) ≡ true)) ⌝ }
+    ensures { λ r. ⌜ ((s : State) → s .config ≡ now (config .entry) → s .nav ≡ nav (now (words .entry)) (now (stamps .entry)) → s .chain ≡ now (chain .entry) → s .tesla ≡ tesla (now (numbers .entry)) (now (heldkey .entry)) (now (waiting .entry)) → s .auth ≡ auth (now (sets .entry)) (now (arrivals .entry)) → sectionUnfit s time header ≡ false → Gives (mackHalf s prn time header (now (mack .entry))) (r .code) (r .count) (judging s (tesla (now (numbers .exit)) (now (heldkey .exit)) (now (waiting .exit))) (auth (now (sets .exit)) (now (arrivals .exit)))) (now (area .entry)) (now (area .exit))) × (r .count ≤ 270) ⌝ }
+{
+    let c = chain_of(config, chain);
+    let slot = regions::held_slot(numbers);
+    let n = regions::waiting_count(numbers);
+    let mut key = held_key(heldkey, c.width);
+    let p = mack_keys::keys_proved(c, time, prn, mack, slot, &mut key);
+    if p.code != 0 {
+        return Mack {
+            code: p.code,
+            count: 0,
+        };
+    }
+    let w = judge_tags(
+        config,
+        words,
+        stamps,
+        c,
+        p.slot,
+        key,
+        prn,
+        time,
+        gather::status_of(header),
+        mack,
+        waiting,
+        n,
+        sets,
+        arrivals,
+        area,
+    );
+    hold(numbers, heldkey, p.slot, w.kept, key);
+    Mack {
+        code: 0,
+        count: w.records,
+    }
+}
+
+// The MACK section of a sub-frame, 60 bytes, that satellite `prn` sent at `time` with this NMA header. Records stand one after the other at
+// the front of `area`; the other bytes stay.
+pub fn mack_half(
+    config: &[u8],
+    words: &[u8],
+    stamps: &[u32],
+    chain: &[u8],
+    numbers: &mut [u64],
+    heldkey: &mut [u8],
+    waiting: &mut [u8],
+    sets: &mut [u8],
+    arrivals: &mut [u32],
+    area: &mut [u8],
+    prn: u8,
+    time: u32,
+    header: u8,
+    mack: &[u8],
+) -> Mack
+    requires { ⌜ ((length (now config) ≡ 63) × (length (now words) ≡ 2880)) × ((length (now stamps) ≡ 180) × (length (now mack) ≡ 60)) ⌝ }
+    requires { ⌜ ((length (now sets) ≡ 2484) × (length (now arrivals) ≡ 36)) × ((length (now waiting) ≡ 21504) × (length (now area) ≡ 3240)) ⌝ }
+    requires { ⌜ (length (now chain) ≡ 45) × ((length (now numbers) ≡ 2) × (length (now heldkey) ≡ 32)) ⌝ }
+    ensures { λ r. ⌜ ((s : State) → s .config ≡ now (config .entry) → s .nav ≡ nav (now (words .entry)) (now (stamps .entry)) → s .chain ≡ now (chain .entry) → s .tesla ≡ tesla (now (numbers .entry)) (now (heldkey .entry)) (now (waiting .entry)) → s .auth ≡ auth (now (sets .entry)) (now (arrivals .entry)) → Gives (mackHalf s prn time header (now (mack .entry))) (r .code) (r .count) (judging s (tesla (now (numbers .exit)) (now (heldkey .exit)) (now (waiting .exit))) (auth (now (sets .exit)) (now (arrivals .exit)))) (now (area .entry)) (now (area .exit))) × (r .count ≤ 270) ⌝ }
+{
+    if section_unfit(config, chain, time, header) {
+        return Mack {
+            code: 11,
+            count: 0,
+        };
+    }
+    judge_section(
+        config,
+        words,
+        stamps,
+        chain,
+        numbers,
+        heldkey,
+        waiting,
+        sets,
+        arrivals,
+        area,
+        prn,
+        time,
+        header,
+        mack,
+    )
+}
