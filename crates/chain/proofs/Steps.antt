@@ -8,7 +8,7 @@ use Prim.Native.Nat.{ℕ, zero, suc, _+_, _-_, _*_, _/_, _%_, _^_, _≤_, _<_}
 use native.Mathlib.Omega.{arith}
 use native.Mathlib.Nat.{add-zero, add-suc, add-assoc}
 use lib.ListN.{length, take, drop, set, replicate, length-append, length-replicate, length-drop, replicate-append-replicate, take-append-drop, drop-of-length-le}
-use lib.Seq.{take-at, drop-at, drop-drop, set-at, length-take-le, take-all, take-take, take-append-le, drop-append-add}
+use lib.Seq.{take-at, drop-at, drop-drop, set-at, length-take-le, take-all}
 use borrow.Author.Tests.{lt-ltb, le-ltb}
 use Rattle.laws.specs.Lists.{part, splice, same}
 use Rattle.laws.specs.Bytes.{be4, be8}
@@ -16,8 +16,7 @@ use Rattle.laws.proofs.Numbers.{length-be4}
 use Rattle.laws.proofs.Splice.{splice-start, splice-end, length-splice, below?}
 use Rattle.times.proofs.Times.{be4-low}
 use Rattle.sha256.specs.Sha256 as H
-use Rattle.sha256.proofs.Continued.{one-block, length-bytes, length-sha256}
-use Rattle.sha256.proofs.Laid.{bytes-take, bytes-drop, bytes-splice}
+use Rattle.sha256.proofs.Continued.{one-block, length-sha256}
 use Rattle.rules.specs.Chain as S
 use Rattle.rules.specs.declared.Chain.{Chain}
 use Rattle.chain.specs.Sound.{Framed}
@@ -50,18 +49,11 @@ walk-one c (suc j) m k l h e =
     let f : suc j - 1 ≡ j = omega arith in
     rw f (ap (S.walk c j m) (e ∙ rw f))
 
--- the key's words are the first of the block
-pub started : (c : Chain) (key b w k : List ℕ) → c .width ≤ 32 → take (c .width) b ≡ take (c .width) key → H.bytes w ≡ b → k ≡ take 8 w
-    → take (c .width) (H.bytes k) ≡ take (c .width) key
-started c key b w k h e p q =
-    ap (take (c .width)) (ap H.bytes q ∙ bytes-take 8 w ∙ ap (take 32) p) ∙ take-take (c .width) 32 b h ∙ e
-
--- no step is left, and the key is copied out
-pub walked : (c : Chain) (n m i : ℕ) (k d key out : List ℕ) → i ≤ 0 → S.walk c i m (take (c .width) (H.bytes k)) ≡ S.walk c n m (take (c .width) key)
-    → d ≡ H.bytes k → out ≡ splice key 0 (part d 0 (c .width)) → out ≡ splice key 0 (S.walk c n m (take (c .width) key))
+-- no step is left, and the key is copied out of the block
+pub walked : (c : Chain) (n m i : ℕ) (b key out : List ℕ) → i ≤ 0 → S.walk c i m (take (c .width) b) ≡ S.walk c n m (take (c .width) key)
+    → out ≡ splice key 0 (part b 0 (c .width)) → out ≡ splice key 0 (S.walk c n m (take (c .width) key))
 unfolding part
-walked c n m i k d key out h e q p =
-    p ∙ ap (splice key 0) (ap (take (c .width)) q ∙ sym (walk-none c i m (take (c .width) (H.bytes k)) (omega arith)) ∙ e)
+walked c n m i b key out h e p = p ∙ ap (splice key 0) (sym (walk-none c i m (take (c .width) b) (omega arith)) ∙ e)
 
 -- a walk in two parts: first b steps, then a
 pub walk-add : (c : Chain) (a b m : ℕ) (k : List ℕ) → S.walk c (a + b) m k ≡ S.walk c a m (S.walk c b (m + a) k)
@@ -70,8 +62,47 @@ walk-add c a zero m k = rw (add-zero a)
 walk-add c a (suc b) m k =
     rw (add-suc a b, add-assoc m a b) (walk-add c a b m (S.keyStep c (m + (a + b)) k))
 
--- ---- a framed block
+-- ---- a step in a framed block: the time, then the hash value's first bytes
+module _ (c : Chain) (w : c .width ≤ 32) (a : length (c .alpha) ≡ 6) where
+  -- what is hashed for a key and a time
+  abbrev message : List ℕ → ℕ → List ℕ
+  message k t = k ++ (be4 t ++ c .alpha)
 
+  length-message : (k : List ℕ) (t : ℕ) → length k ≡ c .width → length (message k t) ≡ c .width + 10
+  length-message k t e = simp (length-append, length-be4) (omega arith)
+
+  -- with the time set it is the padded message
+  timed : (b : List ℕ) (t : ℕ) → length b ≡ 64 → Framed c b → splice b (c .width) (be4 t) ≡ H.pad (message (take (c .width) b) t)
+  unfolding splice H.pad
+  timed b t e f =
+      let n : length (take (c .width) b) ≡ c .width = length-take-le (c .width) b (omega arith) in
+      rw (length-be4 t, drop-drop 4 (c .width) b, f, length-message (take (c .width) b) t n) (simp append-assoc)
+
+  pub step-is : (m t : ℕ) (b b1 g h d b2 : List ℕ) → length b ≡ 64 → Framed c b → t ≡ S.slotTime c m % 2 ^ 32 → b1 ≡ splice b (c .width) (be4 t)
+      → g ≡ H.H0 → h ≡ H.compress g b1 → d ≡ H.bytes h → b2 ≡ splice b1 0 (part d 0 (c .width))
+      → (take (c .width) b2 ≡ S.keyStep c m (take (c .width) b)) × Framed c b2
+  unfolding S.keyStep splice part
+  step-is m t b b1 g h d b2 e f p q r s u v =
+      let k = take (c .width) b in
+      let n : length k ≡ c .width = length-take-le (c .width) b (omega arith) in
+      let x = S.slotTime c m in
+      let t4 : be4 t ≡ be4 x = ap be4 p ∙ be4-low x in
+      let q2 : b1 ≡ H.pad (message k x) = q ∙ ap (splice b (c .width)) t4 ∙ timed b x e f in
+      let o : length (message k x) ≡ c .width + 10 = length-message k x n in
+      let hash : H.sha256 (message k x) ≡ d = one-block (message k x) (omega arith) ∙ rw (u, s, r, q2) in
+      let l : length (take (c .width) d) ≡ c .width = length-take-le (c .width) d (omega (arith, length-sha256 (message k x), ap length hash)) in
+      let rest : drop (c .width) b1 ≡ be4 t ++ drop 4 (drop (c .width) b) =
+      rw (q, length-be4 t) (drop-at k (be4 t ++ drop 4 (drop (c .width) b)) (c .width) n) in
+      let v2 : b2 ≡ take (c .width) d ++ drop (c .width) b1 = v ∙ ap (λ (j : ℕ). take (c .width) d ++ drop j b1) l in (
+        rw (v2, hash) (take-at (take (c .width) d) (drop (c .width) b1) (c .width) l),
+        sym (drop-drop 4 (c .width) b2)
+            ∙ ap (drop 4) (ap (drop (c .width)) v2 ∙ drop-at (take (c .width) d) (drop (c .width) b1) (c .width) l ∙ rest)
+            ∙ drop-at (be4 t) (drop 4 (drop (c .width) b)) 4 (length-be4 t)
+            ∙ drop-drop 4 (c .width) b
+            ∙ f,
+      )
+
+-- ---- the writes of a framed block
 abbrev zs : ℕ → List ℕ
 zs n = replicate n 0
 
@@ -96,80 +127,6 @@ tail-is w h =
     let high : 8 * (w + 10) / 256 ^ 4 ≡ 0 = omega arith in
     let low : 8 * (w + 10) % 256 ^ 4 ≡ 8 * (w + 10) = omega arith in
     rw (z, high, low, zero-bytes, zeros-split (49 - w) (45 - w) 4 (omega arith)) (simp append-assoc)
-
--- a framed block has 64 bytes
-pub framed-length : (c : Chain) (b : List ℕ) → c .width ≤ 32 → length (c .alpha) ≡ 6 → Framed c b → length b ≡ 64
-framed-length c b h a f =
-    let n : length (c .alpha ++ H.tail (c .width + 10)) ≡ 60 - c .width =
-    rw (tail-is (c .width) h) (simp (length-append, length-replicate, length-be4) (omega arith)) in
-    let m : length b - (c .width + 4) ≡ 60 - c .width = sym (length-drop (c .width + 4) b) ∙ ap length f ∙ n in
-    omega arith
-
--- ---- parts of a list that was spliced
-
-drop-splice : (d : List ℕ) (a : ℕ) (s : List ℕ) (j : ℕ) → a ≤ length d → a + length s ≤ j → drop j (splice d a s) ≡ drop j d
-unfolding splice
-drop-splice d a s j h l =
-    let n : ℕ = j - (a + length s) in
-    let r = drop (length s) (drop a d) in
-    let q : j ≡ length (take a d ++ s) + n = omega (arith, length-append (take a d) s, length-take-le a d h) in
-    let q2 : a + (length s + n) ≡ j = omega arith in
-    ap (drop j) (sym (append-assoc (take a d) s r))
-    ∙ ap (λ (k : ℕ). drop k (take a d ++ s ++ r)) q
-    ∙ drop-append-add (take a d ++ s) r n
-    ∙ drop-drop n (length s) (drop a d)
-    ∙ drop-drop (length s + n) a d
-    ∙ ap (λ (k : ℕ). drop k d) q2
-
-take-front : (d s : List ℕ) (j : ℕ) → j ≤ length s → take j (splice d 0 s) ≡ take j s
-unfolding splice
-take-front d s j h = take-append-le j s (drop (length s) d) h
-
--- ---- a step in a framed block: the time, then the hash value's first bytes
-module _ (c : Chain) (w32 : c .width ≤ 32) (a : length (c .alpha) ≡ 6) where
-  -- what is hashed for a key and a time
-  abbrev message : List ℕ → ℕ → List ℕ
-  message k t = k ++ (be4 t ++ c .alpha)
-
-  length-message : (k : List ℕ) (t : ℕ) → length k ≡ c .width → length (message k t) ≡ c .width + 10
-  length-message k t e = simp (length-append, length-be4) (omega arith)
-
-  -- with the time set it is the padded message
-  timed : (b : List ℕ) (t : ℕ) → length b ≡ 64 → Framed c b → splice b (c .width) (be4 t) ≡ H.pad (message (take (c .width) b) t)
-  unfolding splice H.pad
-  timed b t e f =
-      let n : length (take (c .width) b) ≡ c .width = length-take-le (c .width) b (omega arith) in
-      rw (length-be4 t, drop-drop 4 (c .width) b, f, length-message (take (c .width) b) t n) (simp append-assoc)
-
-  -- the key's words put in: past the time the block is as it was
-  keyed : (k w v : List ℕ) → length k ≡ 8 → v ≡ splice w 0 (take ((c .width + 3) / 4) k) → Framed c (H.bytes w)
-      → (take (c .width) (H.bytes v) ≡ take (c .width) (H.bytes k)) × Framed c (H.bytes v)
-  keyed k w v e p f =
-      let n = (c .width + 3) / 4 in
-      let s = take (n * 4) (H.bytes k) in
-      let l : length s ≡ n * 4 = length-take-le (n * 4) (H.bytes k) (omega (arith, length-bytes k)) in
-      let q : H.bytes v ≡ splice (H.bytes w) 0 s = ap H.bytes p ∙ bytes-splice w 0 (take n k) ∙ ap (splice (H.bytes w) 0) (bytes-take n k) in (
-        ap (take (c .width)) q ∙ take-front (H.bytes w) s (c .width) (omega arith) ∙ take-take (c .width) (n * 4) (H.bytes k) (omega arith),
-        ap (drop (c .width + 4)) q ∙ drop-splice (H.bytes w) 0 s (c .width + 4) (omega arith) (omega arith) ∙ f,
-      )
-
-  pub step-is : (m t : ℕ) (k w v u g h : List ℕ) → length k ≡ 8 → Framed c (H.bytes w) → v ≡ splice w 0 (take ((c .width + 3) / 4) k)
-      → t ≡ S.slotTime c m % 2 ^ 32 → H.bytes u ≡ splice (H.bytes v) (c .width) (be4 t) → g ≡ H.H0 → h ≡ H.compress g (H.bytes u)
-      → (take (c .width) (H.bytes h) ≡ S.keyStep c m (take (c .width) (H.bytes k))) × Framed c (H.bytes u)
-  unfolding S.keyStep
-  step-is m t k w v u g h e f p q r s z =
-      let x = S.slotTime c m in
-      let y = keyed k w v e p f in
-      let b = H.bytes v in
-      let n : length b ≡ 64 = framed-length c b w32 a (y .1) in
-      let o : length (message (take (c .width) b) x) ≡ c .width + 10 = length-message (take (c .width) b) x (length-take-le (c .width) b (omega arith)) in
-      let d : H.bytes u ≡ H.pad (message (take (c .width) b) x) = r ∙ ap (splice b (c .width)) (ap be4 q ∙ be4-low x) ∙ timed b x n (y .1) in
-      let hash : H.sha256 (message (take (c .width) b) x) ≡ H.bytes h = one-block (message (take (c .width) b) x) (omega arith) ∙ rw (z, s, d) in (
-        ap (take (c .width)) (sym hash) ∙ ap (λ (l : List ℕ). take (c .width) (H.sha256 (message l x))) (y .0),
-        ap (drop (c .width + 4)) r ∙ drop-splice b (c .width) (be4 t) (c .width + 4) (omega arith) (omega (arith, length-be4 t)) ∙ y .1,
-      )
-
--- ---- the writes of a framed block
 
 pub framed-is : (c : Chain) (key z b1 b2 b4 : List ℕ) → c .width ≤ 32 → length (c .alpha) ≡ 6 → length key ≡ 32 → z ≡ zs 64
     → b1 ≡ splice z 0 (part key 0 (c .width))
@@ -206,6 +163,14 @@ framed-is c key z b1 b2 b4 h a e p q r s =
       ap (drop (w + 4)) (s2 ∙ sym (append-assoc k (zs 4) (c .alpha ++ H.tail (w + 10))))
           ∙ drop-at (k ++ zs 4) (c .alpha ++ H.tail (w + 10)) (w + 4) n4,
     )
+
+-- a framed block has 64 bytes
+pub framed-length : (c : Chain) (b : List ℕ) → c .width ≤ 32 → length (c .alpha) ≡ 6 → Framed c b → length b ≡ 64
+framed-length c b h a f =
+    let n : length (c .alpha ++ H.tail (c .width + 10)) ≡ 60 - c .width =
+    rw (tail-is (c .width) h) (simp (length-append, length-replicate, length-be4) (omega arith)) in
+    let m : length b - (c .width + 4) ≡ 60 - c .width = sym (length-drop (c .width + 4) b) ∙ ap length f ∙ n in
+    omega arith
 
 -- ---- the key's bytes of 32
 

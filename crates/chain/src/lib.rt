@@ -6,15 +6,12 @@
 //   key_fits     whether a key belongs to the chain of the held one
 //   sent_slot    the slot of the key that a satellite sends
 //   key_slot     the slot of the key that a tag uses
-// A step hashes one block, which is kept as words and stays filled from step to step: only the key and the time in it change.
+// A step hashes one block, which stays filled from step to step: only the key and the time in it change.
 use rules::Chain;
 ghost use mathlib.Core.Path.{_≡_};
-ghost use mathlib.Core.List.{_++_};
-ghost use Prim.Native.Nat.{_+_, _*_, _%_, _^_, _≤_, _<_};
-ghost use lib.ListN.{length, take};
+ghost use Prim.Native.Nat.{_+_, _%_, _^_, _≤_, _<_};
+ghost use lib.ListN.{take};
 ghost use Rattle.laws.specs.Lists.{splice};
-ghost use Rattle.laws.specs.Bytes.{be4, be8};
-ghost use Rattle.sha256.specs.Sha256.{bytes};
 ghost use Rattle.rules.specs.Chain as S;
 ghost use Rattle.chain.specs.Sound.{Walks, Framed};
 
@@ -24,18 +21,14 @@ pub fn walk(c: Chain, n: u64, m: u64, key: &mut [u8; 32])
     ensures { λ _. ⌜ now (key .exit) ≡ splice (now (key .entry)) 0 (S.walk c n m (take (c .width) (now (key .entry)))) ⌝ }
 {
     let width = c.width;
-    let b = framed(c, key);
-    let mut w = sha256::words(&b);
-    let mut k = front(w);
+    let mut b = framed(c, key);
     let mut i = n;
     while 0 < i {
         let j = i - 1;
-        let d = step(c, m + j, k, &mut w);
-        k = d;
+        step(c, m + j, &mut b);
         i = j;
     }
-    let d = sha256::bytes(k);
-    buffer::copy_part(key, 0, &d, 0, width);
+    buffer::copy_part(key, 0, &b, 0, width);
 }
 
 // The GST_SF of slot m, in 32 bits.
@@ -61,58 +54,15 @@ fn framed(c: Chain, key: &[u8; 32]) -> [u8; 64]
     b
 }
 
-// One step: the words of the key of slot m, the first of a hash value's, from those of slot m + 1. The words w are those of a step's block.
-fn step(c: Chain, m: u64, k: [u32; 8], w: &mut [u32; 16]) -> [u32; 8]
-    requires { ⌜ Walks c × ((m ≤ 2 ^ 34) × Framed c (bytes (now w))) ⌝ }
-    ensures { λ r. ⌜ (take (c .width) (bytes r) ≡ S.keyStep c m (take (c .width) (bytes k))) × Framed c (bytes (now (w .exit))) ⌝ }
+// One step, in the block: the key of slot m + 1 becomes the key of slot m.
+fn step(c: Chain, m: u64, b: &mut [u8; 64])
+    requires { ⌜ Walks c × ((m ≤ 2 ^ 34) × Framed c (now b)) ⌝ }
+    ensures { λ _. ⌜ (take (c .width) (now (b .exit)) ≡ S.keyStep c m (take (c .width) (now (b .entry)))) × Framed c (now (b .exit)) ⌝ }
 {
     let width = c.width;
-    put_words(w, &k, (width + 3) / 4);
-    put_bytes(w, width, slot_time(c, m));
-    sha256::compress_words(sha256::initial(), w)
-}
-
-// ---- words as bytes
-
-// The first eight words of a block.
-fn front(w: [u32; 16]) -> [u32; 8]
-    ensures { λ r. ⌜ r ≡ take 8 w ⌝ }
-{
-    [w[0], w[1], w[2], w[3], w[4], w[5], w[6], w[7]]
-}
-
-// The first n words of `src` into `dst`.
-fn put_words(dst: &mut [u32], src: &[u32], n: usize)
-    requires { ⌜ (n ≤ length (now dst)) × (n ≤ length (now src)) ⌝ }
-    ensures { λ _. ⌜ now (dst .exit) ≡ splice (now (dst .entry)) 0 (take n (now (src .entry))) ⌝ }
-{
-    let mut i: usize = 0;
-    while i < n {
-        dst[i] = src[i];
-        i += 1;
-    }
-}
-
-// The four bytes of x at place `at` of the bytes of w.
-fn put_bytes(w: &mut [u32], at: usize, x: u32)
-    requires { ⌜ at + 8 ≤ length (now w) * 4 ⌝ }
-    ensures { λ _. ⌜ bytes (now (w .exit)) ≡ splice (bytes (now (w .entry))) at (be4 x) ⌝ }
-{
-    let i = at / 4;
-    let n = replaced(w[i], w[i + 1], at % 4, x);
-    w[i] = (n / 4294967296) as u32;
-    w[i + 1] = (n % 4294967296) as u32;
-}
-
-// The eight bytes of a and b, with the four bytes of x from the byte r of a on.
-fn replaced(a: u32, b: u32, r: usize, x: u32) -> u64
-    requires { ⌜ r < 4 ⌝ }
-    ensures { λ n. ⌜ be8 n ≡ splice (be4 a ++ be4 b) r (be4 x) ⌝ }
-{
-    let e = 8 * r;
-    let high = ((a as u64 >> (32 - e)) << 32) | x as u64;
-    let low = (b as u64) << (32 + e) >> (32 + e);
-    (high << (32 - e)) | low
+    buffer::put_u32(b, width, slot_time(c, m));
+    let d = sha256::bytes(sha256::compress(sha256::initial(), b));
+    buffer::copy_part(b, 0, &d, 0, width);
 }
 
 // The key of slot m, from the held key, whose slot is `held`. Above that slot it is the held key.

@@ -1,4 +1,4 @@
--- `chain::step` meets its contract: the framed block with the key and the time is the padded message of the step.
+-- `chain::step` meets its contract: the framed block with the time is the padded message of the step.
 -- Assumes nothing.
 use mathlib.Core.Path.{_≡_}
 use borrow.Author.Needs.{needs}
@@ -11,23 +11,24 @@ use Rattle.chain.proofs.step.Tie as tie
 length-alpha : (c : tie.Start) → length (c .args .c .alpha) ≡ 6
 length-alpha c = search needs
 
-length-k : (c : tie.Start) → length (c .args .t3) ≡ 8
-length-k c = search needs
+length-b : (c : tie.After-put-u32-arg) → length (now (c .before .args .b)) ≡ 64
+length-b c = search needs
 
 returns : tie.Need-returns
 returns c =
-    let i = c .before .before in
-    let p = i .before in
+    let y = c .before .before .before in
+    let h = y .before in
+    let g = h .before .before in
+    let p = g .before in
     let t = p .before in
-    let k = t .before .before in
-    let s = k .before .before .before in
-    step-is (s .args .c) (search needs) (length-alpha s) (s .args .m) _ (s .args .t3) (now (s .args .w)) _ _ _ _ (length-k s) (s .pre .1 .1)
-    (k .put-words .ensures) (t .slot-time .ensures) (p .put-bytes .ensures) (i .initial .ensures) (c .compress-words .ensures)
+    let s = t .before .before in
+    step-is (s .args .c) (search needs) (length-alpha s) (s .args .m) _ (now (s .args .b)) _ _ _ _ _ (length-b (t .before)) (s .pre .1 .1)
+    (t .slot-time .ensures) (p .put-u32 .ensures) (g .initial .ensures) (h .compress .ensures) (y .bytes .ensures) (c .copy-part .ensures)
 
 pub step-spec : {M : Type 1} → statement M
 step-spec =
     tie.close
     (tie.spec
-    (λ c. search needs) (λ c. search needs) (λ c κs. search needs) (λ c κs. search needs) (λ c κs. search needs)
-    (λ c κs. search needs) (λ c κs. search needs)
+    (λ c κs. search needs) (λ c κs. search needs) (λ c κs. search needs) (λ c κs. search needs) (λ c κs. search needs)
+    (λ c. search needs) (λ c κs. search needs)
     returns)
