@@ -22,7 +22,7 @@ outcome-of-requires c κs =
     let s = c .before in
     let a = s .before .before .before .before .before .before .before .before .before .before .before in
     let l = a .pre .1 .1 .0 in
-    ((a .pre .0 .0, (a .pre .0 .1 .0, set-long s)), ((l .0 .ms-high, omega (arith, l .0 .few, l .1)), s .before .heard .ensures .0))
+    ((a .pre .0 .0, (a .pre .0 .1 .0, set-long s)), ((l .0 .fit .ms-high, omega (arith, l .0 .few, l .1)), s .before .heard .ensures .0))
 
 settle-requires : tie.Need-settle-requires
 settle-requires c κs =
