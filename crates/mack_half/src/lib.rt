@@ -220,10 +220,7 @@ pub fn mack_half(
     ensures { λ r. ⌜ ((s : State) → s .config ≡ now (config .entry) → s .nav ≡ nav (now (words .entry)) (now (stamps .entry)) → s .chain ≡ now (chain .entry) → s .tesla ≡ tesla (now (numbers .entry)) (now (heldkey .entry)) (now (waiting .entry)) → s .auth ≡ auth (now (sets .entry)) (now (arrivals .entry)) → Gives (mackHalf s prn time header (now (mack .entry))) (r .code) (r .count) (judging s (tesla (now (numbers .exit)) (now (heldkey .exit)) (now (waiting .exit))) (auth (now (sets .exit)) (now (arrivals .exit)))) (now (area .entry)) (now (area .exit))) × (r .count ≤ 270) ⌝ }
 {
     if section_unfit(config, chain, time, header) {
-        return Mack {
-            code: 11,
-            count: 0,
-        };
+        return Mack { code: 11, count: 0 };
     }
     judge_section(
         config,

@@ -34,8 +34,8 @@ returns c =
     let o = taken h in
     let g = (entered o) .args in
     λ clocks.
-        let s = state (now (g .config)) clocks (now (g .words)) (now (g .stamps)) (now (g .blocks)) (now (g .headers)) (now (g .present)) (now (g .since)) (now (g .pubkeys)) (now (g .offer)) (now (g .chain)) (now (g .numbers)) (now (g .heldkey)) (now (g .waiting)) (now (g .sets)) (now (g .arrivals)) in
-        stops s (now (g .area)) (subframe (g .prn) (g .time) (now (g .bytes))) (h .hkroot-half .result) _ (h .hkroot-half .ensures s refl refl refl refl ∙ ap (hkrootHalf s (g .time)) (o .hkroot-of .ensures)) (c .if1 .taken)
+    let s = state (now (g .config)) clocks (now (g .words)) (now (g .stamps)) (now (g .blocks)) (now (g .headers)) (now (g .present)) (now (g .since)) (now (g .pubkeys)) (now (g .offer)) (now (g .chain)) (now (g .numbers)) (now (g .heldkey)) (now (g .waiting)) (now (g .sets)) (now (g .arrivals)) in
+    stops s (now (g .area)) (subframe (g .prn) (g .time) (now (g .bytes))) (h .hkroot-half .result) _ (h .hkroot-half .ensures s refl refl refl refl ∙ ap (hkrootHalf s (g .time)) (o .hkroot-of .ensures)) (c .if1 .taken)
 
 -- the MACK section has 60 bytes
 sixty : (c : tie.After-mack-of) → length (c .mack-of .result) ≡ 60
@@ -44,8 +44,7 @@ sixty c = search needs
 mack-half-requires : tie.Need-mack-half-requires
 mack-half-requires c κs =
     let h = done (c .before .before .before .before .before .before .before .before .before .before .before) in
-    let q = (entered (taken h)) .pre in
-    (
+    let q = (entered (taken h)) .pre in (
       ((h .hkroot-half .kept .0 ∙ q .0 .1 .0, q .1 .0 .0 .0), (q .1 .0 .0 .1, sixty (h .before .before .before .before .before .before .before .before .before))),
       (q .1 .1 .0, (q .1 .0 .1 .0, q .1 .0 .1 .1)),
     )
@@ -61,12 +60,12 @@ returns-2 c =
     let o = taken h in
     let g = (entered o) .args in
     λ clocks.
-        let s = state (now (g .config)) clocks (now (g .words)) (now (g .stamps)) (now (g .blocks)) (now (g .headers)) (now (g .present)) (now (g .since)) (now (g .pubkeys)) (now (g .offer)) (now (g .chain)) (now (g .numbers)) (now (g .heldkey)) (now (g .waiting)) (now (g .sets)) (now (g .arrivals)) in
-        let s' = state (h .hkroot-half .last .0) clocks (now (g .words)) (now (g .stamps)) (h .hkroot-half .last .1 .0) (h .hkroot-half .last .1 .1 .0) (h .hkroot-half .last .1 .1 .1 .0) (h .hkroot-half .last .1 .1 .1 .1 .0) (h .hkroot-half .last .1 .1 .1 .1 .1 .0) (h .hkroot-half .last .1 .1 .1 .1 .1 .1 .0) (now (g .chain)) (now (g .numbers)) (now (g .heldkey)) (now (g .waiting)) (now (g .sets)) (now (g .arrivals)) in
-        let x = subframe (g .prn) (g .time) (now (g .bytes)) in
-        goes-on s (now (g .area)) x (h .hkroot-half .result) s' _ (m .mack-half .result .code) (m .mack-half .result .count) (m .before .before .header-of .result) (h .before .before .before .before .before .before .before .before .before .mack-of .result) _
-        (h .hkroot-half .ensures s refl refl refl refl ∙ ap (hkrootHalf s (g .time)) (o .hkroot-of .ensures)) (e .if1 .left)
-        (m .before .before .header-of .ensures ∙ ap headerOf (o .hkroot-of .ensures)) (h .before .before .before .before .before .before .before .before .before .mack-of .ensures) (m .mack-half .ensures .0 s' refl refl refl refl refl)
+    let s = state (now (g .config)) clocks (now (g .words)) (now (g .stamps)) (now (g .blocks)) (now (g .headers)) (now (g .present)) (now (g .since)) (now (g .pubkeys)) (now (g .offer)) (now (g .chain)) (now (g .numbers)) (now (g .heldkey)) (now (g .waiting)) (now (g .sets)) (now (g .arrivals)) in
+    let s' = state (h .hkroot-half .last .0) clocks (now (g .words)) (now (g .stamps)) (h .hkroot-half .last .1 .0) (h .hkroot-half .last .1 .1 .0) (h .hkroot-half .last .1 .1 .1 .0) (h .hkroot-half .last .1 .1 .1 .1 .0) (h .hkroot-half .last .1 .1 .1 .1 .1 .0) (h .hkroot-half .last .1 .1 .1 .1 .1 .1 .0) (now (g .chain)) (now (g .numbers)) (now (g .heldkey)) (now (g .waiting)) (now (g .sets)) (now (g .arrivals)) in
+    let x = subframe (g .prn) (g .time) (now (g .bytes)) in
+    goes-on s (now (g .area)) x (h .hkroot-half .result) s' _ (m .mack-half .result .code) (m .mack-half .result .count) (m .before .before .header-of .result) (h .before .before .before .before .before .before .before .before .before .mack-of .result) _
+    (h .hkroot-half .ensures s refl refl refl refl ∙ ap (hkrootHalf s (g .time)) (o .hkroot-of .ensures)) (e .if1 .left)
+    (m .before .before .header-of .ensures ∙ ap headerOf (o .hkroot-of .ensures)) (h .before .before .before .before .before .before .before .before .before .mack-of .ensures) (m .mack-half .ensures .0 s' refl refl refl refl refl)
 
 pub both-halves-spec : {M : Type 1} → statement M
 both-halves-spec =

@@ -36,8 +36,7 @@ returns-2 c =
 
 returns-3 : tie.Need-returns-3
 returns-3 c =
-    let t = c .before .before in
-    (
+    let t = c .before .before in (
       λ s area ec ek e. is-stopped s area _ e (heard (t .before .before)) (timed t) (rw ec (sym (c .before .stopped .ensures) ∙ c .if3 .taken)),
       (λ z. absurd (omega (arith, z)), λ z. absurd (omega (arith, z))),
     )
@@ -50,8 +49,7 @@ out-of-order-requires c κs =
 returns-4 : tie.Need-returns-4
 returns-4 c =
     let k = c .before .before in
-    let t = k .before .before in
-    (
+    let t = k .before .before in (
       λ s area ec ek e.
           not-later s area _ e (heard (t .before .before)) (timed t) (rw ec (sym (k .before .stopped .ensures) ∙ k .if3 .left)) (rw ek (sym (c .before .out-of-order .ensures) ∙ c .if4 .taken)),
       (λ z. absurd (omega (arith, z)), λ z. absurd (omega (arith, z))),
@@ -61,8 +59,7 @@ returns-5 : tie.Need-returns-5
 returns-5 c =
     let o = c .before .before in
     let k = o .before .before in
-    let t = k .before .before in
-    (
+    let t = k .before .before in (
       λ s area ec ek e.
           zeros s area _ e (heard (t .before .before)) (timed t) (rw ec (sym (k .before .stopped .ensures) ∙ k .if3 .left)) (rw ek (sym (o .before .out-of-order .ensures) ∙ o .if4 .left))
           (sym (c .before .all-zero .ensures) ∙ c .if5 .taken),
@@ -73,8 +70,7 @@ returns-6 : tie.Need-returns-6
 returns-6 c =
     let o = c .before .before in
     let k = o .before .before in
-    let t = k .before .before in
-    (
+    let t = k .before .before in (
       λ s area ec ek e.
           passes s area _ e (heard (t .before .before)) (timed t) (rw ec (sym (k .before .stopped .ensures) ∙ k .if3 .left)) (rw ek (sym (o .before .out-of-order .ensures) ∙ o .if4 .left))
           (sym (c .before .all-zero .ensures) ∙ c .if5 .left),

@@ -66,8 +66,7 @@ note-requires-2 c κs =
 both-halves-requires : tie.Need-both-halves-requires
 both-halves-requires c κs =
     let a = entered (c .before .before .before .before .before .before .before .before .before .before .before .before .before .before .before .before .before .before .before) in
-    let l = long a in
-    (
+    let l = long a in (
       (record { blocks-long = l .blocks; headers-long = l .headers; marks-long = l .present; times-long = l .since }, (l .config, (l .pubkeys, l .offer))),
       (
         ((l .words, l .stamps), (l .chain, (l .numbers, l .heldkey))),

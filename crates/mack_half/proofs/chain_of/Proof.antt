@@ -17,8 +17,7 @@ is-chain c = c .chain-with .ensures
 returns : tie.Need-returns
 returns c =
     let n = c .before .before .ns-of .ensures in
-    let g = c .before .before .before .before .before .args in
-    (
+    let g = c .before .before .before .before .before .args in (
       rw (← (n .0)) (is-chain c),
       λ e. chain-fits (now (g .config)) (now (g .chain)) (c .before .before .ns-of .result) (c .chain-with .result) (is-chain c) (n .1 .0) (n .1 .1) e,
     )

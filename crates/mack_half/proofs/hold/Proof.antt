@@ -17,8 +17,7 @@ long c = search needs
 returns : tie.Need-returns
 returns c =
     let s = c .before .before .before .before .before .before .before in
-    let g = s .args in
-    (
+    let g = s .args in (
       two-numbers (now (g .numbers)) (g .slot) (g .kept) (s .pre .0),
       c .before .before .copy-at .ensures ∙ splice-whole (now (g .heldkey)) (g .t5) (omega (arith, s .pre .1, long s)),
     )

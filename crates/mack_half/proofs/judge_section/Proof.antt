@@ -39,8 +39,7 @@ returns c =
     let r = read k in
     let a = entered r in
     let g = a .args in
-    let n = k .before .before .before .before in
-    (
+    let n = k .before .before .before .before in (
       λ s ec en eh et ea f.
           keys-by s (r .chain-of .result) (now (g .config)) (now (g .words)) (now (g .stamps)) (now (g .chain)) (now (g .numbers)) (now (g .heldkey)) (now (g .waiting)) (now (g .sets)) (now (g .arrivals))
           (k .before .before .held-key .result) (now (g .mack)) (n .before .before .held-slot .result) (n .waiting-count .result) (g .prn) (g .time)
@@ -71,8 +70,7 @@ returns-2 c =
     let r = read k in
     let a = entered r in
     let g = a .args in
-    let n = k .before .before .before .before in
-    (
+    let n = k .before .before .before .before in (
       λ s ec en eh et ea f.
           taken-by s (r .chain-of .result) (now (g .config)) (now (g .words)) (now (g .stamps)) (now (g .chain)) (now (g .numbers)) (now (g .heldkey)) (now (g .waiting)) (now (g .sets)) (now (g .arrivals))
           (k .before .before .held-key .result) (now (g .mack)) (n .before .before .held-slot .result) (n .waiting-count .result) (g .prn) (g .time)

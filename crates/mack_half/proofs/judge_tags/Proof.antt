@@ -58,11 +58,11 @@ returns c =
     let h = held (g .slot) (take (g .c .width) (g .key)) in
     let w = duesJudged (g .c) h (now (g .waiting)) (g .n) (start 0 (now (g .sets)) (now (g .arrivals))) in
     let r = both-leave (now (g .config)) (nav (now (g .words)) (now (g .stamps))) (g .c) h (section (g .prn) (g .time) (g .status) (now (g .mack)))
-        (now (g .waiting)) (now (g .area))
-        (d .judge-due .last .1 .1 .1 .0) (d .judge-due .last .1 .1 .1 .1 .1 .0) (d .judge-due .last .1 .1 .1 .1 .1 .1 .0) (d .judge-due .last .1 .1 .1 .1 .1 .1 .1 .0)
-        _ _ _ _ (g .n) (g .c .nmack * g .c .fields) (d .judge-due .result) (o .judge-own .result) w
-        (a .pre .1 .0 .1 .0) (a .pre .1 .0 .1 .1) (omega (arith, few d, a .pre .1 .1 .0 .1 .few))
-        (d .judge-due .ensures .0) (d .judge-due .ensures .1) (o .judge-own .ensures .0) (o .judge-own .ensures .1) in
+    (now (g .waiting)) (now (g .area))
+    (d .judge-due .last .1 .1 .1 .0) (d .judge-due .last .1 .1 .1 .1 .1 .0) (d .judge-due .last .1 .1 .1 .1 .1 .1 .0) (d .judge-due .last .1 .1 .1 .1 .1 .1 .1 .0)
+    _ _ _ _ (g .n) (g .c .nmack * g .c .fields) (d .judge-due .result) (o .judge-own .result) w
+    (a .pre .1 .0 .1 .0) (a .pre .1 .0 .1 .1) (omega (arith, few d, a .pre .1 .1 .0 .1 .few))
+    (d .judge-due .ensures .0) (d .judge-due .ensures .1) (o .judge-own .ensures .0) (o .judge-own .ensures .1) in
     (r .0, (r .1 .1, omega (arith, few d, a .pre .1 .1 .0 .1 .few, a .pre .1 .1 .1 .1)))
 
 pub judge-tags-spec : {M : Type 1} → statement M

@@ -13,8 +13,7 @@ use Rattle.mack_half.proofs.mack_half.Tie as tie
 returns : tie.Need-returns
 returns c =
     let u = c .before in
-    let g = u .before .before .before .before .before .before .before .before .before .before .before .before .args in
-    (
+    let g = u .before .before .before .before .before .before .before .before .before .before .before .before .args in (
       λ s ec en eh et ea.
           rw (unjudged s (tesla (now (g .numbers)) (now (g .heldkey)) (now (g .waiting))) (auth (now (g .sets)) (now (g .arrivals))) et ea)
           (refused s (g .prn) (g .time) (g .header) (now (g .mack)) (now (g .area)) (sym (u .section-unfit .ensures .0 s ec eh) ∙ c .if1 .taken)),
@@ -31,8 +30,7 @@ judge-section-requires c κs =
 returns-2 : tie.Need-returns-2
 returns-2 c =
     let j = c .before .before .before .before .before .before .before .before .before .before .before .before in
-    let e = j .before .before .before .before .before .before .before in
-    (
+    let e = j .before .before .before .before .before .before .before in (
       λ s ec en eh et ea. j .judge-section .ensures .0 s ec en eh et ea (sym (e .before .section-unfit .ensures .0 s ec eh) ∙ e .if1 .left),
       j .judge-section .ensures .1,
     )

@@ -37,8 +37,7 @@ returns-4 c =
     let e3 = d .before .before in
     let e2 = e3 .before in
     let f = forced (e2 .before .before) in
-    let st = e2 .before .status-of .ensures in
-    (
+    let st = e2 .before .status-of .ensures in (
       λ s ec eh. other-cid s _ _ _ _ ec eh f (rw st at (e2 .if2 .left)) (rw st at (e3 .if3 .left)) (rw (d .cidkr .ensures, c .before .cid-of .ensures) at (c .if4 .taken)),
       λ e. f,
     )
@@ -51,8 +50,7 @@ returns-5 c =
     let e3 = d .before .before in
     let e2 = e3 .before in
     let f = forced (e2 .before .before) in
-    let st = e2 .before .status-of .ensures in
-    (
+    let st = e2 .before .status-of .ensures in (
       λ s ec eh.
           rw (c .root-seconds .ensures, c .before .before .seconds-of .ensures)
           (by-root s _ _ _ _ ec eh f (rw st at (e2 .if2 .left)) (rw st at (e3 .if3 .left)) (rw (d .cidkr .ensures, e4 .before .cid-of .ensures) at (e4 .if4 .left))),

@@ -44,8 +44,7 @@ take-subframe-requires c κs =
     let e = c .before .before .before .before .before .before .before .before .before .before .before .before .before .before in
     let a = entered (e .before) in
     let t = sym (tested (e .before)) ∙ not-false _ (e .if1 .left) in
-    let l = and-right (shaped (before a)) (eqb (length (now (a .args .area))) 3240 && eqb (length (now (a .args .bytes))) 75) t in
-    (
+    let l = and-right (shaped (before a)) (eqb (length (now (a .args .area))) 3240 && eqb (length (now (a .args .bytes))) 75) t in (
       and-left (shaped (before a)) (eqb (length (now (a .args .area))) 3240 && eqb (length (now (a .args .bytes))) 75) t,
       (
         eqb-true (length (now (a .args .area))) 3240 (and-left (eqb (length (now (a .args .area))) 3240) (eqb (length (now (a .args .bytes))) 75) l),
