@@ -9,13 +9,13 @@
  *     static struct osnma_core core;            needs no clearing: an accepted start writes it all
  *
  *     osnma_start(&core, &settings)             once, and again to begin anew
+ *     osnma_subframe(&core, prn, time, ..)      the authentication fields of each sub-frame, 75 bytes
  *     osnma_word(&core, prn, time, word)        each I/NAV word of 16 bytes
  *     osnma_read_message(&core, &message)       what waits for the signature chip, if something does
  *     osnma_verdict(&core, good, ..)            the chip's answer on it
  *     osnma_read_set(&core, prn, set, ..)       a satellite's authentic navigation data
  *
- * The call for the authentication fields of a sub-frame is not in this version. What only they bring
- * (blocks, a message that waits, proved keys, tags, authentic sets) does not come about without it.
+ * The fields of a sub-frame are lent before its words.
  *
  * Duties of the caller, for every call:
  *   - No pointer is null. Each is aligned for its type and good for the whole of what it points to.
@@ -41,6 +41,9 @@ extern "C" {
 
 /* ---- lengths, in bytes where nothing else is said */
 
+#define OSNMA_FIELDS 75u     /* the authentication fields of a sub-frame: 15 of five bytes */
+#define OSNMA_RECORDS 3240u  /* the area for tag records: of 256 tags that waited, and of 14 others */
+#define OSNMA_RECORD 12u     /* a tag record */
 #define OSNMA_WORD 16u       /* an I/NAV word */
 #define OSNMA_SET 69u        /* a navigation set: 549 bits of words 1 to 5, then three zero bits */
 #define OSNMA_MESSAGE 45u    /* a signed message, zeros after a short one */
@@ -60,13 +63,13 @@ extern "C" {
 #define OSNMA_STAMPS_COUNT 180u
 #define OSNMA_BLOCKS_COUNT 3328u
 #define OSNMA_HEADERS_COUNT 16u
-#define OSNMA_BLOCK_MARKS_COUNT 16u
+#define OSNMA_PRESENT_COUNT 16u
 #define OSNMA_SINCE_COUNT 16u
-#define OSNMA_KEYS_COUNT 1088u
+#define OSNMA_PUBKEYS_COUNT 1088u
 #define OSNMA_OFFER_COUNT 179u
 #define OSNMA_CHAIN_COUNT 45u
 #define OSNMA_NUMBERS_COUNT 2u
-#define OSNMA_HELD_KEY_COUNT 32u
+#define OSNMA_HELDKEY_COUNT 32u
 #define OSNMA_WAITING_COUNT 21504u
 #define OSNMA_SETS_COUNT 2484u
 #define OSNMA_ARRIVALS_COUNT 36u
@@ -117,6 +120,24 @@ enum osnma_answer {
     OSNMA_NO_SET = 16
 };
 
+/* What became of a tag: document 01's outcomes. */
+enum osnma_outcome {
+    /* It matches its satellite's set, which is now authentic unless a later tag's set is held. */
+    OSNMA_AUTHENTIC = 1,
+    /* It does not match. */
+    OSNMA_WRONG = 2,
+    /* Its satellite has no usable set. */
+    OSNMA_NO_USABLE_SET = 3,
+    /* An ADKD other than 0, 11 and 12, or not the fixed one of its field, or a PRN not 1 to 36. */
+    OSNMA_NOT_ALLOWED = 4,
+    /* It waits for its key, with a copy of its set. */
+    OSNMA_WAITS = 5,
+    /* Its field is flexible and MACSEQ fails. */
+    OSNMA_SEQUENCE_UNFIT = 6,
+    /* It would wait, but all 256 places are taken. */
+    OSNMA_NO_PLACE = 7
+};
+
 /* ---- times */
 
 /* What osnma_gst gives for a week or second that GST_SF cannot hold. Every call refuses it with 2. */
@@ -145,31 +166,31 @@ struct osnma_core {
     uint32_t clocks[OSNMA_CLOCKS_COUNT];
     /* By PRN: words 1 to 5. */
     uint8_t words[OSNMA_WORDS_COUNT];
-    /* By PRN: the stamp of each word. */
+    /* By PRN: the stamp of the sub-frame that each word came in. */
     uint32_t stamps[OSNMA_STAMPS_COUNT];
     /* By DSM ID: 16 blocks of 13 bytes. */
     uint8_t blocks[OSNMA_BLOCKS_COUNT];
     /* By DSM ID: the NMA header that its blocks came with. */
     uint8_t headers[OSNMA_HEADERS_COUNT];
     /* By DSM ID: the blocks present, block 0 in the lowest bit. */
-    uint16_t marks[OSNMA_BLOCK_MARKS_COUNT];
-    /* By DSM ID: GST_SF of the block that came first. */
+    uint16_t present[OSNMA_PRESENT_COUNT];
+    /* By DSM ID: GST_SF of the block that came first; no stamp. */
     uint32_t since[OSNMA_SINCE_COUNT];
     /* By key ID: the type plus 1 (0 where none is held), and the public key in 67 bytes. */
-    uint8_t keys[OSNMA_KEYS_COUNT];
+    uint8_t pubkeys[OSNMA_PUBKEYS_COUNT];
     /* 1 where a message waits, its key ID, message and signature. */
     uint8_t offer[OSNMA_OFFER_COUNT];
     /* 1 in force, 2 dropped, 0 where there was none; then the contents put in force last. */
     uint8_t chain[OSNMA_CHAIN_COUNT];
     /* The held TESLA key's slot, and the count of waiting tags. */
     uint64_t numbers[OSNMA_NUMBERS_COUNT];
-    /* The held TESLA key. */
-    uint8_t key[OSNMA_HELD_KEY_COUNT];
-    /* 256 waiting tags of 84 bytes, in order of arrival. */
+    /* The held TESLA key, zeros after a short one. */
+    uint8_t heldkey[OSNMA_HELDKEY_COUNT];
+    /* 256 places for waiting tags, 84 bytes each, in order of arrival. */
     uint8_t waiting[OSNMA_WAITING_COUNT];
     /* By PRN: the authentic set. */
     uint8_t sets[OSNMA_SETS_COUNT];
-    /* By PRN: the stamp of that set's tag. */
+    /* By PRN: the stamp of the sub-frame that brought that set's tag. */
     uint32_t arrivals[OSNMA_ARRIVALS_COUNT];
 };
 
@@ -186,6 +207,25 @@ struct osnma_settings {
     uint8_t marks[OSNMA_MARKS];         /* 0 to 15 or OSNMA_FLEXIBLE; the first of each 14 is 0 */
     uint8_t tree_root[OSNMA_TREE_ROOT]; /* the installed root of the tree of public keys */
     uint8_t key[OSNMA_KEY];             /* the public key; what follows a short one is not read */
+};
+
+/* What a sub-frame answers: a number for each half, and how many tag records were written. */
+struct osnma_halves {
+    enum osnma_answer hkroot; /* its block, and the message that the block completes */
+    enum osnma_answer mack;   /* the section's keys and tags */
+    uint32_t records;         /* at most 270 */
+};
+
+/* A tag that was judged: one that had waited, or one of the section itself. */
+struct osnma_tag_record {
+    enum osnma_outcome outcome;
+    uint8_t sender;   /* PRN of the satellite that sent it */
+    uint8_t prn;      /* PRN of the satellite that it authenticates, as the tag names it */
+    uint8_t adkd;     /* its ADKD */
+    uint8_t block;    /* block of the section that it came in, from 1 */
+    uint8_t position; /* position in the block, from 1 */
+    uint16_t iodnav;  /* IODnav of its set; 0 for outcomes 3, 4 and 6 */
+    uint32_t time;    /* GST_SF of its arrival */
 };
 
 /* A message that waits for a verdict of the signature chip. Short parts are followed by zeros. */
@@ -212,6 +252,56 @@ struct osnma_message {
  */
 static inline enum osnma_answer osnma_start(struct osnma_core *core,
                                             const struct osnma_settings *settings);
+
+/*
+ * The authentication fields of a satellite's sub-frame at `time` (GST_SF). The first byte of each five
+ * is the HKROOT half: its block is gathered, and the message that it completes is judged. The others
+ * are the MACK half: the section's keys are proved, the tags that waited for them and the section's own
+ * are judged, in this order, and each leaves a record.
+ *
+ * Lent: the core; the 75 bytes of the fields, which are read; the area for records, of which as many
+ * are written as the answer says and the rest stays. osnma_record reads one of them.
+ *
+ * Both halves answer, and no record is written:
+ * OSNMA_OUT_OF_RANGE  The core stays. PRN not 1 to 36, or `time` not the start of a sub-frame.
+ * OSNMA_STOPPED       The core stays.
+ * OSNMA_OUT_OF_ORDER  The core stays. Earlier than the last sub-frame, or not later than this PRN's.
+ * OSNMA_ALL_ZERO      The time is noted: of the last sub-frame, and of this PRN's last.
+ *
+ * Else the time is noted, and the HKROOT half answers:
+ * OSNMA_DONE          The block is held with those of its DSM ID; those that do not go with it are
+ *                     dropped before. A complete message is taken out: a DSM-KROOT waits for a verdict
+ *                     in place of what waited, a DSM-PKR adds its public key or, as an emergency
+ *                     message, stops the core.
+ * OSNMA_BLOCK_UNFIT   The block is dropped: NB reserved, or its ID too high. Or the complete message
+ *                     is: of a wrong size, an emergency message with another ID than 0, a DSM-PKR of
+ *                     type above 4.
+ * OSNMA_KEY_NOT_HELD  A complete DSM-KROOT is dropped. What waits goes on waiting.
+ * OSNMA_PARAMETERS_UNFIT  The same.
+ * OSNMA_TREE_UNFIT    A complete DSM-PKR is dropped: its nodes do not give the tree's root.
+ * OSNMA_NOT_NEWER     The same: its ID is not above all held, and it is not a key that is held.
+ * A DSM-KROOT is judged for KEY_NOT_HELD, PARAMETERS_UNFIT, BLOCK_UNFIT, a DSM-PKR for BLOCK_UNFIT,
+ * TREE_UNFIT, NOT_NEWER.
+ *
+ * Then the MACK half answers:
+ * OSNMA_DONE          The highest proved key is held. Due tags have left their places, tags with a
+ *                     delay have taken places, and sets that were shown to be authentic are held.
+ * OSNMA_STOPPED       This sub-frame brought an emergency message. Its section is not looked at.
+ * OSNMA_NOT_IN_FORCE  No chain in force, status 0 or 3, another CID, or before the chain's sub-frame 0.
+ * OSNMA_TOO_FAR       A key lies more than 1,000,000 slots past the one held.
+ * OSNMA_KEY_UNFIT     A key is not of the chain, or a spare bit is 1.
+ * The last two go block by block, and the first block that fails refuses the whole section. A half that
+ * is refused leaves public keys, chain, held key, waiting tags and authentic sets as they are.
+ */
+static inline struct osnma_halves osnma_subframe(struct osnma_core *core, uint8_t prn, uint32_t time,
+                                                 const uint8_t fields[OSNMA_FIELDS],
+                                                 uint8_t records[OSNMA_RECORDS]);
+
+/*
+ * Record `i` of those that osnma_subframe wrote, from 0. An `i` that the area has no room for gives
+ * zeros, which are no outcome.
+ */
+static inline struct osnma_tag_record osnma_record(const uint8_t records[OSNMA_RECORDS], uint32_t i);
 
 /*
  * An I/NAV word of a satellite, in the sub-frame at `time` (GST_SF). The authentication fields of a
@@ -288,10 +378,12 @@ static inline enum osnma_answer osnma_read_message(const struct osnma_core *core
 /*
  * What the library exports, and what the calls above use. Nobody else needs them but a caller who
  * keeps the regions apart, as bindings for other languages do. A region is a pointer and a count of
- * elements, in the order of struct osnma_core; those that are not const are written. Where a count is
- * wrong the answer is OSNMA_WRONG_LENGTH, and all that is lent stays, but for IODnav and time, or key
- * ID and key type, of a read, which are 0. The duties are those above: each pointer is aligned for its
- * type and good for its count, and what is not const overlaps nothing else that is lent.
+ * elements, in the order of struct osnma_core; those that are not const are written. Each returns its
+ * answer, but for a sub-frame, which returns the count of records and writes the numbers of both
+ * halves. Where a count is wrong the answer is OSNMA_WRONG_LENGTH, in both halves, and all that is
+ * lent stays, but for IODnav and time, or key ID and key type, of a read, which are 0. The duties are
+ * those above: each pointer is aligned for its type and good for its count, and what is not const
+ * overlaps nothing else that is lent.
  */
 uint32_t osnma_regions_start(
     uint8_t *config, size_t config_count,
@@ -300,20 +392,20 @@ uint32_t osnma_regions_start(
     uint32_t *stamps, size_t stamps_count,
     uint8_t *blocks, size_t blocks_count,
     uint8_t *headers, size_t headers_count,
-    uint16_t *marks, size_t marks_count,
+    uint16_t *present, size_t present_count,
     uint32_t *since, size_t since_count,
-    uint8_t *keys, size_t keys_count,
+    uint8_t *pubkeys, size_t pubkeys_count,
     uint8_t *offer, size_t offer_count,
     uint8_t *chain, size_t chain_count,
     uint64_t *numbers, size_t numbers_count,
-    uint8_t *key, size_t key_count,
+    uint8_t *heldkey, size_t heldkey_count,
     uint8_t *waiting, size_t waiting_count,
     uint8_t *sets, size_t sets_count,
     uint32_t *arrivals, size_t arrivals_count,
-    uint8_t ns, uint8_t key_id, uint8_t key_type, uint8_t maclt,
-    const uint8_t *adkds, size_t adkds_count,
-    const uint8_t *tree_root, size_t tree_root_count,
-    const uint8_t *first_key, size_t first_key_count);
+    uint8_t ns, uint8_t id, uint8_t kind, uint8_t maclt,
+    const uint8_t *marks, size_t marks_count,
+    const uint8_t *root, size_t root_count,
+    const uint8_t *pubkey, size_t pubkey_count);
 
 uint32_t osnma_regions_word(
     const uint8_t *config, size_t config_count,
@@ -322,18 +414,40 @@ uint32_t osnma_regions_word(
     uint32_t *stamps, size_t stamps_count,
     const uint8_t *blocks, size_t blocks_count,
     const uint8_t *headers, size_t headers_count,
-    const uint16_t *marks, size_t marks_count,
+    const uint16_t *present, size_t present_count,
     const uint32_t *since, size_t since_count,
-    const uint8_t *keys, size_t keys_count,
+    const uint8_t *pubkeys, size_t pubkeys_count,
     const uint8_t *offer, size_t offer_count,
     const uint8_t *chain, size_t chain_count,
     const uint64_t *numbers, size_t numbers_count,
-    const uint8_t *key, size_t key_count,
+    const uint8_t *heldkey, size_t heldkey_count,
     const uint8_t *waiting, size_t waiting_count,
     const uint8_t *sets, size_t sets_count,
     const uint32_t *arrivals, size_t arrivals_count,
     uint8_t prn, uint32_t time,
-    const uint8_t *word, size_t word_count);
+    const uint8_t *bytes, size_t bytes_count);
+
+uint32_t osnma_regions_subframe(
+    uint8_t *config, size_t config_count,
+    uint32_t *clocks, size_t clocks_count,
+    const uint8_t *words, size_t words_count,
+    const uint32_t *stamps, size_t stamps_count,
+    uint8_t *blocks, size_t blocks_count,
+    uint8_t *headers, size_t headers_count,
+    uint16_t *present, size_t present_count,
+    uint32_t *since, size_t since_count,
+    uint8_t *pubkeys, size_t pubkeys_count,
+    uint8_t *offer, size_t offer_count,
+    const uint8_t *chain, size_t chain_count,
+    uint64_t *numbers, size_t numbers_count,
+    uint8_t *heldkey, size_t heldkey_count,
+    uint8_t *waiting, size_t waiting_count,
+    uint8_t *sets, size_t sets_count,
+    uint32_t *arrivals, size_t arrivals_count,
+    uint8_t *area, size_t area_count,
+    uint8_t prn, uint32_t time,
+    const uint8_t *bytes, size_t bytes_count,
+    uint32_t *hkroot, uint32_t *mack);
 
 uint32_t osnma_regions_verdict(
     const uint8_t *config, size_t config_count,
@@ -342,17 +456,17 @@ uint32_t osnma_regions_verdict(
     const uint32_t *stamps, size_t stamps_count,
     const uint8_t *blocks, size_t blocks_count,
     const uint8_t *headers, size_t headers_count,
-    const uint16_t *marks, size_t marks_count,
+    const uint16_t *present, size_t present_count,
     const uint32_t *since, size_t since_count,
-    uint8_t *keys, size_t keys_count,
+    uint8_t *pubkeys, size_t pubkeys_count,
     uint8_t *offer, size_t offer_count,
     uint8_t *chain, size_t chain_count,
     uint64_t *numbers, size_t numbers_count,
-    uint8_t *key, size_t key_count,
+    uint8_t *heldkey, size_t heldkey_count,
     uint8_t *waiting, size_t waiting_count,
     const uint8_t *sets, size_t sets_count,
     const uint32_t *arrivals, size_t arrivals_count,
-    uint8_t good, uint8_t key_id,
+    uint8_t good, uint8_t id,
     const uint8_t *message, size_t message_count,
     const uint8_t *signature, size_t signature_count);
 
@@ -363,19 +477,19 @@ uint32_t osnma_regions_read_set(
     const uint32_t *stamps, size_t stamps_count,
     const uint8_t *blocks, size_t blocks_count,
     const uint8_t *headers, size_t headers_count,
-    const uint16_t *marks, size_t marks_count,
+    const uint16_t *present, size_t present_count,
     const uint32_t *since, size_t since_count,
-    const uint8_t *keys, size_t keys_count,
+    const uint8_t *pubkeys, size_t pubkeys_count,
     const uint8_t *offer, size_t offer_count,
     const uint8_t *chain, size_t chain_count,
     const uint64_t *numbers, size_t numbers_count,
-    const uint8_t *key, size_t key_count,
+    const uint8_t *heldkey, size_t heldkey_count,
     const uint8_t *waiting, size_t waiting_count,
     const uint8_t *sets, size_t sets_count,
     const uint32_t *arrivals, size_t arrivals_count,
     uint8_t prn,
-    uint8_t *set, size_t set_count,
-    uint16_t *iodnav, uint32_t *time);
+    uint8_t *out, size_t out_count,
+    uint16_t *issue, uint32_t *time);
 
 uint32_t osnma_regions_read_message(
     const uint8_t *config, size_t config_count,
@@ -384,31 +498,32 @@ uint32_t osnma_regions_read_message(
     const uint32_t *stamps, size_t stamps_count,
     const uint8_t *blocks, size_t blocks_count,
     const uint8_t *headers, size_t headers_count,
-    const uint16_t *marks, size_t marks_count,
+    const uint16_t *present, size_t present_count,
     const uint32_t *since, size_t since_count,
-    const uint8_t *keys, size_t keys_count,
+    const uint8_t *pubkeys, size_t pubkeys_count,
     const uint8_t *offer, size_t offer_count,
     const uint8_t *chain, size_t chain_count,
     const uint64_t *numbers, size_t numbers_count,
-    const uint8_t *key, size_t key_count,
+    const uint8_t *heldkey, size_t heldkey_count,
     const uint8_t *waiting, size_t waiting_count,
     const uint8_t *sets, size_t sets_count,
     const uint32_t *arrivals, size_t arrivals_count,
     uint8_t *message, size_t message_count,
     uint8_t *signature, size_t signature_count,
-    uint8_t *public_key, size_t public_key_count,
-    uint8_t *key_id, uint8_t *key_type);
+    uint8_t *pubkey, size_t pubkey_count,
+    uint8_t *id, uint8_t *kind);
 
 /* ---- the calls over a core, by those over its regions */
 
 #define OSNMA_REGIONS_OF(core)                                                                     \
-    (core)->config, OSNMA_CONFIG_COUNT, (core)->clocks, OSNMA_CLOCKS_COUNT, (core)->words,         \
-        OSNMA_WORDS_COUNT, (core)->stamps, OSNMA_STAMPS_COUNT, (core)->blocks, OSNMA_BLOCKS_COUNT, \
-        (core)->headers, OSNMA_HEADERS_COUNT, (core)->marks, OSNMA_BLOCK_MARKS_COUNT,              \
-        (core)->since, OSNMA_SINCE_COUNT, (core)->keys, OSNMA_KEYS_COUNT, (core)->offer,           \
-        OSNMA_OFFER_COUNT, (core)->chain, OSNMA_CHAIN_COUNT, (core)->numbers, OSNMA_NUMBERS_COUNT, \
-        (core)->key, OSNMA_HELD_KEY_COUNT, (core)->waiting, OSNMA_WAITING_COUNT, (core)->sets,     \
-        OSNMA_SETS_COUNT, (core)->arrivals, OSNMA_ARRIVALS_COUNT
+    (core)->config, OSNMA_CONFIG_COUNT, (core)->clocks, OSNMA_CLOCKS_COUNT,                        \
+    (core)->words, OSNMA_WORDS_COUNT, (core)->stamps, OSNMA_STAMPS_COUNT,                          \
+    (core)->blocks, OSNMA_BLOCKS_COUNT, (core)->headers, OSNMA_HEADERS_COUNT,                      \
+    (core)->present, OSNMA_PRESENT_COUNT, (core)->since, OSNMA_SINCE_COUNT,                        \
+    (core)->pubkeys, OSNMA_PUBKEYS_COUNT, (core)->offer, OSNMA_OFFER_COUNT,                        \
+    (core)->chain, OSNMA_CHAIN_COUNT, (core)->numbers, OSNMA_NUMBERS_COUNT,                        \
+    (core)->heldkey, OSNMA_HELDKEY_COUNT, (core)->waiting, OSNMA_WAITING_COUNT,                    \
+    (core)->sets, OSNMA_SETS_COUNT, (core)->arrivals, OSNMA_ARRIVALS_COUNT
 
 static inline enum osnma_answer osnma_start(struct osnma_core *core,
                                             const struct osnma_settings *settings)
@@ -416,6 +531,35 @@ static inline enum osnma_answer osnma_start(struct osnma_core *core,
     return (enum osnma_answer)osnma_regions_start(
         OSNMA_REGIONS_OF(core), settings->ns, settings->key_id, settings->key_type, settings->maclt,
         settings->marks, OSNMA_MARKS, settings->tree_root, OSNMA_TREE_ROOT, settings->key, OSNMA_KEY);
+}
+
+static inline struct osnma_halves osnma_subframe(struct osnma_core *core, uint8_t prn, uint32_t time,
+                                                 const uint8_t fields[OSNMA_FIELDS],
+                                                 uint8_t records[OSNMA_RECORDS])
+{
+    struct osnma_halves answer;
+    uint32_t hkroot, mack;
+    answer.records = osnma_regions_subframe(OSNMA_REGIONS_OF(core), records, OSNMA_RECORDS, prn, time,
+                                            fields, OSNMA_FIELDS, &hkroot, &mack);
+    answer.hkroot = (enum osnma_answer)hkroot;
+    answer.mack = (enum osnma_answer)mack;
+    return answer;
+}
+
+static inline struct osnma_tag_record osnma_record(const uint8_t records[OSNMA_RECORDS], uint32_t i)
+{
+    static const uint8_t none[OSNMA_RECORD] = {0};
+    const uint8_t *at = i < OSNMA_RECORDS / OSNMA_RECORD ? records + OSNMA_RECORD * i : none;
+    struct osnma_tag_record record;
+    record.outcome = (enum osnma_outcome)at[0];
+    record.sender = at[1];
+    record.prn = at[2];
+    record.adkd = at[3];
+    record.block = at[4];
+    record.position = at[5];
+    record.iodnav = (uint16_t)(at[6] << 8 | at[7]);
+    record.time = (uint32_t)at[8] << 24 | (uint32_t)at[9] << 16 | (uint32_t)at[10] << 8 | at[11];
+    return record;
 }
 
 static inline enum osnma_answer osnma_word(struct osnma_core *core, uint8_t prn, uint32_t time,

@@ -9,5 +9,5 @@ setTold code out issue time = record { code = code; out = out; issue = issue; ti
 
 -- the answer's number, the message, its signature, its key's bytes, ID and type
 abbrev pub offerTold : ℕ → List ℕ → List ℕ → List ℕ → ℕ → ℕ → OfferRead
-offerTold code message signature heldkey id type =
-    record { code = code; message = message; signature = signature; key = heldkey; id = id; type = type }
+offerTold code message signature key id type =
+    record { code = code; message = message; signature = signature; key = key; id = id; type = type }

@@ -12,9 +12,11 @@ use Rattle.laws.specs.Lists.{splice}
 use Rattle.laws.proofs.Splice.{length-splice, splice-more, splice-two, splice-append, splice-whole}
 use Rattle.public_keys.proofs.Keys.{splice-one}
 use Rattle.navdata.specs.Pieces.{nav}
+use Rattle.regions.specs.Tesla.{tesla}
 use Rattle.rules.specs.Calls.{markValid, marksValid}
 use Rattle.rules.specs.PublicKeys.{keyLength, withKey}
-use Rattle.call_start_parts.specs.Blank.{settings, tesla, noWords, noBlocks, noTags, noSets}
+use Rattle.rules.specs.State.{configLength, wordsLength, stampsLength, blocksLength, dsmIds, pubkeysLength, numbersLength, heldkeyLength, waitingLength, setsLength, satellites}
+use Rattle.call_start_parts.specs.Blank.{settings, noWords, noBlocks, noTags, noSets}
 
 -- a loop that clears: one more number is 0
 pub clear-more : (d : List ℕ) (n i : ℕ) → n ≤ length d → i < n → set (splice d 0 (take i (replicate n 0))) i 0 ≡ splice d 0 (take (i + 1) (replicate n 0))
@@ -41,21 +43,21 @@ first-two : (d : List ℕ) (x y : ℕ) → 2 ≤ length d → set (set d 0 x) 1 
 first-two d x y h = splice-two d 0 x y h
 
 -- NS and MACLT, then the marks, then the root, then 0
-pub config-set : (d e f : List ℕ) (ns maclt : ℕ) (present root : List ℕ) → length d ≡ 63 → length present ≡ 28 → length root ≡ 32
-    → e ≡ splice (set (set d 0 ns) 1 maclt) 2 present
+pub config-set : (d e f : List ℕ) (ns maclt : ℕ) (marks root : List ℕ) → length d ≡ configLength → length marks ≡ 28 → length root ≡ 32
+    → e ≡ splice (set (set d 0 ns) 1 maclt) 2 marks
     → f ≡ splice e 30 root
-    → set f 62 0 ≡ settings ns maclt present root
-config-set d e f ns maclt present root ld lm lr p q =
+    → set f 62 0 ≡ settings ns maclt marks root
+config-set d e f ns maclt marks root ld lm lr p q =
     let a : List ℕ = ns ∷ maclt ∷ [] in
-    let b : List ℕ = a ++ present in
-    let lb : length b ≡ 30 = length-append a present ∙ omega arith in
+    let b : List ℕ = a ++ marks in
+    let lb : length b ≡ 30 = length-append a marks ∙ omega arith in
     let lc : length (b ++ root) ≡ 62 = length-append b root ∙ omega arith in
-    let eb : e ≡ splice d 0 b = p ∙ ap (λ (l : List ℕ). splice l 2 present) (first-two d ns maclt (omega arith)) ∙ splice-append d 0 a present (omega arith) in
+    let eb : e ≡ splice d 0 b = p ∙ ap (λ (l : List ℕ). splice l 2 marks) (first-two d ns maclt (omega arith)) ∙ splice-append d 0 a marks (omega arith) in
     let zb : 0 + length b ≡ 30 = omega arith in
     let zc : 0 + length (b ++ root) ≡ 62 = omega arith in
     let ec : f ≡ splice d 0 (b ++ root) =
     q ∙ ap (λ (l : List ℕ). splice l 30 root) eb ∙ ap (λ (k : ℕ). splice (splice d 0 b) k root) (sym zb) ∙ splice-append d 0 b root (omega arith) in
-    let lf : length f ≡ 63 = ap length ec ∙ length-splice d 0 (b ++ root) (omega arith) ∙ ld in
+    let lf : length f ≡ configLength = ap length ec ∙ length-splice d 0 (b ++ root) (omega arith) ∙ ld in
     splice-one f 62 0 (omega arith)
     ∙ ap (λ (l : List ℕ). splice l 62 (0 ∷ [])) ec
     ∙ ap (λ (k : ℕ). splice (splice d 0 (b ++ root)) k (0 ∷ [])) (sym zc)
@@ -65,24 +67,24 @@ config-set d e f ns maclt present root ld lm lr p q =
 
 -- ---- parts of a state
 
-pub words-clear : (d e f g : List ℕ) → length d ≡ 2880 → length f ≡ 180 → e ≡ splice d 0 (replicate 2880 0) → g ≡ splice f 0 (replicate 180 0) → nav e g ≡ noWords
-words-clear d e f g ld lf p q = rw (cleared d e 2880 ld p, cleared f g 180 lf q)
+pub words-clear : (d e f g : List ℕ) → length d ≡ wordsLength → length f ≡ stampsLength → e ≡ splice d 0 (replicate wordsLength 0) → g ≡ splice f 0 (replicate stampsLength 0) → nav e g ≡ noWords
+words-clear d e f g ld lf p q = rw (cleared d e wordsLength ld p, cleared f g stampsLength lf q)
 
-pub tags-clear : (n d e f g : List ℕ) → length n ≡ 2 → length d ≡ 32 → length f ≡ 21504 → e ≡ splice d 0 (replicate 32 0) → g ≡ splice f 0 (replicate 21504 0)
+pub tags-clear : (n d e f g : List ℕ) → length n ≡ numbersLength → length d ≡ heldkeyLength → length f ≡ waitingLength → e ≡ splice d 0 (replicate heldkeyLength 0) → g ≡ splice f 0 (replicate waitingLength 0)
     → tesla (set (set n 0 0) 1 0) e g ≡ noTags
 tags-clear n d e f g ln ld lf p q =
-    rw (first-two n 0 0 (omega arith), splice-whole n (0 ∷ 0 ∷ []) (sym ln), cleared d e 32 ld p, cleared f g 21504 lf q)
+    rw (first-two n 0 0 (omega arith), splice-whole n (0 ∷ 0 ∷ []) (sym ln), cleared d e heldkeyLength ld p, cleared f g waitingLength lf q)
 
-pub blocks-clear : (b h m t : List ℕ) → b ≡ replicate 3328 0 → h ≡ replicate 16 0 → m ≡ replicate 16 0 → t ≡ replicate 16 0 → store b h m t ≡ noBlocks
+pub blocks-clear : (b h m t : List ℕ) → b ≡ replicate blocksLength 0 → h ≡ replicate dsmIds 0 → m ≡ replicate dsmIds 0 → t ≡ replicate dsmIds 0 → store b h m t ≡ noBlocks
 blocks-clear b h m t eb eh em et = rw (eb, eh, em, et)
 
-pub sets-clear : (d e f g : List ℕ) → length d ≡ 2484 → length f ≡ 36 → e ≡ splice d 0 (replicate 2484 0) → g ≡ splice f 0 (replicate 36 0) → auth e g ≡ noSets
-sets-clear d e f g ld lf p q = rw (cleared d e 2484 ld p, cleared f g 36 lf q)
+pub sets-clear : (d e f g : List ℕ) → length d ≡ setsLength → length f ≡ satellites → e ≡ splice d 0 (replicate setsLength 0) → g ≡ splice f 0 (replicate satellites 0) → auth e g ≡ noSets
+sets-clear d e f g ld lf p q = rw (cleared d e setsLength ld p, cleared f g satellites lf q)
 
 -- ---- the key
 
-pub key-held : (f e p : List ℕ) (id kind n : ℕ) → f ≡ replicate 1088 0 → n ≡ keyLength kind → e ≡ withKey f id kind (take (n - 0) p)
-    → e ≡ withKey (replicate 1088 0) id kind (take (keyLength kind) p)
+pub key-held : (f e p : List ℕ) (id kind n : ℕ) → f ≡ replicate pubkeysLength 0 → n ≡ keyLength kind → e ≡ withKey f id kind (take (n - 0) p)
+    → e ≡ withKey (replicate pubkeysLength 0) id kind (take (keyLength kind) p)
 key-held f e p id kind n ef en ee =
     let z : n - 0 ≡ keyLength kind = omega (arith, en) in
-    ee ∙ ap (λ (l : List ℕ). withKey l id kind (take (n - 0) p)) ef ∙ ap (λ (k : ℕ). withKey (replicate 1088 0) id kind (take k p)) z
+    ee ∙ ap (λ (l : List ℕ). withKey l id kind (take (n - 0) p)) ef ∙ ap (λ (k : ℕ). withKey (replicate pubkeysLength 0) id kind (take k p)) z

@@ -3,24 +3,21 @@ use mathlib.Core.List.{List, [], _∷_, _++_}
 use Prim.Native.Nat.{ℕ}
 use lib.ListN.{replicate}
 use Rattle.gather.specs.Store.{store}
-use Rattle.rules.specs.State.{Nav, Store, Tesla, Auth}
+use Rattle.regions.specs.Tesla.{tesla}
+use Rattle.rules.specs.State.{Nav, Store, Tesla, Auth, wordsLength, stampsLength, blocksLength, dsmIds, heldkeyLength, waitingLength, setsLength, satellites}
 
 -- NS, MACLT, marks, tree root, and 0: not stopped
 abbrev pub settings : ℕ → ℕ → List ℕ → List ℕ → List ℕ
-settings ns maclt present root = ns ∷ maclt ∷ (present ++ (root ++ (0 ∷ [])))
+settings ns maclt marks root = ns ∷ maclt ∷ (marks ++ (root ++ (0 ∷ [])))
 
 abbrev pub noWords : Nav
-noWords = record { words = replicate 2880 0; times = replicate 180 0 }
+noWords = record { words = replicate wordsLength 0; stamps = replicate stampsLength 0 }
 
 abbrev pub noBlocks : Store
-noBlocks = store (replicate 3328 0) (replicate 16 0) (replicate 16 0) (replicate 16 0)
-
--- the three regions of the held key and the waiting tags as one record of the state
-abbrev pub tesla : List ℕ → List ℕ → List ℕ → Tesla
-tesla numbers heldkey waiting = record { numbers = numbers; key = heldkey; waiting = waiting }
+noBlocks = store (replicate blocksLength 0) (replicate dsmIds 0) (replicate dsmIds 0) (replicate dsmIds 0)
 
 abbrev pub noTags : Tesla
-noTags = tesla (0 ∷ 0 ∷ []) (replicate 32 0) (replicate 21504 0)
+noTags = tesla (0 ∷ 0 ∷ []) (replicate heldkeyLength 0) (replicate waitingLength 0)
 
 abbrev pub noSets : Auth
-noSets = record { sets = replicate 2484 0; times = replicate 36 0 }
+noSets = record { sets = replicate setsLength 0; arrivals = replicate satellites 0 }

@@ -13,17 +13,20 @@ ghost use Rattle.gather.specs.Store.{store};
 ghost use Rattle.laws.specs.Lists.{splice};
 ghost use Rattle.laws.specs.Refusal.{neb};
 ghost use Rattle.navdata.specs.Pieces.{nav};
+ghost use Rattle.regions.specs.Tesla.{tesla};
 ghost use Rattle.rules.specs.Calls.{startUnfit, markValid, marksValid};
 ghost use Rattle.rules.specs.PublicKeys.{keyLength, withKey};
 ghost use Rattle.rules.specs.Kroot.{noOffer};
-ghost use Rattle.call_start_parts.specs.Blank.{settings, tesla, noWords, noBlocks, noTags, noSets};
+ghost use Rattle.rules.specs.State.{configLength, clocksLength, wordsLength, stampsLength, blocksLength, dsmIds, pubkeysLength, offerLength, chainLength};
+ghost use Rattle.rules.specs.State.{numbersLength, heldkeyLength, waitingLength, setsLength, satellites};
+ghost use Rattle.call_start_parts.specs.Blank.{settings, noWords, noBlocks, noTags, noSets};
 
 // ---- what refuses a start
 
 // NS, key ID, key type or a mark out of range.
 pub fn start_unfit(ns: u8, id: u8, kind: u8, marks: &[u8]) -> bool
     requires { ⌜ length (now marks) ≡ 28 ⌝ }
-    ensures { λ r. ⌜ ((maclt : ℕ) (root heldkey : List ℕ) → r ≡ startUnfit (record { ns = ns; id = id; type = kind; maclt = maclt; marks = now (marks .entry); root = root; key = heldkey })) × (r ≡ false → (id < 16) × (kind < 4)) ⌝ }
+    ensures { λ r. ⌜ ((maclt : ℕ) (root key : List ℕ) → r ≡ startUnfit (record { ns = ns; id = id; type = kind; maclt = maclt; marks = now (marks .entry); root = root; key = key })) × (r ≡ false → (id < 16) × (kind < 4)) ⌝ }
 {
     if ns < 1 {
         return true;
@@ -82,7 +85,7 @@ fn mark_valid(mark: u8) -> bool
 
 // NS, MACLT, the marks, the tree's root, and 0: not stopped.
 pub fn set_config(config: &mut [u8], ns: u8, maclt: u8, marks: &[u8], root: &[u8])
-    requires { ⌜ (length (now config) ≡ 63) × ((length (now marks) ≡ 28) × (length (now root) ≡ 32)) ⌝ }
+    requires { ⌜ (length (now config) ≡ configLength) × ((length (now marks) ≡ 28) × (length (now root) ≡ 32)) ⌝ }
     ensures { λ _. ⌜ now (config .exit) ≡ settings ns maclt (now (marks .entry)) (now (root .entry)) ⌝ }
 {
     config[0] = ns;
@@ -94,62 +97,62 @@ pub fn set_config(config: &mut [u8], ns: u8, maclt: u8, marks: &[u8], root: &[u8
 
 // No time was noted and no word is held.
 pub fn clear_signal(clocks: &mut [u32], words: &mut [u8], stamps: &mut [u32])
-    requires { ⌜ (length (now clocks) ≡ 73) × ((length (now words) ≡ 2880) × (length (now stamps) ≡ 180)) ⌝ }
-    ensures { λ _. ⌜ (now (clocks .exit) ≡ replicate 73 0) × (nav (now (words .exit)) (now (stamps .exit)) ≡ noWords) ⌝ }
+    requires { ⌜ (length (now clocks) ≡ clocksLength) × ((length (now words) ≡ wordsLength) × (length (now stamps) ≡ stampsLength)) ⌝ }
+    ensures { λ _. ⌜ (now (clocks .exit) ≡ replicate clocksLength 0) × (nav (now (words .exit)) (now (stamps .exit)) ≡ noWords) ⌝ }
 {
-    clear_u32(clocks, 73);
-    buffer::fill(words, 0, 2880, 0);
-    clear_u32(stamps, 180);
+    clear_u32(clocks, regions::CLOCKS_LENGTH);
+    buffer::fill(words, 0, regions::WORDS_LENGTH, 0);
+    clear_u32(stamps, regions::STAMPS_LENGTH);
 }
 
 // No DSM block is held.
 pub fn clear_blocks(blocks: &mut [u8], headers: &mut [u8], present: &mut [u16], since: &mut [u32])
-    requires { ⌜ ((length (now blocks) ≡ 3328) × (length (now headers) ≡ 16)) × ((length (now present) ≡ 16) × (length (now since) ≡ 16)) ⌝ }
+    requires { ⌜ ((length (now blocks) ≡ blocksLength) × (length (now headers) ≡ dsmIds)) × ((length (now present) ≡ dsmIds) × (length (now since) ≡ dsmIds)) ⌝ }
     ensures { λ _. ⌜ store (now (blocks .exit)) (now (headers .exit)) (now (present .exit)) (now (since .exit)) ≡ noBlocks ⌝ }
 {
-    buffer::fill(blocks, 0, 3328, 0);
-    buffer::fill(headers, 0, 16, 0);
-    clear_u16(present, 16);
-    clear_u32(since, 16);
+    buffer::fill(blocks, 0, regions::BLOCKS_LENGTH, 0);
+    buffer::fill(headers, 0, regions::DSM_IDS, 0);
+    clear_u16(present, regions::DSM_IDS);
+    clear_u32(since, regions::DSM_IDS);
 }
 
 // Only the given key is held; bytes past its type's length are not read.
 pub fn hold_key(pubkeys: &mut [u8], id: u8, kind: u8, pubkey: &[u8])
-    requires { ⌜ ((length (now pubkeys) ≡ 1088) × (length (now pubkey) ≡ 67)) × ((id < 16) × (kind < 4)) ⌝ }
-    ensures { λ _. ⌜ now (pubkeys .exit) ≡ withKey (replicate 1088 0) id kind (take (keyLength kind) (now (pubkey .entry))) ⌝ }
+    requires { ⌜ ((length (now pubkeys) ≡ pubkeysLength) × (length (now pubkey) ≡ 67)) × ((id < 16) × (kind < 4)) ⌝ }
+    ensures { λ _. ⌜ now (pubkeys .exit) ≡ withKey (replicate pubkeysLength 0) id kind (take (keyLength kind) (now (pubkey .entry))) ⌝ }
 {
-    buffer::fill(pubkeys, 0, 1088, 0);
+    buffer::fill(pubkeys, 0, regions::PUBKEYS_LENGTH, 0);
     let n = public_keys::key_length(kind);
     public_keys::add_key(pubkeys, id, kind, &pubkey[0..n]);
 }
 
 // No message waits, and no chain was put in force.
 pub fn clear_message(offer: &mut [u8], chain: &mut [u8])
-    requires { ⌜ (length (now offer) ≡ 179) × (length (now chain) ≡ 45) ⌝ }
-    ensures { λ _. ⌜ (now (offer .exit) ≡ noOffer) × (now (chain .exit) ≡ replicate 45 0) ⌝ }
+    requires { ⌜ (length (now offer) ≡ offerLength) × (length (now chain) ≡ chainLength) ⌝ }
+    ensures { λ _. ⌜ (now (offer .exit) ≡ noOffer) × (now (chain .exit) ≡ replicate chainLength 0) ⌝ }
 {
-    buffer::fill(offer, 0, 179, 0);
-    buffer::fill(chain, 0, 45, 0);
+    buffer::fill(offer, 0, regions::OFFER_LENGTH, 0);
+    buffer::fill(chain, 0, regions::CHAIN_LENGTH, 0);
 }
 
 // No TESLA key is held and no tag waits.
 pub fn clear_tags(numbers: &mut [u64], heldkey: &mut [u8], waiting: &mut [u8])
-    requires { ⌜ (length (now numbers) ≡ 2) × ((length (now heldkey) ≡ 32) × (length (now waiting) ≡ 21504)) ⌝ }
+    requires { ⌜ (length (now numbers) ≡ numbersLength) × ((length (now heldkey) ≡ heldkeyLength) × (length (now waiting) ≡ waitingLength)) ⌝ }
     ensures { λ _. ⌜ tesla (now (numbers .exit)) (now (heldkey .exit)) (now (waiting .exit)) ≡ noTags ⌝ }
 {
     numbers[0] = 0;
     numbers[1] = 0;
-    buffer::fill(heldkey, 0, 32, 0);
-    buffer::fill(waiting, 0, 21504, 0);
+    buffer::fill(heldkey, 0, regions::HELDKEY_LENGTH, 0);
+    buffer::fill(waiting, 0, regions::WAITING_LENGTH, 0);
 }
 
 // No satellite has an authentic set.
 pub fn clear_sets(sets: &mut [u8], arrivals: &mut [u32])
-    requires { ⌜ (length (now sets) ≡ 2484) × (length (now arrivals) ≡ 36) ⌝ }
+    requires { ⌜ (length (now sets) ≡ setsLength) × (length (now arrivals) ≡ satellites) ⌝ }
     ensures { λ _. ⌜ auth (now (sets .exit)) (now (arrivals .exit)) ≡ noSets ⌝ }
 {
-    buffer::fill(sets, 0, 2484, 0);
-    clear_u32(arrivals, 36);
+    buffer::fill(sets, 0, regions::SETS_LENGTH, 0);
+    clear_u32(arrivals, regions::SATELLITES);
 }
 
 // The first n numbers become 0.

@@ -1,2 +1,2 @@
 -- Laws of the sub-frame call.
-mod Subframes
+pub mod Subframes

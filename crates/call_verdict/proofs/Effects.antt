@@ -17,22 +17,22 @@ use Rattle.rules.specs.Calls.{verdictCall, verdictChecks}
 use Rattle.rules.specs.Gather.{statusOf}
 use Rattle.rules.specs.PublicKeys.{withoutLower}
 use Rattle.rules.specs.Kroot.{krootOf, rootSecondsOf, chainContents, inForce}
-use Rattle.rules.specs.State.{State, Tesla, shaped, stopped, macltOf, waitingCount}
+use Rattle.rules.specs.State.{State, Tesla, shaped, stopped, waitingCount}
 use Rattle.rules.specs.Verdict as S
-use Rattle.call_verdict.specs.Trusted.{tesla}
+use Rattle.regions.specs.Tesla.{tesla}
 
 -- ---- the tags that stay
 
-module _ (s : State) (maclt : ℕ) (chain c : List ℕ) (m : macltOf (s .config) ≡ maclt) (e : s .chain ≡ chain) where
-  pub none-in-force : inForce maclt chain ≡ false → S.stayingAt s c ≡ []
+module _ (s : State) (config chain c : List ℕ) (m : s .config ≡ config) (e : s .chain ≡ chain) where
+  pub none-in-force : inForce config chain ≡ false → S.stayingAt s c ≡ []
   unfolding S.stayingAt
   none-in-force f = rw (m, e, f)
 
-  pub chain-changed : inForce maclt chain ≡ true → S.chainUnchanged (chainContents chain) c ≡ false → S.stayingAt s c ≡ []
+  pub chain-changed : inForce config chain ≡ true → S.chainUnchanged (chainContents chain) c ≡ false → S.stayingAt s c ≡ []
   unfolding S.stayingAt
   chain-changed f u = rw (m, e, f, u)
 
-  pub same-chain : inForce maclt chain ≡ true → S.chainUnchanged (chainContents chain) c ≡ true
+  pub same-chain : inForce config chain ≡ true → S.chainUnchanged (chainContents chain) c ≡ true
       → S.stayingAt s c ≡ S.staying (rootSecondsOf c) (s .tesla .waiting) (waitingCount (s .tesla .numbers))
   unfolding S.stayingAt
   same-chain f u = rw (m, e, f, u)
@@ -103,44 +103,27 @@ other-number A false false true d s f = refl
 other-number A false false false true s f = refl
 other-number A false false false false s f = refl
 
-module _ (s : State) (v : S.Verdict) where
-  pub not-shaped : shaped s ≡ false → told 1 s ≡ verdictCall s v
+module _ (s : State) (v : S.Verdict) (l : shaped s && (eqb (length (v .message)) 45 && eqb (length (v .signature)) 132) ≡ true) where
+  pub not-a-verdict : 1 < v .good → told 2 s ≡ verdictCall s v
   unfolding verdictCall verdictChecks
-  not-shaped h = rw h
+  not-a-verdict h = rw (l, lt-ltb 1 (v .good) h)
 
-  module _ (h : shaped s ≡ true) where
-    pub other-message : (length (v .message) ≡ 45 → ⊥) → told 1 s ≡ verdictCall s v
+  pub not-an-id : v .good ≤ 1 → 15 < v .id → told 2 s ≡ verdictCall s v
+  unfolding verdictCall verdictChecks
+  not-an-id g h = rw (l, le-ltb 1 (v .good) g, lt-ltb 15 (v .id) h)
+
+  module _ (g : v .good ≤ 1) (i : v .id ≤ 15) where
+    pub is-stopped : stopped (s .config) ≡ true → told 4 s ≡ verdictCall s v
     unfolding verdictCall verdictChecks
-    other-message m = rw (h, ne-eqb (length (v .message)) 45 m)
+    is-stopped h = rw (l, le-ltb 1 (v .good) g, le-ltb 15 (v .id) i, h)
 
-    pub other-signature : length (v .message) ≡ 45 → (length (v .signature) ≡ 132 → ⊥) → told 1 s ≡ verdictCall s v
-    unfolding verdictCall verdictChecks
-    other-signature m n = rw (h, m, ne-eqb (length (v .signature)) 132 n)
-
-    pub lengths-right : length (v .message) ≡ 45 → length (v .signature) ≡ 132 → shaped s && (eqb (length (v .message)) 45 && eqb (length (v .signature)) 132) ≡ true
-    lengths-right m n = rw (h, m, n)
-
-  module _ (l : shaped s && (eqb (length (v .message)) 45 && eqb (length (v .signature)) 132) ≡ true) where
-    pub not-a-verdict : 1 < v .good → told 2 s ≡ verdictCall s v
-    unfolding verdictCall verdictChecks
-    not-a-verdict h = rw (l, lt-ltb 1 (v .good) h)
-
-    pub not-an-id : v .good ≤ 1 → 15 < v .id → told 2 s ≡ verdictCall s v
-    unfolding verdictCall verdictChecks
-    not-an-id g h = rw (l, le-ltb 1 (v .good) g, lt-ltb 15 (v .id) h)
-
-    module _ (g : v .good ≤ 1) (i : v .id ≤ 15) where
-      pub is-stopped : stopped (s .config) ≡ true → told 4 s ≡ verdictCall s v
-      unfolding verdictCall verdictChecks
-      is-stopped h = rw (l, le-ltb 1 (v .good) g, le-ltb 15 (v .id) i, h)
-
-      pub judged : (r : ℕ) (s′ : State) → stopped (s .config) ≡ false → r ≡ firstOf (S.vouchChecks s v) → s′ ≡ S.judgedVerdict s v r → told r s′ ≡ verdictCall s v
-      unfolding verdictCall verdictChecks S.vouchChecks
-      judged r s′ h e f =
-          rw (f, e, l, le-ltb 1 (v .good) g, le-ltb 15 (v .id) i, h)
-          (ap (λ (x : State). told (firstOf (S.vouchChecks s v)) x)
-          (sym
-          (other-number State (not (S.namesOffer (s .offer) v)) (neb (v .good) 1) (S.statusUnfit s (S.messageHeader (v .message)) (S.messageContents (v .message)))
-          (within 1 2 (statusOf (S.messageHeader (v .message))) && S.rootUnfit s (S.messageContents (v .message)))
-          s
-          (λ (n : ℕ). S.judgedVerdict s v n))))
+    pub judged : (r : ℕ) (s′ : State) → stopped (s .config) ≡ false → r ≡ firstOf (S.vouchChecks s v) → s′ ≡ S.judgedVerdict s v r → told r s′ ≡ verdictCall s v
+    unfolding verdictCall verdictChecks S.vouchChecks
+    judged r s′ h e f =
+        rw (f, e, l, le-ltb 1 (v .good) g, le-ltb 15 (v .id) i, h)
+        (ap (λ (x : State). told (firstOf (S.vouchChecks s v)) x)
+        (sym
+        (other-number State (not (S.namesOffer (s .offer) v)) (neb (v .good) 1) (S.statusUnfit s (S.messageHeader (v .message)) (S.messageContents (v .message)))
+        (within 1 2 (statusOf (S.messageHeader (v .message))) && S.rootUnfit s (S.messageContents (v .message)))
+        s
+        (λ (n : ℕ). S.judgedVerdict s v n))))

@@ -2,18 +2,16 @@
 -- Assumes nothing.
 use mathlib.Core.Path.{_≡_, sym, ap, _∙_}
 use mathlib.Core.List.{List, [], _∷_, _++_}
-use Prim.Native.Nat.{ℕ, _-_, _≤_, _<_}
+use Prim.Native.Nat.{ℕ, _-_, _≤_}
 use native.Mathlib.Nat.{zero-add}
 use native.Mathlib.Omega.{arith}
-use borrow.Author.Tests.{lt-leb, le-leb}
-use lib.ListN.{length, getD, set, replicate, length-append, length-replicate}
+use lib.ListN.{length, set, replicate, length-append, length-replicate}
 use Rattle.laws.specs.Lists.{part, splice}
 use Rattle.laws.proofs.Splice.{splice-two, splice-whole, splice-append, length-part}
 use Rattle.public_keys.proofs.Keys.{splice-cons}
 use Rattle.kroot.proofs.Parameters.{width-bound}
 use Rattle.rules.specs.Bits.{filled}
 use Rattle.rules.specs.Kroot.{noOffer, krootOf, keyWidth, ksOf}
-use Rattle.rules.specs.State.{waitingCount}
 
 -- no message waits
 pub wiped : (offer : List ℕ) → length offer ≡ 179 → splice offer 0 (replicate 179 0) ≡ noOffer
@@ -26,14 +24,6 @@ put chain c h k = splice-cons chain 0 1 c (omega arith) ∙ splice-whole chain (
 
 pub two-numbers : (numbers : List ℕ) (n : ℕ) → length numbers ≡ 2 → set (set numbers 0 0) 1 n ≡ 0 ∷ n ∷ []
 two-numbers numbers n h = splice-two numbers 0 0 n (omega arith) ∙ splice-whole numbers (0 ∷ n ∷ []) (omega arith)
-
-pub count-past : (numbers : List ℕ) → 256 < getD numbers 1 0 → 0 ≡ waitingCount numbers
-unfolding waitingCount
-count-past numbers h = rw (lt-leb (getD numbers 1 0) 256 h)
-
-pub count-in : (numbers : List ℕ) → getD numbers 1 0 ≤ 256 → getD numbers 1 0 ≡ waitingCount numbers
-unfolding waitingCount
-count-in numbers h = rw (le-leb (getD numbers 1 0) 256 h)
 
 -- the root key in 32 bytes, written in two steps
 pub root-written : (heldkey c : List ℕ) (w : ℕ) → length heldkey ≡ 32 → length c ≡ 44 → w ≡ keyWidth (ksOf c)

@@ -3,10 +3,6 @@ use mathlib.Core.List.{List}
 use Prim.Native.Nat.{ℕ}
 use Rattle.rules.specs.State.{State, Tesla, withPubkeys, withOffer, withChain, withTesla}
 
--- the held key and the waiting tags, as three regions
-abbrev pub tesla : List ℕ → List ℕ → List ℕ → Tesla
-tesla numbers heldkey waiting = record { numbers = numbers; key = heldkey; waiting = waiting }
-
 -- the state s with these regions in their places: for any s a state that has them
 abbrev pub trusted : State → List ℕ → List ℕ → List ℕ → Tesla → State
 trusted s pubkeys offer chain tesla = withTesla (withChain (withOffer (withPubkeys s pubkeys) offer) chain) tesla

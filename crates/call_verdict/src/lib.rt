@@ -1,9 +1,8 @@
-// The call that lends a verdict of the signature chip (01, "Verdicts"), over the sixteen lent regions.
-//   verdict          the call: any lengths, bytes and numbers
-//   judge_verdict    the same where every length is right, over the regions that it reads or writes
+// A verdict of the signature chip (01, "Verdicts"), over the lent regions that it reads or writes. The caller has seen that every length is right.
+//   judge_verdict    the call: any bytes and numbers
 //   judge_named      the same for a verdict in range, of a core that is not stopped
 //   vouch            what a verdict that is answered 0 changes
-// `maclt` is the MACLT number of the start, `c` the contents of a message (its bytes after the NMA header).
+// `c` are the contents of a message (its bytes after the NMA header).
 ghost use mathlib.Core.Path.{_≡_};
 ghost use mathlib.Core.Bool.{true, cond, _&&_};
 ghost use mathlib.Core.List.{List, [], _∷_};
@@ -16,78 +15,14 @@ ghost use Rattle.laws.specs.Refusal.{firstOf};
 ghost use Rattle.rules.specs.Bits.{filled};
 ghost use Rattle.rules.specs.Calls.{verdictCall};
 ghost use Rattle.rules.specs.Kroot.{krootOf, noOffer};
-ghost use Rattle.rules.specs.State.{State, state, shaped, macltOf, waitingCount};
+ghost use Rattle.rules.specs.State.{State, shaped, waitingCount};
+ghost use Rattle.rules.specs.State.{configLength, pubkeysLength, offerLength, chainLength, numbersLength, heldkeyLength, waitingLength};
 ghost use Rattle.rules.specs.Verdict as S;
-ghost use Rattle.call_verdict.specs.Trusted.{tesla, trusted};
+ghost use Rattle.regions.specs.Tesla.{tesla};
+ghost use Rattle.call_verdict.specs.Trusted.{trusted};
 
-// A verdict: 1 (good) or 0, key ID, message (45 bytes) and signature (132).
-pub fn verdict(
-    config: &[u8],
-    clocks: &[u32],
-    words: &[u8],
-    stamps: &[u32],
-    blocks: &[u8],
-    headers: &[u8],
-    present: &[u16],
-    since: &[u32],
-    pubkeys: &mut [u8],
-    offer: &mut [u8],
-    chain: &mut [u8],
-    numbers: &mut [u64],
-    heldkey: &mut [u8],
-    waiting: &mut [u8],
-    sets: &[u8],
-    arrivals: &[u32],
-    good: u8,
-    id: u8,
-    message: &[u8],
-    signature: &[u8],
-) -> u32
-    ensures { λ r. ⌜ told r (state (now (config .entry)) (now (clocks .entry)) (now (words .entry)) (now (stamps .entry)) (now (blocks .entry)) (now (headers .entry)) (now (present .entry)) (now (since .entry)) (now (pubkeys .exit)) (now (offer .exit)) (now (chain .exit)) (now (numbers .exit)) (now (heldkey .exit)) (now (waiting .exit)) (now (sets .entry)) (now (arrivals .entry))) ≡ verdictCall (state (now (config .entry)) (now (clocks .entry)) (now (words .entry)) (now (stamps .entry)) (now (blocks .entry)) (now (headers .entry)) (now (present .entry)) (now (since .entry)) (now (pubkeys .entry)) (now (offer .entry)) (now (chain .entry)) (now (numbers .entry)) (now (heldkey .entry)) (now (waiting .entry)) (now (sets .entry)) (now (arrivals .entry))) (record { good = good; id = id; message = now (message .entry); signature = now (signature .entry) }) ⌝ }
-{
-    if !regions::shaped(
-        config,
-        clocks,
-        words,
-        stamps,
-        blocks,
-        headers,
-        present,
-        since,
-        pubkeys,
-        offer,
-        chain,
-        numbers,
-        heldkey,
-        waiting,
-        sets,
-        arrivals,
-    ) {
-        return 1;
-    }
-    if message.len() != 45 {
-        return 1;
-    }
-    if signature.len() != 132 {
-        return 1;
-    }
-    judge_verdict(
-        config,
-        pubkeys,
-        offer,
-        chain,
-        numbers,
-        heldkey,
-        waiting,
-        good,
-        id,
-        message,
-        signature,
-    )
-}
-
-// A verdict whose lengths are right: out of range, or of a stopped core, it changes nothing.
-fn judge_verdict(
+// A verdict: 1 (good) or 0, key ID, message (45 bytes) and signature (132). Out of range, or of a stopped core, it changes nothing.
+pub fn judge_verdict(
     config: &[u8],
     pubkeys: &mut [u8],
     offer: &mut [u8],
@@ -100,7 +35,7 @@ fn judge_verdict(
     message: &[u8],
     signature: &[u8],
 ) -> u32
-    requires { ⌜ (((length (now config) ≡ 63) × (length (now pubkeys) ≡ 1088)) × ((length (now offer) ≡ 179) × (length (now chain) ≡ 45))) × (((length (now numbers) ≡ 2) × (length (now heldkey) ≡ 32)) × ((length (now waiting) ≡ 21504) × (length (now message) ≡ 45))) ⌝ }
+    requires { ⌜ (((length (now config) ≡ configLength) × (length (now pubkeys) ≡ pubkeysLength)) × ((length (now offer) ≡ offerLength) × (length (now chain) ≡ chainLength))) × (((length (now numbers) ≡ numbersLength) × (length (now heldkey) ≡ heldkeyLength)) × ((length (now waiting) ≡ waitingLength) × (length (now message) ≡ 45))) ⌝ }
     ensures { λ r. ⌜ ((s : State) → s .config ≡ now (config .entry) → (shaped (trusted s (now (pubkeys .entry)) (now (offer .entry)) (now (chain .entry)) (tesla (now (numbers .entry)) (now (heldkey .entry)) (now (waiting .entry)))) && (eqb (length (now (message .entry))) 45 && eqb (length (now (signature .entry))) 132)) ≡ true → told r (trusted s (now (pubkeys .exit)) (now (offer .exit)) (now (chain .exit)) (tesla (now (numbers .exit)) (now (heldkey .exit)) (now (waiting .exit)))) ≡ verdictCall (trusted s (now (pubkeys .entry)) (now (offer .entry)) (now (chain .entry)) (tesla (now (numbers .entry)) (now (heldkey .entry)) (now (waiting .entry)))) (record { good = good; id = id; message = now (message .entry); signature = now (signature .entry) })) ⌝ }
 {
     if 1 < good {
@@ -109,11 +44,11 @@ fn judge_verdict(
     if 15 < id {
         return 2;
     }
-    if config[62] != 0 {
+    if regions::stopped(config) {
         return 4;
     }
     judge_named(
-        config[1],
+        config,
         pubkeys,
         offer,
         chain,
@@ -129,7 +64,7 @@ fn judge_verdict(
 
 // A verdict in range: 14 leaves all as before, 15, 11 and 9 drop the waiting message, and 0 does what the message says.
 fn judge_named(
-    maclt: u8,
+    config: &[u8],
     pubkeys: &mut [u8],
     offer: &mut [u8],
     chain: &mut [u8],
@@ -141,11 +76,12 @@ fn judge_named(
     message: &[u8],
     signature: &[u8],
 ) -> u32
-    requires { ⌜ (((id < 16) × (length (now pubkeys) ≡ 1088)) × ((length (now offer) ≡ 179) × (length (now chain) ≡ 45))) × (((length (now numbers) ≡ 2) × (length (now heldkey) ≡ 32)) × ((length (now waiting) ≡ 21504) × (length (now message) ≡ 45))) ⌝ }
-    ensures { λ r. ⌜ ((s : State) → macltOf (s .config) ≡ maclt → (r ≡ firstOf (S.vouchChecks (trusted s (now (pubkeys .entry)) (now (offer .entry)) (now (chain .entry)) (tesla (now (numbers .entry)) (now (heldkey .entry)) (now (waiting .entry)))) (record { good = good; id = id; message = now (message .entry); signature = now (signature .entry) }))) × (trusted s (now (pubkeys .exit)) (now (offer .exit)) (now (chain .exit)) (tesla (now (numbers .exit)) (now (heldkey .exit)) (now (waiting .exit))) ≡ S.judgedVerdict (trusted s (now (pubkeys .entry)) (now (offer .entry)) (now (chain .entry)) (tesla (now (numbers .entry)) (now (heldkey .entry)) (now (waiting .entry)))) (record { good = good; id = id; message = now (message .entry); signature = now (signature .entry) }) r)) ⌝ }
+    requires { ⌜ (id < 16) × (length (now config) ≡ configLength) ⌝ }
+    requires { ⌜ ((length (now pubkeys) ≡ pubkeysLength) × ((length (now offer) ≡ offerLength) × (length (now chain) ≡ chainLength))) × (((length (now numbers) ≡ numbersLength) × (length (now heldkey) ≡ heldkeyLength)) × ((length (now waiting) ≡ waitingLength) × (length (now message) ≡ 45))) ⌝ }
+    ensures { λ r. ⌜ ((s : State) → s .config ≡ now (config .entry) → (r ≡ firstOf (S.vouchChecks (trusted s (now (pubkeys .entry)) (now (offer .entry)) (now (chain .entry)) (tesla (now (numbers .entry)) (now (heldkey .entry)) (now (waiting .entry)))) (record { good = good; id = id; message = now (message .entry); signature = now (signature .entry) }))) × (trusted s (now (pubkeys .exit)) (now (offer .exit)) (now (chain .exit)) (tesla (now (numbers .exit)) (now (heldkey .exit)) (now (waiting .exit))) ≡ S.judgedVerdict (trusted s (now (pubkeys .entry)) (now (offer .entry)) (now (chain .entry)) (tesla (now (numbers .entry)) (now (heldkey .entry)) (now (waiting .entry)))) (record { good = good; id = id; message = now (message .entry); signature = now (signature .entry) }) r)) ⌝ }
 {
     let code = call_verdict_checks::vouch_refusal(
-        maclt,
+        config,
         chain,
         offer,
         good,
@@ -161,7 +97,7 @@ fn judge_named(
         return code;
     }
     vouch(
-        maclt,
+        config,
         pubkeys,
         chain,
         numbers,
@@ -175,15 +111,15 @@ fn judge_named(
 
 // No message waits.
 fn end_wait(offer: &mut [u8])
-    requires { ⌜ length (now offer) ≡ 179 ⌝ }
+    requires { ⌜ length (now offer) ≡ offerLength ⌝ }
     ensures { λ _. ⌜ now (offer .exit) ≡ noOffer ⌝ }
 {
-    buffer::fill(offer, 0, 179, 0);
+    buffer::fill(offer, 0, regions::OFFER_LENGTH, 0);
 }
 
 // Status 3 drops the chain and the waiting tags. Any other drops keys of lower ID and puts the root in force.
 fn vouch(
-    maclt: u8,
+    config: &[u8],
     pubkeys: &mut [u8],
     chain: &mut [u8],
     numbers: &mut [u64],
@@ -192,8 +128,9 @@ fn vouch(
     id: u8,
     message: &[u8],
 )
-    requires { ⌜ (((id < 16) × (length (now pubkeys) ≡ 1088)) × ((length (now chain) ≡ 45) × (length (now numbers) ≡ 2))) × ((length (now heldkey) ≡ 32) × ((length (now waiting) ≡ 21504) × (length (now message) ≡ 45))) ⌝ }
-    ensures { λ _. ⌜ ((s : State) (good : ℕ) (signature : List ℕ) → macltOf (s .config) ≡ maclt → s .pubkeys ≡ now (pubkeys .entry) → s .chain ≡ now (chain .entry) → s .tesla ≡ tesla (now (numbers .entry)) (now (heldkey .entry)) (now (waiting .entry)) → S.trusting s (now (pubkeys .exit)) (now (chain .exit)) (tesla (now (numbers .exit)) (now (heldkey .exit)) (now (waiting .exit))) ≡ S.vouched s (record { good = good; id = id; message = now (message .entry); signature = signature })) ⌝ }
+    requires { ⌜ (id < 16) × (length (now config) ≡ configLength) ⌝ }
+    requires { ⌜ ((length (now pubkeys) ≡ pubkeysLength) × ((length (now chain) ≡ chainLength) × (length (now numbers) ≡ numbersLength))) × ((length (now heldkey) ≡ heldkeyLength) × ((length (now waiting) ≡ waitingLength) × (length (now message) ≡ 45))) ⌝ }
+    ensures { λ _. ⌜ ((s : State) (good : ℕ) (signature : List ℕ) → s .config ≡ now (config .entry) → s .pubkeys ≡ now (pubkeys .entry) → s .chain ≡ now (chain .entry) → s .tesla ≡ tesla (now (numbers .entry)) (now (heldkey .entry)) (now (waiting .entry)) → S.trusting s (now (pubkeys .exit)) (now (chain .exit)) (tesla (now (numbers .exit)) (now (heldkey .exit)) (now (waiting .exit))) ≡ S.vouched s (record { good = good; id = id; message = now (message .entry); signature = signature })) ⌝ }
 {
     if gather::status_of(message[0]) == 3 {
         chain[0] = 2;
@@ -201,33 +138,33 @@ fn vouch(
         return;
     }
     public_keys::drop_lower(pubkeys, id);
-    renew(maclt, chain, numbers, heldkey, waiting, &message[1..45]);
+    renew(config, chain, numbers, heldkey, waiting, &message[1..45]);
 }
 
 // ---- a root in force
 
 // Contents that are in force stay so; others are put in force, and the held key begins again at their root.
 fn renew(
-    maclt: u8,
+    config: &[u8],
     chain: &mut [u8],
     numbers: &mut [u64],
     heldkey: &mut [u8],
     waiting: &mut [u8],
     c: &[u8],
 )
-    requires { ⌜ ((length (now chain) ≡ 45) × (length (now numbers) ≡ 2)) × ((length (now heldkey) ≡ 32) × ((length (now waiting) ≡ 21504) × (length (now c) ≡ 44))) ⌝ }
-    ensures { λ _. ⌜ ((s : State) → macltOf (s .config) ≡ maclt → s .chain ≡ now (chain .entry) → s .tesla ≡ tesla (now (numbers .entry)) (now (heldkey .entry)) (now (waiting .entry)) → (now (chain .exit) ≡ cond (S.sameContents s (now (c .entry))) (s .chain) (1 ∷ now (c .entry))) × (tesla (now (numbers .exit)) (now (heldkey .exit)) (now (waiting .exit)) ≡ cond (S.sameContents s (now (c .entry))) (s .tesla) (S.rootHeld s (now (c .entry))))) ⌝ }
+    requires { ⌜ ((length (now config) ≡ configLength) × ((length (now chain) ≡ chainLength) × (length (now numbers) ≡ numbersLength))) × ((length (now heldkey) ≡ heldkeyLength) × ((length (now waiting) ≡ waitingLength) × (length (now c) ≡ 44))) ⌝ }
+    ensures { λ _. ⌜ ((s : State) → s .config ≡ now (config .entry) → s .chain ≡ now (chain .entry) → s .tesla ≡ tesla (now (numbers .entry)) (now (heldkey .entry)) (now (waiting .entry)) → (now (chain .exit) ≡ cond (S.sameContents s (now (c .entry))) (s .chain) (1 ∷ now (c .entry))) × (tesla (now (numbers .exit)) (now (heldkey .exit)) (now (waiting .exit)) ≡ cond (S.sameContents s (now (c .entry))) (s .tesla) (S.rootHeld s (now (c .entry))))) ⌝ }
 {
-    if call_verdict_checks::same_contents(maclt, chain, c) {
+    if call_verdict_checks::same_contents(config, chain, c) {
         return;
     }
-    hold_root(maclt, chain, numbers, heldkey, waiting, c);
+    hold_root(config, chain, numbers, heldkey, waiting, c);
     put_in_force(chain, c);
 }
 
 // The contents are those in force from now on.
 fn put_in_force(chain: &mut [u8], c: &[u8])
-    requires { ⌜ (length (now chain) ≡ 45) × (length (now c) ≡ 44) ⌝ }
+    requires { ⌜ (length (now chain) ≡ chainLength) × (length (now c) ≡ 44) ⌝ }
     ensures { λ _. ⌜ now (chain .exit) ≡ 1 ∷ now (c .entry) ⌝ }
 {
     chain[0] = 1;
@@ -236,36 +173,25 @@ fn put_in_force(chain: &mut [u8], c: &[u8])
 
 // The root is the held key, at slot 0; waiting tags stay where the rule says so.
 fn hold_root(
-    maclt: u8,
+    config: &[u8],
     chain: &[u8],
     numbers: &mut [u64],
     heldkey: &mut [u8],
     waiting: &mut [u8],
     c: &[u8],
 )
-    requires { ⌜ ((length (now chain) ≡ 45) × (length (now numbers) ≡ 2)) × ((length (now heldkey) ≡ 32) × ((length (now waiting) ≡ 21504) × (length (now c) ≡ 44))) ⌝ }
-    ensures { λ _. ⌜ ((s : State) → macltOf (s .config) ≡ maclt → s .chain ≡ now (chain .entry) → s .tesla ≡ tesla (now (numbers .entry)) (now (heldkey .entry)) (now (waiting .entry)) → tesla (now (numbers .exit)) (now (heldkey .exit)) (now (waiting .exit)) ≡ S.rootHeld s (now (c .entry))) ⌝ }
+    requires { ⌜ ((length (now config) ≡ configLength) × ((length (now chain) ≡ chainLength) × (length (now numbers) ≡ numbersLength))) × ((length (now heldkey) ≡ heldkeyLength) × ((length (now waiting) ≡ waitingLength) × (length (now c) ≡ 44))) ⌝ }
+    ensures { λ _. ⌜ ((s : State) → s .config ≡ now (config .entry) → s .chain ≡ now (chain .entry) → s .tesla ≡ tesla (now (numbers .entry)) (now (heldkey .entry)) (now (waiting .entry)) → tesla (now (numbers .exit)) (now (heldkey .exit)) (now (waiting .exit)) ≡ S.rootHeld s (now (c .entry))) ⌝ }
 {
-    let n = waiting_count(numbers);
-    let kept = keep_tags(maclt, chain, waiting, n, c);
+    let n = regions::waiting_count(numbers);
+    let kept = keep_tags(config, chain, waiting, n, c);
     put_root(heldkey, c);
     put_numbers(numbers, kept);
 }
 
-// How many tags wait.
-fn waiting_count(numbers: &[u64]) -> usize
-    requires { ⌜ length (now numbers) ≡ 2 ⌝ }
-    ensures { λ r. ⌜ (r ≡ waitingCount (now (numbers .entry))) × (r ≤ 256) ⌝ }
-{
-    if 256 < numbers[1] {
-        return 0;
-    }
-    numbers[1] as usize
-}
-
 // Slot 0 is held, and so many tags wait.
 fn put_numbers(numbers: &mut [u64], kept: usize)
-    requires { ⌜ length (now numbers) ≡ 2 ⌝ }
+    requires { ⌜ length (now numbers) ≡ numbersLength ⌝ }
     ensures { λ _. ⌜ now (numbers .exit) ≡ 0 ∷ kept ∷ [] ⌝ }
 {
     numbers[0] = 0;
@@ -273,14 +199,14 @@ fn put_numbers(numbers: &mut [u64], kept: usize)
 }
 
 // The tags that stay at the new contents close up, in order. Gives their number.
-fn keep_tags(maclt: u8, chain: &[u8], waiting: &mut [u8], n: usize, c: &[u8]) -> usize
-    requires { ⌜ ((length (now chain) ≡ 45) × (length (now waiting) ≡ 21504)) × ((n ≤ 256) × (length (now c) ≡ 44)) ⌝ }
-    ensures { λ r. ⌜ ((s : State) → macltOf (s .config) ≡ maclt → s .chain ≡ now (chain .entry) → s .tesla .waiting ≡ now (waiting .entry) → waitingCount (s .tesla .numbers) ≡ n → (now (waiting .exit) ≡ splice (now (waiting .entry)) 0 (S.stayingAt s (now (c .entry)))) × (length (S.stayingAt s (now (c .entry))) ≡ r * 84)) ⌝ }
+fn keep_tags(config: &[u8], chain: &[u8], waiting: &mut [u8], n: usize, c: &[u8]) -> usize
+    requires { ⌜ ((length (now config) ≡ configLength) × ((length (now chain) ≡ chainLength) × (length (now waiting) ≡ waitingLength))) × ((n ≤ 256) × (length (now c) ≡ 44)) ⌝ }
+    ensures { λ r. ⌜ ((s : State) → s .config ≡ now (config .entry) → s .chain ≡ now (chain .entry) → s .tesla .waiting ≡ now (waiting .entry) → waitingCount (s .tesla .numbers) ≡ n → (now (waiting .exit) ≡ splice (now (waiting .entry)) 0 (S.stayingAt s (now (c .entry)))) × (length (S.stayingAt s (now (c .entry))) ≡ r * 84)) ⌝ }
 {
-    if !kroot::in_force(maclt, chain) {
+    if !kroot::in_force(config, chain) {
         return 0;
     }
-    if !kroot::chain_unchanged(&chain[1..45], c) {
+    if !kroot::chain_unchanged(kroot::chain_contents(chain), c) {
         return 0;
     }
     waiting_tags::keep_staying(waiting, kroot::root_seconds(c), n)
@@ -288,10 +214,10 @@ fn keep_tags(maclt: u8, chain: &[u8], waiting: &mut [u8], n: usize, c: &[u8]) ->
 
 // The root key, zeros after a short one.
 fn put_root(heldkey: &mut [u8], c: &[u8])
-    requires { ⌜ (length (now heldkey) ≡ 32) × (length (now c) ≡ 44) ⌝ }
+    requires { ⌜ (length (now heldkey) ≡ heldkeyLength) × (length (now c) ≡ 44) ⌝ }
     ensures { λ _. ⌜ now (heldkey .exit) ≡ filled 32 (krootOf (now (c .entry))) ⌝ }
 {
     let width = kroot::key_width(kroot::ks(c));
     buffer::copy_part(heldkey, 0, c, 12, width);
-    buffer::fill(heldkey, width, 32 - width, 0);
+    buffer::fill(heldkey, width, regions::HELDKEY_LENGTH - width, 0);
 }

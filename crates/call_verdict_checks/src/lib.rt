@@ -22,7 +22,7 @@ pub fn same_contents(config: &[u8], chain: &[u8], c: &[u8]) -> bool
     if !kroot::in_force(config, chain) {
         return false;
     }
-    buffer::equal(&chain[1..45], c)
+    buffer::equal(kroot::chain_contents(chain), c)
 }
 
 // Whether the chain in force has this CID.
@@ -33,7 +33,7 @@ pub fn cid_in_force(config: &[u8], chain: &[u8], cid: u8) -> bool
     if !kroot::in_force(config, chain) {
         return false;
     }
-    kroot::cidkr(&chain[1..45]) == cid
+    kroot::cidkr(kroot::chain_contents(chain)) == cid
 }
 
 // Status 0; status 3 with no chain or other CID; status 1 or 2 with CIDKR not CID.
@@ -57,7 +57,7 @@ fn root_unfit(config: &[u8], chain: &[u8], c: &[u8]) -> bool
     requires { ⌜ (length (now config) ≡ configLength) × ((length (now chain) ≡ chainLength) × (44 ≤ length (now c))) ⌝ }
     ensures { λ r. ⌜ ((s : State) → s .config ≡ now (config .entry) → s .chain ≡ now (chain .entry) → r ≡ S.rootUnfit s (now (c .entry))) ⌝ }
 {
-    let last = kroot::root_seconds(&chain[1..45]);
+    let last = kroot::root_seconds(kroot::chain_contents(chain));
     let root = kroot::root_seconds(c);
     if kroot::in_force(config, chain) {
         let equal = same_contents(config, chain, c);

@@ -1,17 +1,16 @@
 -- The word call by its cases: refused, another type, held. Assumes nothing.
-use mathlib.Core.Path.{_≡_, refl, ap, sym}
-use mathlib.Core.Bool.{true, false, _&&_}
+use mathlib.Core.Path.{_≡_, ap, sym}
+use mathlib.Core.Bool.{true}
 use mathlib.Core.List.{List}
 use Prim.Native.Nat.{ℕ, _+_, _≤_, _<_}
-use lib.Dec.{eqb}
-use lib.ListN.{length, set}
+use lib.ListN.{set}
 use borrow.Author.Tests.{lt-leb, le-leb}
 use native.Mathlib.Omega.{arith}
-use Rattle.laws.specs.Refusal.{firstOf, unless}
+use Rattle.laws.specs.Refusal.{firstOf}
 use Rattle.laws.proofs.Refusal.{unless-refused}
 use Rattle.regions.specs.Told.{told}
-use Rattle.rules.specs.Calls.{Word, wordChecks, wordUnfit, wordTaken, wordCall}
-use Rattle.rules.specs.State.{State, Nav, shaped}
+use Rattle.rules.specs.Calls.{Word, wordChecks, wordTaken, wordCall}
+use Rattle.rules.specs.State.{State, Nav}
 use Rattle.rules.specs.Navdata.{wordType, heldType, wordStored}
 use Rattle.rules.specs.Times.{stampOf}
 use Rattle.call_word.specs.Heard.{heard}
@@ -47,12 +46,3 @@ type-held k h g = rw (le-leb 1 k h, le-leb k 5 g)
 pub held : (s : State) (w : Word) (k : List ℕ) (n : Nav) → heldType (wordType (w .bytes)) ≡ true → k ≡ set (s .clocks) (36 + w .prn) (stampOf (w .time)) → n ≡ wordStored (s .nav) (w .prn) (wordType (w .bytes)) (w .bytes) (stampOf (w .time)) → heard s k n ≡ wordTaken s w
 unfolding wordTaken
 held s w k n h ek en = rw (h, ek, en)
-
--- a wrong length
-pub lengths-unfit : (s : State) (w : Word) → shaped s ≡ false → told 1 s ≡ wordCall s w
-unfolding wordChecks
-lengths-unfit s w e = refused s w 1 (λ z. absurd (omega (arith, z))) (rw e)
-
-pub bytes-unfit : (s : State) (w : Word) → shaped s ≡ true → eqb (length (w .bytes)) 16 ≡ false → told 1 s ≡ wordCall s w
-unfolding wordChecks
-bytes-unfit s w e f = refused s w 1 (λ z. absurd (omega (arith, z))) (rw (e, f))

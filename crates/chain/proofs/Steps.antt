@@ -130,7 +130,7 @@ tail-is w h =
 
 pub framed-is : (c : Chain) (key z b1 b2 b4 : List ℕ) → c .width ≤ 32 → length (c .alpha) ≡ 6 → length key ≡ 32 → z ≡ zs 64
     → b1 ≡ splice z 0 (part key 0 (c .width))
-    → b2 ≡ splice b1 (c .width + 4) (c .alpha)
+    → b2 ≡ splice b1 (c .width + 4) (part (c .alpha) 0 6)
     → b4 ≡ splice (set b2 (c .width + 10) 0x80) 60 (be4 (8 * (c .width + 10)))
     → (take (c .width) b4 ≡ take (c .width) key) × Framed c b4
 unfolding part
@@ -147,7 +147,7 @@ framed-is c key z b1 b2 b4 h a e p q r s =
     ∙ ap (λ (j : ℕ). k ++ zs (64 - j)) n
     ∙ rw (zeros-split (64 - w) 4 (60 - w) (omega arith), zeros-split (60 - w) 6 (54 - w) (omega arith)) (sym (append-assoc k (zs 4) (zs 6 ++ zs (54 - w)))) in
     let r2 : b2 ≡ k ++ zs 4 ++ (c .alpha ++ zs (54 - w)) =
-    r ∙ ap (λ (l : List ℕ). splice l (w + 4) (c .alpha)) q2 ∙ splice-middle (k ++ zs 4) (zs 6) (zs (54 - w)) (w + 4) (c .alpha) n4 (sym a) in
+    r ∙ ap (splice b1 (w + 4)) (take-all 6 (c .alpha) (omega arith)) ∙ ap (λ (l : List ℕ). splice l (w + 4) (c .alpha)) q2 ∙ splice-middle (k ++ zs 4) (zs 6) (zs (54 - w)) (w + 4) (c .alpha) n4 (sym a) in
     let one : 54 - w ≡ suc (53 - w) = omega arith in
     let r3 : set b2 (w + 10) 0x80 ≡ k ++ zs 4 ++ c .alpha ++ (0x80 ∷ zs (53 - w)) =
     ap (λ (l : List ℕ). set l (w + 10) 0x80) (r2 ∙ ap (λ (j : ℕ). k ++ zs 4 ++ (c .alpha ++ zs j)) one ∙ sym (append-assoc (k ++ zs 4) (c .alpha) (0 ∷ zs (53 - w))))

@@ -24,15 +24,16 @@ pub fn walk(c: Chain, n: u64, m: u64, key: &mut [u8; 32])
     let mut b = framed(c, key);
     let mut i = n;
     while 0 < i {
-        i -= 1;
-        step(c, m + i, &mut b);
+        let j = i - 1;
+        step(c, m + j, &mut b);
+        i = j;
     }
     buffer::copy_part(key, 0, &b, 0, width);
 }
 
 // The GST_SF of slot m, in 32 bits.
 fn slot_time(c: Chain, m: u64) -> u32
-    requires { ⌜ Walks c × (m < 2 ^ 34) ⌝ }
+    requires { ⌜ Walks c × (m ≤ 2 ^ 34) ⌝ }
     ensures { λ r. ⌜ r ≡ S.slotTime c m % 2 ^ 32 ⌝ }
 {
     times::gst_of(times::slot_seconds(c.ns, c.nmack, c.root, m))
@@ -47,7 +48,7 @@ fn framed(c: Chain, key: &[u8; 32]) -> [u8; 64]
     let alpha = c.alpha;
     let mut b = [0u8; 64];
     buffer::copy_part(&mut b, 0, key, 0, width);
-    buffer::copy_at(&mut b, width + 4, &alpha);
+    buffer::copy_part(&mut b, width + 4, &alpha, 0, 6);
     b[width + 10] = 0x80;
     buffer::put_u32(&mut b, 60, (8 * (width + 10)) as u32);
     b
@@ -55,7 +56,7 @@ fn framed(c: Chain, key: &[u8; 32]) -> [u8; 64]
 
 // One step, in the block: the key of slot m + 1 becomes the key of slot m.
 fn step(c: Chain, m: u64, b: &mut [u8; 64])
-    requires { ⌜ Walks c × ((m < 2 ^ 34) × Framed c (now b)) ⌝ }
+    requires { ⌜ Walks c × ((m ≤ 2 ^ 34) × Framed c (now b)) ⌝ }
     ensures { λ _. ⌜ (take (c .width) (now (b .exit)) ≡ S.keyStep c m (take (c .width) (now (b .entry)))) × Framed c (now (b .exit)) ⌝ }
 {
     let width = c.width;

@@ -1,14 +1,14 @@
 -- The HKROOT half by its cases: nothing complete, a complete DSM-KROOT, a complete DSM-PKR. Assumes nothing.
-use mathlib.Core.Path.{_≡_, sym, _∙_}
-use mathlib.Core.Bool.{Bool, true, false, cond}
+use mathlib.Core.Path.{_≡_}
+use mathlib.Core.Bool.{false, cond}
 use mathlib.Core.List.{List, []}
-use Prim.Native.Nat.{ℕ, _≤_, _<_}
-use lib.Dec.{leb, eqb}
+use Prim.Native.Nat.{ℕ, _≤_}
+use lib.Dec.{leb}
 use lib.ListN.{length, set}
 use borrow.Author.Tests.{ne-eqb}
 use native.Mathlib.Omega.{arith}
 use Rattle.rules.specs.Calls.{HkrootDone, hkrootHalf, storeDone, krootDone, pkrDone}
-use Rattle.rules.specs.Gather.{Gathered, gathered, dsmIdOf, headerOf}
+use Rattle.rules.specs.Gather.{gathered, dsmIdOf, headerOf}
 use Rattle.rules.specs.Kroot.{krootJudged}
 use Rattle.rules.specs.Pkr.{pkrJudged}
 use Rattle.rules.specs.State.{State, Store, treeRoot}

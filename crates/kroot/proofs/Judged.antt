@@ -1,18 +1,18 @@
 -- A complete DSM-KROOT by its checks, and the bytes of what then waits.
 -- Assumes nothing.
 use mathlib.Core.Path.{_≡_, refl, sym, ap, _∙_}
-use mathlib.Core.Bool.{Bool, true, false}
+use mathlib.Core.Bool.{true, false}
 use mathlib.Core.List.{List, [], _∷_, _++_, append-assoc}
-use Prim.Native.Nat.{ℕ, suc, _+_, _-_, _*_, _≤_, _<_}
+use Prim.Native.Nat.{ℕ, suc, _+_, _-_, _*_, _≤_}
 use native.Mathlib.Omega.{arith}
 use native.Mathlib.Nat.{zero-add}
 use lib.ListN.{length, set, replicate, length-append, length-replicate}
 use borrow.Author.Tests.{eq-eqb, ne-eqb}
-use Rattle.laws.specs.Lists.{part, splice}
+use Rattle.laws.specs.Lists.{splice}
 use Rattle.laws.proofs.Splice.{splice-two, splice-append, splice-whole, length-splice}
 use Rattle.public_keys.proofs.Keys.{splice-one}
 use Rattle.rules.specs.Bits.{filled}
-use Rattle.rules.specs.PublicKeys.{keyHeld, keyType, signatureLength}
+use Rattle.rules.specs.PublicKeys.{keyHeld, keyType}
 use Rattle.rules.specs.Kroot as S
 
 module _ (pubkeys config offer : List ℕ) (header : ℕ) (d : List ℕ) where

@@ -2,9 +2,10 @@
 // the definition of the same name in rules/specs/Kroot.antt or Verdict.antt gives.
 // Public calls:
 //   kroot_judge                       a complete DSM-KROOT: its number, and the message that then waits
-//   in_force, chain_with              the chain in force and its numbers
+//   in_force, chain_contents, chain_with    the chain in force, its contents and its numbers
 //   names_offer, chain_unchanged      a verdict against what waits; a new root against the chain in force
-//   cidkr .. root_seconds             fields of contents: the 44 bytes after the first of a DSM, a message or the chain's region
+//   cidkr, ks, root_seconds           fields of contents: the 44 bytes after the first of a DSM, a message or the chain's region
+//   key_width, least_blocks           bytes of a key by its KS code; blocks that a message fits
 ghost use mathlib.Core.Path.{_≡_};
 ghost use mathlib.Core.List.{_∷_};
 ghost use Prim.Native.Nat.{ℕ, _+_, _≤_, _<_};
@@ -55,7 +56,7 @@ fn store_offer(offer: &mut [u8], id: u8, header: u8, d: &[u8], width: usize, sig
 }
 
 // The ID of the public key that a DSM-KROOT is signed with.
-pub fn pkid(d: &[u8]) -> u8
+fn pkid(d: &[u8]) -> u8
     requires { ⌜ 1 ≤ length (now d) ⌝ }
     ensures { λ r. ⌜ r ≡ S.pkidOf (now (d .entry)) ⌝ }
 {
@@ -83,7 +84,15 @@ pub fn in_force(config: &[u8], chain: &[u8]) -> bool
     if chain[0] != 1 {
         return false;
     }
-    !parameters_bad(config, &chain[1..45])
+    !parameters_bad(config, chain_contents(chain))
+}
+
+// The contents that were put in force last.
+pub fn chain_contents(chain: &[u8]) -> &[u8]
+    requires { ⌜ length (now chain) ≡ chainLength ⌝ }
+    ensures { λ r. ⌜ (now r ≡ S.chainContents (now (chain .entry))) × (length (now r) ≡ 44) ⌝ }
+{
+    &chain[1..45]
 }
 
 // The chain's numbers.
@@ -154,7 +163,7 @@ fn widths_same(a: &[u8], b: &[u8]) -> bool
 // ---- row 8 of the table
 
 // Whether contents have a parameter that is refused.
-pub fn parameters_bad(config: &[u8], c: &[u8]) -> bool
+fn parameters_bad(config: &[u8], c: &[u8]) -> bool
     requires { ⌜ (length (now config) ≡ configLength) × (44 ≤ length (now c)) ⌝ }
     ensures { λ r. ⌜ r ≡ S.parametersBad (now (config .entry)) (now (c .entry)) ⌝ }
 {
@@ -208,7 +217,7 @@ pub fn key_width(code: u8) -> usize
 }
 
 // Bits of a tag by its MS code (000, table 13).
-pub fn tag_width(code: u8) -> u64
+fn tag_width(code: u8) -> u64
     ensures { λ r. ⌜ r ≡ S.tagWidth code ⌝ }
 {
     if 9 < code {
@@ -218,7 +227,7 @@ pub fn tag_width(code: u8) -> u64
 }
 
 // Fields of a MACK block, for a key of ks bits and tags of ms bits.
-pub fn fields_for(nmack: u8, ks: u64, ms: u64) -> u64
+fn fields_for(nmack: u8, ks: u64, ms: u64) -> u64
     requires { ⌜ ms < 256 ⌝ }
     ensures { λ r. ⌜ r ≡ S.fieldsFor nmack ks ms ⌝ }
 {
@@ -238,21 +247,21 @@ pub fn cidkr(c: &[u8]) -> u8
     (c[0] >> 6) % 4
 }
 
-pub fn nmack(c: &[u8]) -> u8
+fn nmack(c: &[u8]) -> u8
     requires { ⌜ 44 ≤ length (now c) ⌝ }
     ensures { λ r. ⌜ r ≡ S.nmackOf (now (c .entry)) ⌝ }
 {
     (c[0] >> 4) % 4
 }
 
-pub fn hf(c: &[u8]) -> u8
+fn hf(c: &[u8]) -> u8
     requires { ⌜ 44 ≤ length (now c) ⌝ }
     ensures { λ r. ⌜ r ≡ S.hfOf (now (c .entry)) ⌝ }
 {
     (c[0] >> 2) % 4
 }
 
-pub fn mf(c: &[u8]) -> u8
+fn mf(c: &[u8]) -> u8
     requires { ⌜ 44 ≤ length (now c) ⌝ }
     ensures { λ r. ⌜ r ≡ S.mfOf (now (c .entry)) ⌝ }
 {
@@ -266,35 +275,35 @@ pub fn ks(c: &[u8]) -> u8
     (c[1] >> 4) % 16
 }
 
-pub fn ms(c: &[u8]) -> u8
+fn ms(c: &[u8]) -> u8
     requires { ⌜ 44 ≤ length (now c) ⌝ }
     ensures { λ r. ⌜ r ≡ S.msOf (now (c .entry)) ⌝ }
 {
     c[1] % 16
 }
 
-pub fn maclt_field(c: &[u8]) -> u8
+fn maclt_field(c: &[u8]) -> u8
     requires { ⌜ 44 ≤ length (now c) ⌝ }
     ensures { λ r. ⌜ r ≡ S.macltFieldOf (now (c .entry)) ⌝ }
 {
     c[2]
 }
 
-pub fn mo(c: &[u8]) -> u8
+fn mo(c: &[u8]) -> u8
     requires { ⌜ 44 ≤ length (now c) ⌝ }
     ensures { λ r. ⌜ r ≡ S.moOf (now (c .entry)) ⌝ }
 {
     (c[3] >> 4) % 4
 }
 
-pub fn root_week(c: &[u8]) -> u64
+fn root_week(c: &[u8]) -> u64
     requires { ⌜ 44 ≤ length (now c) ⌝ }
     ensures { λ r. ⌜ r ≡ S.rootWeekOf (now (c .entry)) ⌝ }
 {
     bitfields::wide(c[3]) % 16 * 256 + bitfields::wide(c[4])
 }
 
-pub fn root_hour(c: &[u8]) -> u8
+fn root_hour(c: &[u8]) -> u8
     requires { ⌜ 44 ≤ length (now c) ⌝ }
     ensures { λ r. ⌜ r ≡ S.rootHourOf (now (c .entry)) ⌝ }
 {
@@ -310,7 +319,7 @@ pub fn root_seconds(c: &[u8]) -> u64
 }
 
 // The chain's pattern α.
-pub fn alpha(c: &[u8]) -> [u8; 6]
+fn alpha(c: &[u8]) -> [u8; 6]
     requires { ⌜ 44 ≤ length (now c) ⌝ }
     ensures { λ r. ⌜ r ≡ S.alphaOf (now (c .entry)) ⌝ }
 {

@@ -1,11 +1,13 @@
 // The boundary to C and Rust: the calls over the sixteen lent regions, as exported functions. A slice is two arguments, a pointer and a count of
 // elements. include/osnma.h and rust/osnma have the calls over one object. Nobody but these calls writes the regions between a start and the last
 // call, and the regions do not overlap.
-// No function asks anything of its caller: any lengths, bytes, numbers and times. Each is one call of the core, with the same contract.
+// No function asks anything of its caller: any lengths, bytes, numbers and times. Here alone all sixteen regions stand together: each function looks
+// at the lengths (row 1 of 01's table) and hands on the regions that the call reads or writes.
 ghost use mathlib.Core.Path.{_≡_};
 ghost use Rattle.regions.specs.Told.{told};
+ghost use Rattle.call_subframe.specs.Told.{subframeTold, subframe};
 ghost use Rattle.call_reads.specs.Reads.{setTold, offerTold};
-ghost use Rattle.rules.specs.Calls.{startCall, wordCall, verdictCall, setRead, offerRead};
+ghost use Rattle.rules.specs.Calls.{startCall, wordCall, subframeCall, verdictCall, setRead, offerRead};
 ghost use Rattle.rules.specs.State.{state};
 
 // Begins: installs the settings and the first public key, and clears all else (01, start).
@@ -37,7 +39,7 @@ pub extern "C" fn osnma_regions_start(
 ) -> u32
     ensures { λ r. ⌜ told r (state (now (config .exit)) (now (clocks .exit)) (now (words .exit)) (now (stamps .exit)) (now (blocks .exit)) (now (headers .exit)) (now (present .exit)) (now (since .exit)) (now (pubkeys .exit)) (now (offer .exit)) (now (chain .exit)) (now (numbers .exit)) (now (heldkey .exit)) (now (waiting .exit)) (now (sets .exit)) (now (arrivals .exit))) ≡ startCall (state (now (config .entry)) (now (clocks .entry)) (now (words .entry)) (now (stamps .entry)) (now (blocks .entry)) (now (headers .entry)) (now (present .entry)) (now (since .entry)) (now (pubkeys .entry)) (now (offer .entry)) (now (chain .entry)) (now (numbers .entry)) (now (heldkey .entry)) (now (waiting .entry)) (now (sets .entry)) (now (arrivals .entry))) (record { ns = ns; id = id; type = kind; maclt = maclt; marks = now (marks .entry); root = now (root .entry); key = now (pubkey .entry) }) ⌝ }
 {
-    call_start::start(
+    let shaped = regions::shaped(
         config,
         clocks,
         words,
@@ -54,14 +56,40 @@ pub extern "C" fn osnma_regions_start(
         waiting,
         sets,
         arrivals,
+    );
+    let fits = shaped & ((marks.len() == 28) & ((root.len() == 32) & (pubkey.len() == 67)));
+    let code = call_start::start_refusal(fits, ns, id, kind, marks);
+    if code != 0 {
+        return code;
+    }
+    call_start::install_settings(
+        config,
+        clocks,
+        words,
+        stamps,
+        blocks,
+        headers,
+        present,
+        since,
         ns,
-        id,
-        kind,
         maclt,
         marks,
         root,
+    );
+    call_start::install_key(
+        pubkeys,
+        offer,
+        chain,
+        numbers,
+        heldkey,
+        waiting,
+        sets,
+        arrivals,
+        id,
+        kind,
         pubkey,
-    )
+    );
+    0
 }
 
 // Lends an I/NAV word with the GST_SF of its sub-frame (01, word).
@@ -89,7 +117,7 @@ pub extern "C" fn osnma_regions_word(
 ) -> u32
     ensures { λ r. ⌜ told r (state (now (config .entry)) (now (clocks .exit)) (now (words .exit)) (now (stamps .exit)) (now (blocks .entry)) (now (headers .entry)) (now (present .entry)) (now (since .entry)) (now (pubkeys .entry)) (now (offer .entry)) (now (chain .entry)) (now (numbers .entry)) (now (heldkey .entry)) (now (waiting .entry)) (now (sets .entry)) (now (arrivals .entry))) ≡ wordCall (state (now (config .entry)) (now (clocks .entry)) (now (words .entry)) (now (stamps .entry)) (now (blocks .entry)) (now (headers .entry)) (now (present .entry)) (now (since .entry)) (now (pubkeys .entry)) (now (offer .entry)) (now (chain .entry)) (now (numbers .entry)) (now (heldkey .entry)) (now (waiting .entry)) (now (sets .entry)) (now (arrivals .entry))) (record { prn = prn; time = time; bytes = now (bytes .entry) }) ⌝ }
 {
-    call_word::word(
+    let shaped = regions::shaped(
         config,
         clocks,
         words,
@@ -106,10 +134,91 @@ pub extern "C" fn osnma_regions_word(
         waiting,
         sets,
         arrivals,
+    );
+    if !(shaped & (bytes.len() == 16)) {
+        return 1;
+    }
+    call_word::take_word(config, clocks, words, stamps, prn, time, bytes)
+}
+
+// Lends the authentication fields of a sub-frame, 15 of five bytes, with its GST_SF (01, sub-frame). The two halves' numbers go to `hkroot`
+// and `mack`; it returns how many tag records of 12 bytes now stand at the front of `area`.
+#[no_mangle]
+pub extern "C" fn osnma_regions_subframe(
+    config: &mut [u8],
+    clocks: &mut [u32],
+    words: &[u8],
+    stamps: &[u32],
+    blocks: &mut [u8],
+    headers: &mut [u8],
+    present: &mut [u16],
+    since: &mut [u32],
+    pubkeys: &mut [u8],
+    offer: &mut [u8],
+    chain: &[u8],
+    numbers: &mut [u64],
+    heldkey: &mut [u8],
+    waiting: &mut [u8],
+    sets: &mut [u8],
+    arrivals: &mut [u32],
+    area: &mut [u8],
+    prn: u8,
+    time: u32,
+    bytes: &[u8],
+    hkroot: &mut u32,
+    mack: &mut u32,
+) -> u32
+    ensures { λ r. ⌜ subframeTold (now (hkroot .exit)) (now (mack .exit)) r (state (now (config .exit)) (now (clocks .exit)) (now (words .entry)) (now (stamps .entry)) (now (blocks .exit)) (now (headers .exit)) (now (present .exit)) (now (since .exit)) (now (pubkeys .exit)) (now (offer .exit)) (now (chain .entry)) (now (numbers .exit)) (now (heldkey .exit)) (now (waiting .exit)) (now (sets .exit)) (now (arrivals .exit))) (now (area .exit)) ≡ subframeCall (state (now (config .entry)) (now (clocks .entry)) (now (words .entry)) (now (stamps .entry)) (now (blocks .entry)) (now (headers .entry)) (now (present .entry)) (now (since .entry)) (now (pubkeys .entry)) (now (offer .entry)) (now (chain .entry)) (now (numbers .entry)) (now (heldkey .entry)) (now (waiting .entry)) (now (sets .entry)) (now (arrivals .entry))) (now (area .entry)) (subframe prn time (now (bytes .entry))) ⌝ }
+{
+    let lent = bools::both(area.len() == 3240, bytes.len() == 75);
+    let shaped = regions::shaped(
+        config,
+        clocks,
+        words,
+        stamps,
+        blocks,
+        headers,
+        present,
+        since,
+        pubkeys,
+        offer,
+        chain,
+        numbers,
+        heldkey,
+        waiting,
+        sets,
+        arrivals,
+    );
+    if !bools::both(shaped, lent) {
+        *hkroot = 1;
+        *mack = 1;
+        return 0;
+    }
+    let r = call_subframe::take_subframe(
+        config,
+        clocks,
+        words,
+        stamps,
+        blocks,
+        headers,
+        present,
+        since,
+        pubkeys,
+        offer,
+        chain,
+        numbers,
+        heldkey,
+        waiting,
+        sets,
+        arrivals,
+        area,
         prn,
         time,
         bytes,
-    )
+    );
+    *hkroot = r.hkroot;
+    *mack = r.mack;
+    r.count
 }
 
 // Tells what the signature chip says of the waiting message: good 1, bad 0 (01, verdict).
@@ -138,7 +247,7 @@ pub extern "C" fn osnma_regions_verdict(
 ) -> u32
     ensures { λ r. ⌜ told r (state (now (config .entry)) (now (clocks .entry)) (now (words .entry)) (now (stamps .entry)) (now (blocks .entry)) (now (headers .entry)) (now (present .entry)) (now (since .entry)) (now (pubkeys .exit)) (now (offer .exit)) (now (chain .exit)) (now (numbers .exit)) (now (heldkey .exit)) (now (waiting .exit)) (now (sets .entry)) (now (arrivals .entry))) ≡ verdictCall (state (now (config .entry)) (now (clocks .entry)) (now (words .entry)) (now (stamps .entry)) (now (blocks .entry)) (now (headers .entry)) (now (present .entry)) (now (since .entry)) (now (pubkeys .entry)) (now (offer .entry)) (now (chain .entry)) (now (numbers .entry)) (now (heldkey .entry)) (now (waiting .entry)) (now (sets .entry)) (now (arrivals .entry))) (record { good = good; id = id; message = now (message .entry); signature = now (signature .entry) }) ⌝ }
 {
-    call_verdict::verdict(
+    let shaped = regions::shaped(
         config,
         clocks,
         words,
@@ -155,6 +264,18 @@ pub extern "C" fn osnma_regions_verdict(
         waiting,
         sets,
         arrivals,
+    );
+    if !(shaped & ((message.len() == 45) & (signature.len() == 132))) {
+        return 1;
+    }
+    call_verdict::judge_verdict(
+        config,
+        pubkeys,
+        offer,
+        chain,
+        numbers,
+        heldkey,
+        waiting,
         good,
         id,
         message,
@@ -188,7 +309,9 @@ pub extern "C" fn osnma_regions_read_set(
 ) -> u32
     ensures { λ r. ⌜ setTold r (now (out .exit)) (now (issue .exit)) (now (time .exit)) ≡ setRead (state (now (config .entry)) (now (clocks .entry)) (now (words .entry)) (now (stamps .entry)) (now (blocks .entry)) (now (headers .entry)) (now (present .entry)) (now (since .entry)) (now (pubkeys .entry)) (now (offer .entry)) (now (chain .entry)) (now (numbers .entry)) (now (heldkey .entry)) (now (waiting .entry)) (now (sets .entry)) (now (arrivals .entry))) prn (now (out .entry)) ⌝ }
 {
-    call_reads::read_set(
+    *issue = 0;
+    *time = 0;
+    let shaped = regions::shaped(
         config,
         clocks,
         words,
@@ -205,11 +328,11 @@ pub extern "C" fn osnma_regions_read_set(
         waiting,
         sets,
         arrivals,
-        prn,
-        out,
-        issue,
-        time,
-    )
+    );
+    if !(shaped & (out.len() == 69)) {
+        return 1;
+    }
+    call_reads::read_set(sets, arrivals, prn, out, issue, time)
 }
 
 // Reads the message that waits for a verdict, with its key (01, read).
@@ -239,7 +362,9 @@ pub extern "C" fn osnma_regions_read_message(
 ) -> u32
     ensures { λ r. ⌜ offerTold r (now (message .exit)) (now (signature .exit)) (now (pubkey .exit)) (now (id .exit)) (now (kind .exit)) ≡ offerRead (state (now (config .entry)) (now (clocks .entry)) (now (words .entry)) (now (stamps .entry)) (now (blocks .entry)) (now (headers .entry)) (now (present .entry)) (now (since .entry)) (now (pubkeys .entry)) (now (offer .entry)) (now (chain .entry)) (now (numbers .entry)) (now (heldkey .entry)) (now (waiting .entry)) (now (sets .entry)) (now (arrivals .entry))) (now (message .entry)) (now (signature .entry)) (now (pubkey .entry)) ⌝ }
 {
-    call_reads::read_message(
+    *id = 0;
+    *kind = 0;
+    let shaped = regions::shaped(
         config,
         clocks,
         words,
@@ -256,10 +381,9 @@ pub extern "C" fn osnma_regions_read_message(
         waiting,
         sets,
         arrivals,
-        message,
-        signature,
-        pubkey,
-        id,
-        kind,
-    )
+    );
+    if !(shaped & ((message.len() == 45) & ((signature.len() == 132) & (pubkey.len() == 67)))) {
+        return 1;
+    }
+    call_reads::read_message(pubkeys, offer, message, signature, pubkey, id, kind)
 }

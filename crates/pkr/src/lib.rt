@@ -1,8 +1,7 @@
 // DSM-PKR: the new public key, its place in the tree, and what a complete message changes (01, "HKROOT"; 000, 3.4, 5.2 and 5.3). Each
 // function gives what the definition of the same name in rules/specs/Pkr.antt gives.
-// Public calls:
+// Public call:
 //   pkr_judge        a complete DSM-PKR: its number, whether it stops the core, and the public keys then held
-//   tree_proved      whether a message's nodes give the installed root
 ghost use mathlib.Core.Path.{_≡_};
 ghost use mathlib.Core.Bool.{false, cond};
 ghost use Prim.Native.Nat.{_+_, _≤_, _<_};
@@ -65,7 +64,7 @@ fn renew(pubkeys: &mut [u8], d: &[u8]) -> u32
 }
 
 // Whether the message has another size than its type asks, or an emergency message another key ID than 0.
-pub fn size_bad(d: &[u8]) -> bool
+fn size_bad(d: &[u8]) -> bool
     requires { ⌜ 91 ≤ length (now d) ⌝ }
     ensures { λ r. ⌜ r ≡ S.pkrSizeBad (now (d .entry)) ⌝ }
 {
@@ -80,7 +79,7 @@ pub fn size_bad(d: &[u8]) -> bool
 // ---- the tree
 
 // Whether the leaf, joined with the four nodes, gives the installed root.
-pub fn tree_proved(root: &[u8], d: &[u8]) -> bool
+fn tree_proved(root: &[u8], d: &[u8]) -> bool
     requires { ⌜ (S.pkrSizeBad (now d) ≡ false) × (length (now d) ≤ 208) ⌝ }
     ensures { λ r. ⌜ r ≡ S.treeProved (now (root .entry)) (now (d .entry)) ⌝ }
 {
@@ -142,14 +141,14 @@ fn new_head(d: &[u8]) -> u8
 }
 
 // The new key's type.
-pub fn new_type(d: &[u8]) -> u8
+fn new_type(d: &[u8]) -> u8
     ensures { λ r. ⌜ r ≡ S.newTypeOf (now (d .entry)) ⌝ }
 {
     (new_head(d) >> 4) % 16
 }
 
 // The new key's ID.
-pub fn new_id(d: &[u8]) -> u8
+fn new_id(d: &[u8]) -> u8
     ensures { λ r. ⌜ r ≡ S.newIdOf (now (d .entry)) ⌝ }
 {
     new_head(d) % 16

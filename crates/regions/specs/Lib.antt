@@ -1,3 +1,4 @@
 -- what the calls' contracts share
 pub mod Told
 pub mod Lengths
+pub mod Tesla

@@ -4,11 +4,12 @@
 //   ns_of, maclt_of, stopped, stop               the settings
 //   prn_valid                                    a PRN that is heard
 //   last_subframe, last_subframe_of, last_word_of    the clocks, as stamps: a time plus 1, 0 for never
+//   note_subframe, note_word                     a time is noted
 //   later, reached                               a stamp against a time
 //   held_slot, waiting_count                     the held key's slot, and how many tags wait
 ghost use mathlib.Core.Path.{_≡_};
 ghost use mathlib.Core.Bool.{true, _&&_};
-ghost use Prim.Native.Nat.{_≤_, _<_};
+ghost use Prim.Native.Nat.{_+_, _≤_, _<_};
 ghost use lib.Dec.{leb, ltb};
 ghost use lib.ListN.{length, set};
 ghost use Rattle.rules.specs.State.{state, configLength, clocksLength, numbersLength};
@@ -174,6 +175,24 @@ pub fn last_word_of(clocks: &[u32], prn: u8) -> u32
     ensures { λ r. ⌜ r ≡ S.lastWordOf (now (clocks .entry)) prn ⌝ }
 {
     clocks[36 + prn as usize]
+}
+
+// The time of a sub-frame is noted: the last over all satellites, and this one's.
+pub fn note_subframe(clocks: &mut [u32], prn: u8, time: u32)
+    requires { ⌜ (length (now clocks) ≡ clocksLength) × ((prn ≤ 36) × (time < 4294967295)) ⌝ }
+    ensures { λ _. ⌜ now (clocks .exit) ≡ set (set (now (clocks .entry)) 0 (stampOf time)) prn (stampOf time) ⌝ }
+{
+    clocks[0] = time + 1;
+    clocks[prn as usize] = time + 1;
+}
+
+// The time of a satellite's word is noted.
+pub fn note_word(clocks: &mut [u32], prn: u8, time: u32)
+    requires { ⌜ (length (now clocks) ≡ clocksLength) × ((prn ≤ 36) × (time < 4294967295)) ⌝ }
+    ensures { λ _. ⌜ now (clocks .exit) ≡ set (now (clocks .entry)) (36 + prn) (stampOf time) ⌝ }
+{
+    let at = 36 + prn as usize;
+    clocks[at] = time + 1;
 }
 
 // A stamp is that of a later time.

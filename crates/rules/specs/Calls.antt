@@ -319,7 +319,7 @@ setRead s prn out =
     (record { code = code; out = out; issue = 0; time = 0 })
 
 -- "A read hands out what waits, with its key's type and bytes (checks 1, 14)." What waits always has its key held; for regions where it has
--- not, the type is 0 and the bytes are those of the place (A9).
+-- not, the type is the first byte of the place less 1 (0 where it is 0), and the bytes are those of the place (A9).
 pub record OfferRead : Type 0 where
   pub code : ℕ
   pub message : List ℕ

@@ -1,32 +1,33 @@
--- Demand 3, word for word as far as types allow: what is claimed of every list of calls after an accepted start.
--- Every navigation set that was marked authentic, or that a read gives, has a tag of the list for which four things hold:
---   Arrived: those very 549 bits were that satellite's set when the tag arrived;
---   Matched: the tag matches them under the key of its slot, and that key hashes in exactly as many steps as its slot number to the root of
---   the chain in force when the tag was judged;
---   Vouched: that root was vouched for by a good verdict on its exact message, under a public key given at that start or proved by its tree nodes.
--- And no refused call, nor a refused half of one, changes a public key, the chain, the held key or an authentic set.
-use Prim.Native.Nat.{ℕ, zero, suc, _+_, _-_, _*_, _/_, _≤_, _<_}
+-- Demand 3: what is claimed of every list of calls after an accepted start. Its sentences, and those of 01 that explain them, stand word for word
+-- beside the fields that say them; FourThings has the four things, Refused the sentence on refused calls, Claim all of it.
+--
+-- How to read it. A record holds where all its fields do. `a ≡ b`: a equals b; `a ≢ b`: it does not. `P → Q`: P implies Q; `(n : ℕ) → P`: P of every
+-- number n; `P × Q`: both. `Once P l`: P was so of an entry of the log l and of the entries older than it. `part s a n`: the n bytes of s from place a
+-- on. `some v`: there is one, and it is v. `origin` is always the accepted start of the list, `began` the state that it left.
+use Prim.Native.Nat.{ℕ, suc, _+_, _-_, _*_, _≤_, _<_}
 use mathlib.Core.Path.{_≡_}
 use mathlib.Core.Logic.{_≢_}
 use mathlib.Core.Bool.{Bool, true, false, cond}
 use mathlib.Core.List.{List, [], _∷_}
-use mathlib.Core.Option.{Option, none, some}
+use mathlib.Core.Option.{some}
 use lib.Dec.{eqb}
-use lib.ListN.{length, getD, take}
+use lib.ListN.{length, getD, take, replicate}
 use Rattle.laws.specs.Lists.{part}
-use Rattle.rules.specs.Bits.{filled, within}
-use Rattle.rules.specs.Calls.{Start, Word, Subframe, startCall, fresh}
+use Rattle.laws.specs.Refusal.{firstOf, unless}
+use Rattle.rules.specs.Bits.{filled, anyOf}
+use Rattle.rules.specs.Calls.{Start, Word, Subframe, OfferRead, startCall, offerRead, subframeChecks, noted, hkrootHalf}
 use Rattle.rules.specs.Chain.{walk, sentSlot, keySlot}
-use Rattle.rules.specs.Gather.{hkrootOf, mackOf, headerOf, statusOf, dsmIdOf, blockIdOf, blockOf}
-use Rattle.rules.specs.PublicKeys.{keyLength, keyHeld, keyType, keyBytes}
+use Rattle.rules.specs.Gather.{hkrootOf, mackOf, headerOf, statusOf, dsmIdOf, blockIdOf, blockOf, totalOf}
 use Rattle.rules.specs.Kroot.{chainWith, krootOf}
-use Rattle.rules.specs.Log.{Call, start, word, subframe, verdict, readSet, readOffer, Reply, Entry, Log, Once, Always, History, Ran, ran, ranFrom, stateAt, step, lastWord, chainIn}
+use Rattle.rules.specs.Log.{Call, start, word, subframe, verdict, readSet, readOffer, Handed, Entry, Log, Once, Always, History, ranFrom, stateAt, step, hkrootIn, sectionIn, verdictIn, lastWord, chainIn}
 use Rattle.rules.specs.Mack.{blockKey}
-use Rattle.rules.specs.Pkr.{newIdOf, newTypeOf, newKeyOf, emergency, pkrSizeBad, treeProved}
-use Rattle.rules.specs.State.{State}
-use Rattle.rules.specs.Tags.{Section, ownTag, macBits, firstMessage, tagMessage, tagRecord}
-use Rattle.rules.specs.Verdict.{Verdict, messageHeader, messageContents}
 use Rattle.rules.specs.Navdata.{setUsable, setBytes, setIssue}
+use Rattle.rules.specs.Pkr.{newIdOf, newTypeOf, newKeyOf, emergency, pkrSizeBad, treeProved}
+use Rattle.rules.specs.PublicKeys.{keyLength, keyHeld}
+use Rattle.rules.specs.State.{State, prnValid, heldSlot}
+use Rattle.rules.specs.Tags.{Section, ownTag, macBits, firstMessage, tagMessage, tagRecord}
+use Rattle.rules.specs.Times.{secondsOf, keySeconds}
+use Rattle.rules.specs.Verdict.{Verdict, messageContents, chainUnchanged}
 use Rattle.rules.specs.declared.Chain.{Chain}
 use Rattle.rules.specs.declared.Tag.{Tag}
 
@@ -38,27 +39,31 @@ pub record PublicKey : Type 0 where
   -- 67 bytes, zeros after a short key
   pub bytes : List ℕ
 
+-- "a public key given at that start"
 abbrev pub givenKey : Start → PublicKey
 givenKey x = record { id = x .id; type = x .type; bytes = filled 67 (take (keyLength (x .type)) (x .key)) }
 
--- block k of the DSM came at this entry, in an HKROOT half answered 0
-pub record BlockCame (d : List ℕ) (id k : ℕ) (x : Entry) (older : Log) : Type 0 where
-  pub area : List ℕ
+-- block k of the DSM with this ID came at this entry
+pub record BlockCame (block : List ℕ) (id k : ℕ) (x : Entry) (older : Log) : Type 0 where
   pub sub : Subframe
-  pub is : x .call ≡ subframe area sub
-  pub ok : x .reply .code ≡ 0
+  -- "in HKROOT halves answered 0"
+  pub half-is : hkrootIn x ≡ some sub
   pub id-is : dsmIdOf (hkrootOf (sub .bytes) 15) ≡ id
   pub place-is : blockIdOf (hkrootOf (sub .bytes) 15) ≡ k
-  pub block-is : blockOf (hkrootOf (sub .bytes) 15) ≡ part d (13 * k) 13
+  pub block-is : blockOf (hkrootOf (sub .bytes) 15) ≡ block
 
--- "Proved key: from a DSM-PKR whose blocks all came in HKROOT halves answered 0."
+-- "Proved key: from a DSM-PKR whose blocks all came in HKROOT halves answered 0." `root` is the tree root that the start gave
 pub record KeyProved (root : List ℕ) (k : PublicKey) (l : Log) : Type 0 where
   pub dsm : List ℕ
   pub dsm-id : ℕ
-  pub renewal : 12 ≤ dsm-id
-  pub blocks : (j : ℕ) → 13 * j < length dsm → Once (BlockCame dsm dsm-id j) l
+  -- "12 to 15 DSM-PKR"
+  pub is-pkr : 12 ≤ dsm-id
+  -- as many blocks as its block 0 names, and all came
+  pub whole : length dsm ≡ 13 * totalOf (part dsm 0 13)
+  pub blocks : (j : ℕ) → j < totalOf (part dsm 0 13) → Once (BlockCame (part dsm (13 * j) 13) dsm-id j) l
   pub size : pkrSizeBad dsm ≡ false
   pub no-emergency : emergency dsm ≡ false
+  -- "proved by its tree nodes"
   pub tree : treeProved root dsm ≡ true
   pub id-is : k .id ≡ newIdOf dsm
   pub type-is : k .type ≡ newTypeOf dsm
@@ -69,132 +74,191 @@ pub data KeyKnown (origin : Start) (k : PublicKey) (l : Log) : Type 0 where
   given : k ≡ givenKey origin → KeyKnown origin k l
   proved : KeyProved (origin .root) k l → KeyKnown origin k l
 
--- ---- the four things
+-- ---- verdicts
 
--- the root of this verdict's message was vouched for: the verdict was good, named the exact message, and its key was known
-pub record Vouched (origin : Start) (v : Verdict) (x : Entry) (older : Log) : Type 0 where
-  pub is : x .call ≡ verdict v
-  pub ok : x .reply .code ≡ 0
+-- what a read of what waits hands out in this state, and the public key with it
+abbrev pub wouldHand : State → OfferRead
+wouldHand s = offerRead s (replicate 45 0) (replicate 132 0) (replicate 67 0)
+
+abbrev pub handedKey : OfferRead → PublicKey
+handedKey r = record { id = r .id; type = r .type; bytes = r .key }
+
+-- "vouched for by a good verdict on its exact message, under a public key given at that start or proved by its tree nodes": here
+pub record Vouched (origin : Start) (began : State) (v : Verdict) (x : Entry) (older : Log) : Type 0 where
+  -- "a good verdict", answered 0
+  pub verdict-is : verdictIn x ≡ some v
   pub good : v .good ≡ 1
-  -- the public key with the verdict's ID that was held then, and is handed out by a read of what waits
-  pub key : PublicKey
-  pub key-id : key .id ≡ v .id
-  pub held : keyHeld ((stateAt origin older) .pubkeys) (v .id) ≡ true
-  pub held-type : keyType ((stateAt origin older) .pubkeys) (v .id) ≡ key .type
-  pub held-bytes : keyBytes ((stateAt origin older) .pubkeys) (v .id) ≡ key .bytes
-  pub known : KeyKnown origin key older
+  -- "on its exact message": a message waited, and a read would have handed out the message, signature and key ID that the verdict names
+  pub waited : (wouldHand (stateAt began older)) .code ≡ 0
+  pub message-is : (wouldHand (stateAt began older)) .message ≡ v .message
+  pub signature-is : (wouldHand (stateAt began older)) .signature ≡ v .signature
+  pub id-is : (wouldHand (stateAt began older)) .id ≡ v .id
+  -- "under a public key ..": the one held, which that read would have handed out
+  pub held : keyHeld ((stateAt began older) .pubkeys) (v .id) ≡ true
+  pub known : KeyKnown origin (handedKey (wouldHand (stateAt began older))) older
 
--- the chain that a verdict's message puts in force
+-- the contents of the message of a verdict, the chain that they put in force, and its root
+abbrev pub contentsBy : Verdict → List ℕ
+contentsBy v = messageContents (v .message)
+
 abbrev pub chainBy : Start → Verdict → Chain
-chainBy origin v = chainWith (origin .ns) (messageContents (v .message))
+chainBy origin v = chainWith (origin .ns) (contentsBy v)
+
+abbrev pub rootBy : Verdict → List ℕ
+rootBy v = krootOf (contentsBy v)
+
+-- ---- tags and sets
 
 -- what a sub-frame brings to the MACK half
 abbrev pub sectionOf : Subframe → Section
 sectionOf x = record { prn = x .prn; time = x .time; status = statusOf (headerOf (hkrootOf (x .bytes) 15)); mack = mackOf (x .bytes) 15 }
 
--- the tag came at this entry, in a section answered 0, and the bits were its satellite's set then: "the last word answered 0 of each type 1 to 5,
--- usable for that section"
-pub record Arrived (origin : Start) (t : Tag) (first : Bool) (navdata : List ℕ) (x : Entry) (older : Log) : Type 0 where
-  pub area : List ℕ
-  pub sub : Subframe
-  pub is : x .call ≡ subframe area sub
-  pub ok : x .reply .mack ≡ 0
-  pub force : Verdict
-  pub in-force : chainIn older ≡ some force
-  pub field : ℕ
-  pub in-section : field < (chainBy origin force) .nmack * (chainBy origin force) .fields
-  pub tag-is : t ≡ ownTag (chainBy origin force) (sectionOf sub) field
-  pub first-is : first ≡ eqb field 0
-  pub usable : setUsable (sub .time) (lastWord older (t .prn) 1) (lastWord older (t .prn) 2) (lastWord older (t .prn) 3) (lastWord older (t .prn) 4) (lastWord older (t .prn) 5) ≡ true
-  pub set-is :
-      navdata
-      ≡ setBytes ((lastWord older (t .prn) 1) .bytes) ((lastWord older (t .prn) 2) .bytes) ((lastWord older (t .prn) 3) .bytes) ((lastWord older (t .prn) 4) .bytes) ((lastWord older (t .prn) 5) .bytes)
+-- "Its satellite's set then: the last word answered 0 of each type 1 to 5, usable for that section."
+abbrev pub usableIn : Log → ℕ → ℕ → Bool
+usableIn l prn time = setUsable time (lastWord l prn 1) (lastWord l prn 2) (lastWord l prn 3) (lastWord l prn 4) (lastWord l prn 5)
 
--- a section answered 0 brought this key of this slot, slots counted by this chain
-pub record Disclosed (c : Chain) (slot : ℕ) (key : List ℕ) (x : Entry) (older : Log) : Type 0 where
-  pub area : List ℕ
+abbrev pub setIn : Log → ℕ → List ℕ
+setIn l prn = setBytes ((lastWord l prn 1) .bytes) ((lastWord l prn 2) .bytes) ((lastWord l prn 3) .bytes) ((lastWord l prn 4) .bytes) ((lastWord l prn 5) .bytes)
+
+-- the tag arrived at this entry, read by the chain `by` of the message that was in force, and these bits were its satellite's set. `first` says that
+-- it is tag0, the first field of its section
+pub record Arrived (origin : Start) (by : Verdict) (t : Tag) (first : Bool) (navdata : List ℕ) (x : Entry) (older : Log) : Type 0 where
+  -- "A tag arrives in a section answered 0."
   pub sub : Subframe
-  pub is : x .call ≡ subframe area sub
-  pub ok : x .reply .mack ≡ 0
+  pub section-is : sectionIn x ≡ some sub
+  pub in-force : chainIn older ≡ some by
+  pub field : ℕ
+  pub in-section : field < (chainBy origin by) .nmack * (chainBy origin by) .fields
+  pub tag-is : t ≡ ownTag (chainBy origin by) (sectionOf sub) field
+  pub first-is : first ≡ eqb field 0
+  -- ADKD 0, 11 or 12, and PRN 1 to 36
+  pub kind : anyOf (eqb (t .adkd) 0 ∷ eqb (t .adkd) 11 ∷ eqb (t .adkd) 12 ∷ []) ≡ true
+  pub heard : prnValid (t .prn) ≡ true
+  -- "Its satellite's set then"
+  pub usable : usableIn older (t .prn) (sub .time) ≡ true
+  pub set-is : navdata ≡ setIn older (t .prn)
+
+-- ---- keys
+
+-- a section answered 0 brought this key of this slot, slots counted by this chain; before its sub-frame 0 there is no slot
+pub record Disclosed (c : Chain) (slot : ℕ) (key : List ℕ) (x : Entry) (older : Log) : Type 0 where
+  pub sub : Subframe
+  pub section-is : sectionIn x ≡ some sub
+  -- block 1 to NMACK: `block` counts from 0
   pub block : ℕ
   pub in-section : block < c .nmack
+  pub not-before : c .root ≤ secondsOf (sub .time)
   pub slot-is : slot ≡ sentSlot c (sub .time) (suc block) (sub .prn)
   pub key-is : key ≡ blockKey c (mackOf (sub .bytes) 15) (suc block)
 
--- at this entry the tag was judged: it matches under the key of its slot, of the chain in force then
-pub record Matched (origin : Start) (t : Tag) (first : Bool) (navdata : List ℕ) (x : Entry) (older : Log) : Type 0 where
-  pub area : List ℕ
-  pub sub : Subframe
-  pub is : x .call ≡ subframe area sub
-  pub ok : x .reply .mack ≡ 0
-  pub force : Verdict
-  pub in-force : chainIn older ≡ some force
-  pub vouched : Once (Vouched origin force) older
-  -- the key of the tag's slot: one from a section answered 0, or that one hashed down
-  pub key : List ℕ
+-- "The key of a slot ..: one from a section answered 0, or that one hashed down."
+pub record KeyOfSlot (c : Chain) (slot : ℕ) (key : List ℕ) (l : Log) : Type 0 where
   pub from-slot : ℕ
   pub from-key : List ℕ
-  pub disclosed : Once (Disclosed (chainBy origin force) from-slot from-key) (x ∷ older)
-  pub reached : keySlot (chainBy origin force) (t .time) (t .block) (t .adkd) ≤ from-slot
-  pub key-is :
-      key
-      ≡ walk (chainBy origin force) (from-slot - keySlot (chainBy origin force) (t .time) (t .block) (t .adkd)) (keySlot (chainBy origin force) (t .time) (t .block) (t .adkd)) from-key
-  -- "in exactly as many steps as its slot number, to the root"
-  pub to-root :
-      walk (chainBy origin force) (keySlot (chainBy origin force) (t .time) (t .block) (t .adkd)) 0 key ≡ krootOf (messageContents (force .message))
-  pub match : macBits ((chainBy origin force) .ms) key (cond first (firstMessage t navdata) (tagMessage t navdata)) ≡ t .bits
+  pub disclosed : Once (Disclosed c from-slot from-key) l
+  pub reached : slot ≤ from-slot
+  pub key-is : key ≡ walk c (from-slot - slot) slot from-key
 
--- a satellite's set is backed by a tag of the log that came at this time
-pub record Backed (origin : Start) (prn time : ℕ) (navdata : List ℕ) (l : Log) : Type 0 where
-  pub tag : Tag
+-- the slot of a tag's key
+abbrev pub slotOfTag : Chain → Tag → ℕ
+slotOfTag c t = keySlot c (t .time) (t .block) (t .adkd)
+
+-- ---- the four things
+
+-- a tag and a set for which they hold, where the tag was judged: at this entry
+pub record FourThings (origin : Start) (began : State) (t : Tag) (navdata : List ℕ) (x : Entry) (older : Log) : Type 0 where
+  -- "Those very 549 bits were that satellite's set when the tag arrived."
+  pub by : Verdict
   pub first : Bool
+  pub arrived : Once (Arrived origin by t first navdata) (x ∷ older)
+  -- "the chain in force when the tag was judged"; "the chain is unchanged (CID, parameters, α)" since the tag arrived
+  pub force : Verdict
+  pub in-force : chainIn older ≡ some force
+  pub unchanged : chainUnchanged (contentsBy by) (contentsBy force) ≡ true
+  -- "The tag matches them under the key of its slot."; its slot is none before the root's sub-frame 0
+  pub key : List ℕ
+  pub not-before : (chainBy origin force) .root ≤ keySeconds (t .time) (t .adkd)
+  pub of-slot : KeyOfSlot (chainBy origin force) (slotOfTag (chainBy origin force) t) key (x ∷ older)
+  pub matches : macBits ((chainBy origin force) .ms) key (cond first (firstMessage t navdata) (tagMessage t navdata)) ≡ t .bits
+  -- "That key hashes, in exactly as many steps as its slot number, to the root of the chain in force when the tag was judged."
+  pub to-root : walk (chainBy origin force) (slotOfTag (chainBy origin force) t) 0 key ≡ rootBy force
+  -- "That root was vouched for by a good verdict on its exact message, under a public key given at that start or proved by its tree nodes."
+  pub vouched : Once (Vouched origin began force) older
+
+-- "Marked: outcome 1, by its record's tag": record `place` of this entry, from 0, is the tag's with outcome 1, and the four things hold
+pub record Marked (origin : Start) (began : State) (place : ℕ) (t : Tag) (navdata : List ℕ) (x : Entry) (older : Log) : Type 0 where
+  pub record-is : part (x .reply .records) (12 * place) 12 ≡ tagRecord 1 t (setIssue navdata)
+  pub four : FourThings origin began t navdata x older
+
+-- some tag and set stand behind record `place`
+pub record MarkBacked (origin : Start) (began : State) (place : ℕ) (x : Entry) (older : Log) : Type 0 where
+  pub tag : Tag
+  pub navdata : List ℕ
+  pub marked : Marked origin began place tag navdata x older
+
+-- "a set read, by a tag for that PRN that came at the GST_SF read": a record of the log marked it
+pub record SetBacked (origin : Start) (began : State) (prn time : ℕ) (navdata : List ℕ) (l : Log) : Type 0 where
+  pub tag : Tag
+  pub place : ℕ
   pub prn-is : tag .prn ≡ prn
   pub time-is : tag .time ≡ time
-  pub arrived : Once (Arrived origin tag first navdata) l
-  pub matched : Once (Matched origin tag first navdata) l
+  pub marked : Once (Marked origin began place tag navdata) l
 
--- "Marked: outcome 1, by its record's tag": a 12-byte record of outcome 1
-pub record MarkBacked (origin : Start) (r : List ℕ) (l : Log) : Type 0 where
-  pub navdata : List ℕ
-  pub tag : Tag
-  pub first : Bool
-  pub record-is : r ≡ tagRecord 1 tag (setIssue navdata)
-  pub arrived : Once (Arrived origin tag first navdata) l
-  pub matched : Once (Matched origin tag first navdata) l
+-- what a read handed out is what waits, with a key that was given or proved
+pub record HandedFairly (origin : Start) (began : State) (h : Handed) (l : Log) : Type 0 where
+  pub waited : (wouldHand (stateAt began l)) .code ≡ 0
+  pub message-is : h .message ≡ (wouldHand (stateAt began l)) .message
+  pub signature-is : h .signature ≡ (wouldHand (stateAt began l)) .signature
+  pub key-is : record { id = h .id; type = h .type; bytes = h .key } ≡ handedKey (wouldHand (stateAt began l))
+  pub known : KeyKnown origin (handedKey (wouldHand (stateAt began l))) l
 
--- what is claimed of an entry and what is older
-pub record Fair (origin : Start) (x : Entry) (older : Log) : Type 0 where
-  -- every record of outcome 1 that it wrote
-  pub marks : (k : ℕ) → 12 * k < length (x .reply .records) → getD (x .reply .records) (12 * k) 0 ≡ 1 → MarkBacked origin (part (x .reply .records) (12 * k) 12) (x ∷ older)
-  -- "a set read, by a tag for that PRN that came at the GST_SF read"
-  pub reads : (prn : ℕ) (out : List ℕ) → x .call ≡ readSet prn out → x .reply .code ≡ 0 → Backed origin prn (x .reply .time) (x .reply .out) older
+-- what is claimed of an entry and of what is older
+pub record Fair (origin : Start) (began : State) (x : Entry) (older : Log) : Type 0 where
+  -- "every navigation set that was marked authentic in the list": record k, if its first byte is outcome 1
+  pub marks : (k : ℕ) → 12 * k < length (x .reply .records) → getD (x .reply .records) (12 * k) 0 ≡ 1 → MarkBacked origin began k x older
+  -- "or that a read after it gives"
+  pub reads : (prn : ℕ) (out : List ℕ) → x .call ≡ readSet prn out → x .reply .code ≡ 0 → SetBacked origin began prn (x .reply .time) (x .reply .out) older
+  -- and all that the signature chip is handed
+  pub hands : (message signature key : List ℕ) → x .call ≡ readOffer message signature key → x .reply .code ≡ 0 → HandedFairly origin began (x .reply .handed) older
 
 -- ---- refused calls and halves
 
--- "Public keys, the chain in force with its root, the held key and authentic sets are then as before that call or half": of a sub-frame the HKROOT
--- half alone touches public keys, and the MACK half alone the rest
-pub record KeysKept (s s' : State) : Type 0 where
-  pub keys : s' .pubkeys ≡ s .pubkeys
-
-pub record ChainKept (s s' : State) : Type 0 where
+-- "Public keys, the chain in force with its root, the held key and authentic sets are then as before that call or half." The settings too: NS and MACLT
+-- decide which chain the contents give
+pub record Kept (s s' : State) : Type 0 where
+  pub config : s' .config ≡ s .config
+  pub pubkeys : s' .pubkeys ≡ s .pubkeys
   pub chain : s' .chain ≡ s .chain
-  pub slot : getD (s' .tesla .numbers) 0 0 ≡ getD (s .tesla .numbers) 0 0
+  pub slot : heldSlot (s' .tesla .numbers) ≡ heldSlot (s .tesla .numbers)
   pub key : s' .tesla .key ≡ s .tesla .key
   pub auth : s' .auth ≡ s .auth
 
+-- the state between the halves of a sub-frame, which the HKROOT half left; a sub-frame that one of 1 to 5 refuses has no halves
+abbrev pub between : State → List ℕ → Subframe → State
+between s area x = unless (firstOf (subframeChecks s area x)) ((hkrootHalf (noted s x) (x .time) (hkrootOf (x .bytes) 15)) .state) s
+
+-- "No refused call in the list, nor a refused half of one, changes a key, a chain or an authentic set.": of every state, so of those in the list.
+-- "Refused: a number other than 0, for a sub-frame each half by its own."
 pub record Refused : Type 0 where
-  pub keys : (s : State) (c : Call) → (step s c) .reply .code ≢ 0 → KeysKept s ((step s c) .state)
   pub start : (s : State) (x : Start) → (step s (start x)) .reply .code ≢ 0 → (step s (start x)) .state ≡ s
   pub word : (s : State) (w : Word) → (step s (word w)) .reply .code ≢ 0 → (step s (word w)) .state ≡ s
-  pub verdict : (s : State) (v : Verdict) → (step s (verdict v)) .reply .code ≢ 0 → ChainKept s ((step s (verdict v)) .state)
-  pub section : (s : State) (area : List ℕ) (x : Subframe) → (step s (subframe area x)) .reply .mack ≢ 0 → ChainKept s ((step s (subframe area x)) .state)
+  pub verdict : (s : State) (v : Verdict) → (step s (verdict v)) .reply .code ≢ 0 → Kept s ((step s (verdict v)) .state)
+  pub hkroot : (s : State) (area : List ℕ) (x : Subframe) → (step s (subframe area x)) .reply .code ≢ 0 → Kept s (between s area x)
+  pub mack : (s : State) (area : List ℕ) (x : Subframe) → (step s (subframe area x)) .reply .mack ≢ 0 → Kept (between s area x) ((step s (subframe area x)) .state)
+  -- a read changes nothing, refused or not
   pub readSet : (s : State) (prn : ℕ) (out : List ℕ) → (step s (readSet prn out)) .state ≡ s
   pub readOffer : (s : State) (message signature key : List ℕ) → (step s (readOffer message signature key)) .state ≡ s
 
 -- ---- the claim
 
+-- every entry since the accepted start is fair
+abbrev pub FairHistory : History → Type 0
+FairHistory h = Always (Fair (h .origin) (h .began)) (h .log)
+
 pub record Claim : Type 0 where
-  -- of every state, also one that no start left
+  -- "For every list of words, sub-frames, verdicts, reads and refused starts after an accepted start, whatever their bytes, lengths, times and verdicts,
+  -- answered 0 or refused": s is whatever the regions held before that start; a later accepted start begins a new list
+  pub fair : (s : State) (x : Start) → (startCall s x) .code ≡ 0 → (calls : List Call) → FairHistory ((ranFrom s x calls) .history)
+  -- "holding only what it was given: no word, block, message, chain, tag, set or time from before"
+  pub begins : (s s' : State) (x : Start) → (startCall s x) .code ≡ 0 → (startCall s' x) .code ≡ 0 → (startCall s x) .state ≡ (startCall s' x) .state
   pub refused : Refused
-  -- of every list of calls after an accepted start
-  pub fair : (s : State) (x : Start) → (startCall s x) .code ≡ 0 → (calls : List Call) → Always (Fair ((ranFrom x calls) .history .origin)) ((ranFrom x calls) .history .log)

@@ -13,8 +13,9 @@ pub mod Mack
 pub mod Tags
 pub mod Verdict
 pub mod Calls
-pub mod Answers
+pub mod Outcomes
 pub mod Log
 pub mod Claim
 pub mod Points
 pub mod Orders
+pub mod Replay

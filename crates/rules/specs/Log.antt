@@ -1,22 +1,23 @@
--- Lists of calls after an accepted start, and what their history alone says (01, "Demand 3 is one claim about the whole list").
--- The log is kept newest first. Everything here but `step`, `stateAt` and `ran` is read from calls and answers alone.
-use Prim.Native.Nat.{ℕ, zero, suc, _+_, _*_, _≤_, _<_}
-use mathlib.Core.Path.{_≡_}
-use mathlib.Core.Bool.{Bool, true, false, cond, _&&_}
+-- Lists of calls after an accepted start, and what their history says (01, "Demand 3 is one claim about the whole list").
+-- A log holds each call with its reply, newest first. Every history function reads calls and replies alone; `stateAt` is the one place that
+-- names a state: the one that the log's calls leave.
+use Prim.Native.Nat.{ℕ, zero, suc, _*_}
+use mathlib.Core.Bool.{cond, _&&_}
 use mathlib.Core.List.{List, [], _∷_}
 use mathlib.Core.Option.{Option, none, some}
 use lib.Dec.{eqb}
-use lib.ListN.{length}
+use lib.ListN.{replicate}
 use Rattle.laws.specs.Lists.{part}
 use Rattle.rules.specs.Bits.{within}
-use Rattle.rules.specs.Calls.{Start, Word, Subframe, startCall, wordCall, subframeCall, verdictCall, setRead, offerRead, fresh}
-use Rattle.rules.specs.Gather.{statusOf}
+use Rattle.rules.specs.Calls.{Start, Word, Subframe, startCall, wordCall, subframeCall, verdictCall, setRead, offerRead}
+use Rattle.rules.specs.Gather.{statusOf, cidOf}
+use Rattle.rules.specs.Kroot.{cidkrOf}
+use Rattle.rules.specs.Navdata.{Came, wordType}
 use Rattle.rules.specs.State.{State}
 use Rattle.rules.specs.Times.{stampOf}
 use Rattle.rules.specs.Verdict.{Verdict, messageHeader, messageContents}
-use Rattle.rules.specs.Navdata.{Came, wordType}
 
--- a call with all that is lent to it
+-- a call with all that is lent to it; "Every call that only asks counts as a read."
 pub data Call : Type 0 where
   start : Start → Call
   word : Word → Call
@@ -28,18 +29,35 @@ pub data Call : Type 0 where
   -- the lent bytes for message, signature and key
   readOffer : List ℕ → List ℕ → List ℕ → Call
 
--- what a call gives: its number (of a sub-frame the HKROOT half's), the MACK half's (0 unless a sub-frame), the tag records that it wrote, and
--- the set and the time that a read of a set gave
+-- what a read of what waits hands out
+pub record Handed : Type 0 where
+  pub message : List ℕ
+  pub signature : List ℕ
+  pub key : List ℕ
+  pub id : ℕ
+  pub type : ℕ
+
+abbrev pub nothing : Handed
+nothing = record { message = []; signature = []; key = []; id = 0; type = 0 }
+
 pub record Reply : Type 0 where
+  -- the number returned; of a sub-frame, the HKROOT half's
   pub code : ℕ
+  -- the MACK half's number, 0 unless a sub-frame
   pub mack : ℕ
+  -- the tag records that the call wrote, 12 bytes each
   pub records : List ℕ
+  -- what a read of a set gave: its 69 bytes, its IODnav, and its tag's GST_SF
   pub out : List ℕ
+  pub issue : ℕ
   pub time : ℕ
+  -- what a read of what waits handed out
+  pub handed : Handed
 
 abbrev pub plain : ℕ → Reply
-plain code = record { code = code; mack = 0; records = []; out = []; time = 0 }
+plain code = record { code = code; mack = 0; records = []; out = []; issue = 0; time = 0; handed = nothing }
 
+-- a call's reply, and the state that it leaves
 pub record Stepped : Type 0 where
   pub reply : Reply
   pub state : State
@@ -51,14 +69,38 @@ step s (word w) = let r = wordCall s w in record { reply = plain (r .code); stat
 step s (subframe area x) =
     let r = subframeCall s area x in
     record {
-      reply = record { code = r .hkroot; mack = r .mack; records = part (r .area) 0 (12 * r .count); out = []; time = 0 };
+      reply = record {
+        code = r .hkroot;
+        mack = r .mack;
+        records = part (r .area) 0 (12 * r .count);
+        out = [];
+        issue = 0;
+        time = 0;
+        handed = nothing;
+      };
       state = r .state;
     }
 step s (verdict v) = let r = verdictCall s v in record { reply = plain (r .code); state = r .state }
 step s (readSet prn out) =
     let r = setRead s prn out in
-    record { reply = record { code = r .code; mack = 0; records = []; out = r .out; time = r .time }; state = s }
-step s (readOffer message signature key) = let r = offerRead s message signature key in record { reply = plain (r .code); state = s }
+    record {
+      reply = record { code = r .code; mack = 0; records = []; out = r .out; issue = r .issue; time = r .time; handed = nothing };
+      state = s;
+    }
+step s (readOffer message signature key) =
+    let r = offerRead s message signature key in
+    record {
+      reply = record {
+        code = r .code;
+        mack = 0;
+        records = [];
+        out = [];
+        issue = 0;
+        time = 0;
+        handed = record { message = r .message; signature = r .signature; key = r .key; id = r .id; type = r .type };
+      };
+      state = s;
+    }
 
 -- ---- the log
 
@@ -80,68 +122,117 @@ abbrev pub Always : (Entry → Log → Type 0) → Log → Type 0
 Always P [] = Unit {0}
 Always P (x ∷ l) = P x l × Always P l
 
--- the accepted start that a list began with, and the log since
+-- the accepted start that a list began with, the state that it left, and the log since
 pub record History : Type 0 where
   pub origin : Start
+  pub began : State
   pub log : Log
 
--- "an accepted start begins a new list"
-abbrev pub advanced : History → Call → Reply → History
-advanced h (start x) r = cond (eqb (r .code) 0) (record { origin = x; log = [] }) (record { origin = h .origin; log = record { call = start x; reply = r } ∷ h .log })
-advanced h (word w) r = record { origin = h .origin; log = record { call = word w; reply = r } ∷ h .log }
-advanced h (subframe area x) r = record { origin = h .origin; log = record { call = subframe area x; reply = r } ∷ h .log }
-advanced h (verdict v) r = record { origin = h .origin; log = record { call = verdict v; reply = r } ∷ h .log }
-advanced h (readSet prn out) r = record { origin = h .origin; log = record { call = readSet prn out; reply = r } ∷ h .log }
-advanced h (readOffer m g k) r = record { origin = h .origin; log = record { call = readOffer m g k; reply = r } ∷ h .log }
+abbrev pub longer : History → Entry → History
+longer h x = record { origin = h .origin; began = h .began; log = x ∷ h .log }
 
--- the state and the history after a list of calls: "Each call gets the state that the last one, or the accepted start, left"
+-- "an accepted start begins a new list": by the call, its number and reply, and the state that it left
+abbrev pub advanced : History → Call → ℕ → Reply → State → History
+advanced h (start x) zero r s = record { origin = x; began = s; log = [] }
+advanced h (start x) (suc n) r s = longer h (record { call = start x; reply = r })
+advanced h (word w) n r s = longer h (record { call = word w; reply = r })
+advanced h (subframe area x) n r s = longer h (record { call = subframe area x; reply = r })
+advanced h (verdict v) n r s = longer h (record { call = verdict v; reply = r })
+advanced h (readSet prn out) n r s = longer h (record { call = readSet prn out; reply = r })
+advanced h (readOffer m g k) n r s = longer h (record { call = readOffer m g k; reply = r })
+
+-- the state and the history after a list of calls
 pub record Ran : Type 0 where
   pub state : State
   pub history : History
 
+-- "Each call gets the state that the last one, or the accepted start, left"
 unfoldable pub ran : State → History → List Call → Ran
 ran s h [] = record { state = s; history = h }
-ran s h (c ∷ cs) = ran ((step s c) .state) (advanced h c ((step s c) .reply)) cs
+ran s h (c ∷ cs) = let r = step s c in ran (r .state) (advanced h c (r .reply .code) (r .reply) (r .state)) cs
 
--- from an accepted start
-unfoldable pub ranFrom : Start → List Call → Ran
-ranFrom x calls = ran (fresh x) (record { origin = x; log = [] }) calls
+-- from the state that a start left; s is what the regions held before it
+unfoldable pub ranFrom : State → Start → List Call → Ran
+ranFrom s x calls = ran ((startCall s x) .state) (record { origin = x; began = (startCall s x) .state; log = [] }) calls
 
--- the state at a place of the log
-unfoldable pub stateAt : Start → Log → State
-stateAt x [] = fresh x
-stateAt x (e ∷ l) = (step (stateAt x l) (e .call)) .state
+-- the state at a place of the log, from the one that the start left
+unfoldable pub stateAt : State → Log → State
+stateAt s [] = s
+stateAt s (x ∷ l) = (step (stateAt s l) (x .call)) .state
+
+-- ---- what an entry says: a call, or a half of one, that was answered 0
+
+abbrev pub wordAnswered : ℕ → Call → Option Word
+wordAnswered zero (word w) = some w
+wordAnswered zero (start x) = none
+wordAnswered zero (subframe area x) = none
+wordAnswered zero (verdict v) = none
+wordAnswered zero (readSet prn out) = none
+wordAnswered zero (readOffer m g k) = none
+wordAnswered (suc n) c = none
+
+abbrev pub verdictAnswered : ℕ → Call → Option Verdict
+verdictAnswered zero (verdict v) = some v
+verdictAnswered zero (start x) = none
+verdictAnswered zero (word w) = none
+verdictAnswered zero (subframe area x) = none
+verdictAnswered zero (readSet prn out) = none
+verdictAnswered zero (readOffer m g k) = none
+verdictAnswered (suc n) c = none
+
+abbrev pub subframeAnswered : ℕ → Call → Option Subframe
+subframeAnswered zero (subframe area x) = some x
+subframeAnswered zero (start x) = none
+subframeAnswered zero (word w) = none
+subframeAnswered zero (verdict v) = none
+subframeAnswered zero (readSet prn out) = none
+subframeAnswered zero (readOffer m g k) = none
+subframeAnswered (suc n) c = none
+
+-- a word answered 0
+abbrev pub wordIn : Entry → Option Word
+wordIn x = wordAnswered (x .reply .code) (x .call)
+
+-- a verdict answered 0
+abbrev pub verdictIn : Entry → Option Verdict
+verdictIn x = verdictAnswered (x .reply .code) (x .call)
+
+-- a sub-frame whose HKROOT half was answered 0
+abbrev pub hkrootIn : Entry → Option Subframe
+hkrootIn x = subframeAnswered (x .reply .code) (x .call)
+
+-- a sub-frame whose section, the MACK half, was answered 0
+abbrev pub sectionIn : Entry → Option Subframe
+sectionIn x = subframeAnswered (x .reply .mack) (x .call)
 
 -- ---- what the history says
 
+-- no word of the type came: the stamp 0 says so, and the bytes are not looked at
 abbrev pub noWord : Came
-noWord = record { bytes = []; stamp = 0 }
+noWord = record { bytes = replicate 16 0; stamp = 0 }
+
+abbrev pub wordAfter : Option Word → ℕ → ℕ → Came → Came
+wordAfter none prn kind o = o
+wordAfter (some w) prn kind o = cond (eqb (w .prn) prn && eqb (wordType (w .bytes)) kind) (record { bytes = w .bytes; stamp = stampOf (w .time) }) o
 
 -- "the last word answered 0 of each type 1 to 5": of a PRN and a type
-abbrev pub wordHere : ℕ → Call → ℕ → ℕ → Came → Came
-wordHere zero (word w) prn kind o = cond (eqb (w .prn) prn && eqb (wordType (w .bytes)) kind) (record { bytes = w .bytes; stamp = stampOf (w .time) }) o
-wordHere zero (start x) prn kind o = o
-wordHere zero (subframe area x) prn kind o = o
-wordHere zero (verdict v) prn kind o = o
-wordHere zero (readSet p out) prn kind o = o
-wordHere zero (readOffer m g k) prn kind o = o
-wordHere (suc n) c prn kind o = o
-
 abbrev pub lastWord : Log → ℕ → ℕ → Came
 lastWord [] prn kind = noWord
-lastWord (x ∷ l) prn kind = wordHere (x .reply .code) (x .call) prn kind (lastWord l prn kind)
+lastWord (x ∷ l) prn kind = wordAfter (wordIn x) prn kind (lastWord l prn kind)
 
--- the verdict that put the chain in force there: "from the message of the last verdict answered 0 with status 1 or 2 and CIDKR equal to CID, none
--- of status 3 answered 0 since" (a verdict answered 0 has status 1, 2 or 3, and CIDKR equal to CID with 1 or 2)
-abbrev pub chainHere : ℕ → Call → Option Verdict → Option Verdict
-chainHere zero (verdict v) o = cond (eqb (statusOf (messageHeader (v .message))) 3) none (some v)
-chainHere zero (start x) o = o
-chainHere zero (word w) o = o
-chainHere zero (subframe area x) o = o
-chainHere zero (readSet p out) o = o
-chainHere zero (readOffer m g k) o = o
-chainHere (suc n) c o = o
+-- what a verdict answered 0 does to the chain in force: status 3 ends it, status 1 or 2 with CIDKR equal to CID begins it, another leaves it
+abbrev pub forcedBy : Verdict → Option Verdict → Option Verdict
+forcedBy v o =
+    let header = messageHeader (v .message) in
+    cond (eqb (statusOf header) 3) none
+    (cond (within 1 2 (statusOf header) && eqb (cidkrOf (messageContents (v .message))) (cidOf header)) (some v) o)
 
+abbrev pub chainAfter : Option Verdict → Option Verdict → Option Verdict
+chainAfter none o = o
+chainAfter (some v) o = forcedBy v o
+
+-- the verdict whose message is in force: "from the message of the last verdict answered 0 with status 1 or 2 and CIDKR equal to CID, none of
+-- status 3 answered 0 since"
 abbrev pub chainIn : Log → Option Verdict
 chainIn [] = none
-chainIn (x ∷ l) = chainHere (x .reply .code) (x .call) (chainIn l)
+chainIn (x ∷ l) = chainAfter (verdictIn x) (chainIn l)

@@ -1,16 +1,17 @@
 -- The points that 01 marks P ("Known points"): what the rules give, and what 01 says. One table; proofs/Points.antt shows that it is right.
-use Prim.Native.Nat.{ℕ, zero, suc, _+_, _*_}
+use Prim.Native.Nat.{ℕ, _+_, _*_}
 use mathlib.Core.Path.{_≡_}
-use mathlib.Core.Bool.{Bool, cond}
 use mathlib.Core.List.{List, [], _∷_}
-use lib.ListN.{length, replicate}
-use Rattle.laws.specs.Refusal.{Check, refuse, firstOf}
+use lib.ListN.{getD, take, replicate}
+use Rattle.laws.specs.Refusal.{firstOf}
 use Rattle.rules.specs.Calls.{Start, Subframe, fresh, subframeChecks}
+use Rattle.rules.specs.Chain.{held}
 use Rattle.rules.specs.Gather.{blocksFor, gathered}
 use Rattle.rules.specs.Kroot.{fieldsFor, krootChecks}
-use Rattle.rules.specs.Mack.{tooFar}
-use Rattle.rules.specs.State.{Store}
-use Rattle.rules.specs.Times.{gst, slotOf, hourSeconds, tagSlot}
+use Rattle.rules.specs.Mack.{blockChecks}
+use Rattle.rules.specs.State.{setsLength, satellites}
+use Rattle.rules.specs.Tags.{setsEntered}
+use Rattle.rules.specs.Times.{stampOf, gst, gstOf, slotOf, slotSeconds, hourSeconds, tagSlot}
 
 -- a point: what a rule gives at some arguments, and what 01 says that it is
 pub record Point : Type 0 where
@@ -24,10 +25,11 @@ point rule says = record { rule = rule; says = says }
 abbrev pub slot36 : ℕ → ℕ → ℕ → ℕ
 slot36 s b prn = slotOf 36 2 s b prn
 
--- the number for a sub-frame at this second of week 947, to a core that has just started
+-- a start with nothing in it
 abbrev pub blankStart : Start
 blankStart = record { ns = 36; id = 0; type = 0; maclt = 0; marks = replicate 28 0; root = replicate 32 0; key = replicate 67 0 }
 
+-- the number for a sub-frame at this second of week 947, to a core that has just started
 abbrev pub numberAtSecond : ℕ → ℕ
 numberAtSecond second =
     firstOf (subframeChecks (fresh blankStart) (replicate 3240 0) (record { prn = 18; time = gst 947 second; bytes = replicate 75 1 }))
@@ -42,9 +44,28 @@ abbrev pub numberForTagSize : ℕ → ℕ
 numberForTagSize ms =
     firstOf (krootChecks (1 ∷ []) [] (0x10 ∷ 0x30 ∷ (4 * 16 + ms) ∷ 0 ∷ 0x03 ∷ 0xB3 ∷ 0x78 ∷ replicate 84 0))
 
--- the number for a key this far past the held one: the first entry of a block's checks
+-- the number that a block's own list gives by its first check, for block 2 of E`prn` at 1/416640, with NS 36, NMACK 2, and the root of week 1 hour 0
+-- held: E28's key has slot 1,000,000, E29's slot 1,000,001
 abbrev pub numberForGap : ℕ → ℕ
-numberForGap gap = firstOf (refuse (tooFar 5 (5 + gap)) 13 ∷ [])
+numberForGap prn =
+    firstOf
+    (take 1
+    (blockChecks
+    (record { ns = 36; nmack = 2; root = hourSeconds 1 0; alpha = replicate 6 0; width = 16; ms = 12; fields = 4 })
+    (gst 1 416640) prn 0 (replicate 60 0) (held 0 (replicate 16 0)) 2))
+
+-- the GST_SF of a slot, with NS 36, NMACK 2 and the root of week 947 hour 120
+abbrev pub timeOfSlot : ℕ → ℕ
+timeOfSlot m = gstOf (slotSeconds 36 2 (hourSeconds 947 120) m)
+
+-- a tag for E01 of this time, and the first byte of E01's set after it, where the set of 7s has a tag of time 100
+abbrev pub setAfterTag : ℕ → ℕ
+setAfterTag time =
+    getD
+    (setsEntered (replicate setsLength 7) (replicate satellites (stampOf 100))
+    (record { sender = 1; prn = 1; adkd = 0; block = 1; position = 1; time = time; status = 1; bits = 0 })
+    (replicate 69 9))
+    0 0
 
 abbrev pub points : List Point
 points =
@@ -69,10 +90,18 @@ points =
     ∷ point (numberForBlocks 10) 0
     ∷ point (numberForBlocks 11) 6
     -- "P gap 1,000,000 taken, P 1,000,001 is 13."
-    ∷ point (numberForGap 1000000) 0
-    ∷ point (numberForGap 1000001) 13
+    ∷ point (numberForGap 28) 0
+    ∷ point (numberForGap 29) 13
     -- "P 947/431970 is 3B369762 hexadecimal."
     ∷ point (gst 947 431970) 0x3B36_9762
+    -- beside them: "The root is slot 0, its time 30 s before sub-frame 0."; the last slot of sub-frame 0, the first of sub-frame 1
+    ∷ point (timeOfSlot 0) 0x3B36_9762
+    ∷ point (timeOfSlot 72) (gst 947 432000)
+    ∷ point (timeOfSlot 73) (gst 947 432030)
+    -- "unless that set's tag came later": an older tag, one of the same time, a newer one
+    ∷ point (setAfterTag 70) 7
+    ∷ point (setAfterTag 100) 9
+    ∷ point (setAfterTag 130) 9
     ∷ []
 
 abbrev pub Right : Point → Type 0

@@ -35,35 +35,7 @@ pub struct Tag {
     pub bits: u64,
 }
 
-// What a call answers: a case for each number of 01's table. The definition `number` of specs/Answers.antt gives the number.
-pub enum Answer {
-    Done,
-    WrongLength,
-    OutOfRange,
-    OutOfOrder,
-    Stopped,
-    AllZero,
-    BlockUnfit,
-    KeyNotHeld,
-    ParametersUnfit,
-    NotNewer,
-    TreeUnfit,
-    NotInForce,
-    KeyUnfit,
-    TooFar,
-    NotWaiting,
-    VerdictBad,
-    NoSet,
-}
-
-// A sub-frame's answer: a number for each half, and how many tag records were written.
-pub struct Halves {
-    pub hkroot: Answer,
-    pub mack: Answer,
-    pub records: u32,
-}
-
-// What becomes of a tag (01, "Tag outcomes"). The definition `outcomeNumber` of specs/Answers.antt gives the number of its record.
+// What becomes of a tag (01, "Tag outcomes"). The definition `outcomeNumber` of specs/Outcomes.antt gives the number of its record.
 pub enum Outcome {
     Authentic,
     Wrong,

@@ -71,18 +71,19 @@ unfolding be2
 info-length true v = (refl, omega arith)
 info-length false v = (refl, omega arith)
 
--- one field more
-pub info-in : (config : List ℕ) (c : Chain) (p t : ℕ) (mack : List ℕ) (j n r : ℕ) (d u : List ℕ) → n + 2 ≤ length d
+-- one field more, whose MAC-Info is v
+pub info-in : (config : List ℕ) (c : Chain) (p t : ℕ) (mack : List ℕ) (j n r v : ℕ) (d u : List ℕ) → n + 2 ≤ length d
     → take n d ≡ macseqMessage config c (section p t 0 mack) j
-    → u ≡ splice d n (cond (flexible config t j) (be2 (fieldInfo c mack j)) [])
+    → v ≡ fieldInfo c mack j
+    → u ≡ splice d n (cond (flexible config t j) (be2 v) [])
     → r ≡ n + cond (flexible config t j) 2 0
     → (length u ≡ length d) × ((r ≤ n + 2) × (take r u ≡ macseqMessage config c (section p t 0 mack) (j + 1)))
 unfolding macseqMessage
-info-in config c p t mack j n r d u h m e f =
-    let x : List ℕ = cond (flexible config t j) (be2 (fieldInfo c mack j)) [] in
-    let l = info-length (flexible config t j) (fieldInfo c mack j) in
+info-in config c p t mack j n r v d u h m i e f =
+    let x : List ℕ = cond (flexible config t j) (be2 v) [] in
+    let l = info-length (flexible config t j) v in
     let q : r ≡ n + length x = omega arith in
-    (ap length e ∙ length-splice d n x (omega arith), (omega arith, rw (q, e, add-one j, take-splice d n x (omega arith), m)))
+    (ap length e ∙ length-splice d n x (omega arith), (omega arith, rw (q, e, add-one j, take-splice d n x (omega arith), m, ← i)))
 
 -- the NMA status plays no part
 pub any-status : (config : List ℕ) (c : Chain) (p t : ℕ) (mack : List ℕ) (s : ℕ) (n : ℕ)

@@ -4,6 +4,7 @@
 //   tag_matches   whether a tag matches a set under a key
 //   macseq_fits   whether MACSEQ fits the flexible fields of a section
 use hmac::HmacKey;
+use mack::Cursor;
 use rules::Chain;
 use rules::Tag;
 ghost use mathlib.Core.Path.{_≡_};
@@ -15,7 +16,7 @@ ghost use lib.ListN.{length, take};
 ghost use Rattle.laws.specs.Lists.{splice};
 ghost use Rattle.laws.specs.Bytes.{be2};
 ghost use Rattle.hmac.specs.Hmac.{keyOf};
-ghost use Rattle.rules.specs.Mack.{fieldInfo, macseqOf};
+ghost use Rattle.rules.specs.Mack.{macseqOf};
 ghost use Rattle.rules.specs.Tags.{macBits, firstMessage, tagMessage, macseqMessage, flexible};
 ghost use Rattle.tags.specs.Layout.{Laid, section};
 
@@ -74,26 +75,18 @@ pub fn tag_matches(ms: u64, key: HmacKey, first: bool, t: Tag, set: &[u8]) -> bo
 // ---- MACSEQ
 
 // The MAC-Info of field j, where it is flexible, into `out` from place n. Gives the place after it.
-fn put_info(
-    config: &[u8],
-    c: Chain,
-    time: u32,
-    mack: &[u8],
-    j: usize,
-    out: &mut [u8],
-    n: usize,
-) -> usize
-    requires { ⌜ Laid c × (((length (now config) ≡ 63) × (length (now mack) ≡ 60)) × ((j < c .nmack * c .fields) × (n + 2 ≤ length (now out)))) ⌝ }
-    ensures { λ r. ⌜ (now (out .exit) ≡ splice (now (out .entry)) n (cond (flexible (now (config .entry)) time j) (be2 (fieldInfo c (now (mack .entry)) j)) [])) × (r ≡ n + cond (flexible (now (config .entry)) time j) 2 0) ⌝ }
+fn put_info(config: &[u8], time: u32, j: usize, info: u16, out: &mut [u8], n: usize) -> usize
+    requires { ⌜ (length (now config) ≡ 63) × ((j < 14) × (n + 2 ≤ length (now out))) ⌝ }
+    ensures { λ r. ⌜ (now (out .exit) ≡ splice (now (out .entry)) n (cond (flexible (now (config .entry)) time j) (be2 info) [])) × (r ≡ n + cond (flexible (now (config .entry)) time j) 2 0) ⌝ }
 {
     if tags::flexible(config, time, j) {
-        buffer::put_u16(out, n, tags::field_info(c, mack, j));
+        buffer::put_u16(out, n, info);
         return n + 2;
     }
     n
 }
 
-// The MACSEQ message in the front of `out`. Gives its length.
+// The MACSEQ message in the front of `out`. Gives its length. The fields are taken off in order.
 fn macseq_message(config: &[u8], c: Chain, prn: u8, time: u32, mack: &[u8], out: &mut [u8]) -> usize
     requires { ⌜ Laid c × (((length (now config) ≡ 63) × (length (now mack) ≡ 60)) × (length (now out) ≡ 33)) ⌝ }
     ensures { λ r. ⌜ (take r (now (out .exit)) ≡ macseqMessage (now (config .entry)) c (section prn time 0 (now (mack .entry))) (c .nmack * c .fields)) × (r ≤ 33) ⌝ }
@@ -107,10 +100,13 @@ fn macseq_message(config: &[u8], c: Chain, prn: u8, time: u32, mack: &[u8], out:
         (time % 256) as u8,
     ];
     buffer::copy_at(out, 0, &head);
+    let mut k = Cursor { used: 0 };
     let mut n: usize = 5;
     let mut j: usize = 0;
     while j < count {
-        n = put_info(config, c, time, mack, j, out, n);
+        let f = mack::next_field(c, mack, k, j);
+        n = put_info(config, time, j, f.info, out, n);
+        k = f.next;
         j += 1;
     }
     n
@@ -131,5 +127,5 @@ pub fn macseq_fits(config: &[u8], c: Chain, prn: u8, time: u32, mack: &[u8], key
 {
     let mut message = [0u8; 33];
     let n = macseq_message(config, c, prn, time, mack, &mut message);
-    macseq_code(key, &message, n) == tags::macseq_of(c, mack)
+    macseq_code(key, &message, n) == mack::macseq_of(c, mack)
 }

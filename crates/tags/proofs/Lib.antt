@@ -1,2 +1,2 @@
--- Laws of the fields' places that other crates cite.
+-- Laws of a section's layout that other crates cite.
 pub mod Places

@@ -1,58 +1,20 @@
--- Where the fields of a section lie: every field ends inside the section.
+-- A section's blocks and fields are few, and the chain of accepted parameters has the layout that the fields need.
 -- Assumes nothing.
 use mathlib.Core.Path.{_≡_}
 use mathlib.Core.Logic.{⊎-elim}
 use Prim.Native.Nat.{ℕ, zero, suc, _+_, _-_, _*_, _/_, _%_, _≤_, _<_}
 use native.Mathlib.Omega.{arith}
-use native.Mathlib.Nat.{mul-le-mul-left, mul-le-mul-right, div-mul-le-self, div-le-self, div-add-mod, mod-le, mod-lt, add-mul, le-trans}
+use native.Mathlib.Nat.{mul-le-mul-left, div-mul-le-self, div-le-self, div-add-mod, mod-le, mod-lt, le-trans}
 use Rattle.laws.proofs.Splice.{below?}
 use Rattle.rules.specs.Kroot.{blockBits, fieldsFor}
-use Rattle.rules.specs.Mack.{blockAt, fieldAt}
 use Rattle.rules.specs.declared.Chain.{Chain}
 use Rattle.tags.specs.Layout.{Laid}
 
-blocks-fit : (n : ℕ) → 1 ≤ n → n ≤ 3 → n * blockBits n ≤ 480
-unfolding blockBits
-blocks-fit zero p q = absurd (omega arith)
-blocks-fit (suc zero) p q = omega arith
-blocks-fit (suc (suc zero)) p q = omega arith
-blocks-fit (suc (suc (suc zero))) p q = omega arith
-blocks-fit (suc (suc (suc (suc n)))) p q = absurd (omega arith)
-
-less : (x : ℕ) → x + 1 - 1 ≡ x
-less x = omega arith
-
-sum-fits : (x b y w t : ℕ) → x + 1 * b ≤ t → y + 1 * w ≤ b → t ≤ 480 → x + y + w ≤ 480
-sum-fits x b y w t p q r = omega arith
-
-module _ (c : Chain) (l : Laid c) (j : ℕ) (h : j < c .nmack * c .fields) where
-  in-block : j / c .fields < c .nmack
-  in-block =
-      ⊎-elim (λ p. p)
-      (λ p.
-      let z : c .nmack * c .fields ≤ j = le-trans (mul-le-mul-right (c .fields) p) (div-mul-le-self j (c .fields)) in
-      absurd (omega arith))
-      (below? (j / c .fields) (c .nmack))
-
-  -- a field ends inside the section
-  pub place-fits : j / c .fields * blockBits (c .nmack) + j % c .fields * (c .ms + 16) + (c .ms + 16) ≤ 480
-  place-fits =
-      let p : j / c .fields + 1 ≤ c .nmack = omega (arith, in-block) in
-      let q : j % c .fields + 1 ≤ c .fields = omega (arith, mod-lt j (l .fields-low)) in
-      let a = rw (add-mul (j / c .fields) 1 (blockBits (c .nmack))) at (mul-le-mul-right (blockBits (c .nmack)) p) in
-      let b = rw (add-mul (j % c .fields) 1 (c .ms + 16)) at (mul-le-mul-right (c .ms + 16) q) in
-      sum-fits (j / c .fields * blockBits (c .nmack)) (blockBits (c .nmack)) (j % c .fields * (c .ms + 16)) (c .ms + 16) (c .nmack * blockBits (c .nmack))
-      a (le-trans b (l .fields-fit)) (blocks-fit (c .nmack) (l .nmack-low) (l .nmack-high))
-
-  pub place-is : j / c .fields * blockBits (c .nmack) + j % c .fields * (c .ms + 16) ≡ fieldAt c j
-  unfolding fieldAt blockAt
-  place-is = rw (less (j / c .fields))
-
-  -- block and position are small
-  pub small : (j / c .fields ≤ 13) × (j % c .fields ≤ 13)
-  small =
-      let k : j ≤ 13 = omega (arith, l .few) in
-      (le-trans (div-le-self j (c .fields)) k, le-trans (mod-le j (c .fields)) k)
+-- block and position are small
+pub small : (c : Chain) → Laid c → (j : ℕ) → j < c .nmack * c .fields → (j / c .fields ≤ 13) × (j % c .fields ≤ 13)
+small c l j h =
+    let k : j ≤ 13 = omega (arith, l .few) in
+    (le-trans (div-le-self j (c .fields)) k, le-trans (mod-le j (c .fields)) k)
 
 -- ---- a chain of accepted parameters is laid out so
 
@@ -88,10 +50,7 @@ laid c n1 n3 m1 m2 w e h =
     let fit : c .fields * (c .ms + 16) ≤ room = rw e (div-mul-le-self room (c .ms + 16)) in
     let wide : c .fields * 26 ≤ c .fields * (c .ms + 16) = mul-le-mul-left (c .fields) (omega arith) in
     record {
-      nmack-low = n1;
-      nmack-high = n3;
-      ms-high = m2;
+      fit = record { nmack-low = n1; nmack-high = n3; ms-high = m2; fields-fit = omega arith };
       fields-low = low;
-      fields-fit = omega arith;
       few = fields-few (c .nmack) (c .fields) n1 n3 (omega arith);
     }

@@ -1,65 +1,24 @@
-// The fields of a MACK section, its tags, and the marks that say which ADKD a field has (01, "MACK"; 000, 4).
-// Fields are read at any bit of the 60 bytes; one proof serves every tag width.
+// The tags of a MACK section, the marks that say which ADKD a field has, and outcomes (01, "MACK"; 000, 4). One proof serves every tag width.
 // Public calls:
-//   field_tag, field_info, macseq_of   the parts of a field
-//   own_tag                            a field as a tag
-//   flexible, not_allowed              what a field's mark says
-//   own_outcome, judged                what becomes of a tag
+//   own_tag                              a field as a tag
+//   flexible, not_allowed                what a field's mark says
+//   own_outcome, judged, outcome_number  what becomes of a tag
 use rules::Chain;
 use rules::Outcome;
 use rules::Tag;
 ghost use mathlib.Core.Path.{_≡_};
 ghost use mathlib.Core.Bool.{true, cond, _&&_};
 ghost use mathlib.Core.List.{[], _∷_};
-ghost use Prim.Native.Nat.{_+_, _*_, _≤_, _<_};
+ghost use Prim.Native.Nat.{_*_, _<_};
 ghost use lib.ListN.{length};
-ghost use Rattle.laws.specs.Lists.{splice};
 ghost use Rattle.laws.specs.Refusal.{refuse, firstOf};
-ghost use Rattle.rules.specs.Answers.{outcomeNumber};
-ghost use Rattle.rules.specs.Mack.{fieldAt, fieldTag, fieldInfo, macseqOf};
+ghost use Rattle.rules.specs.Outcomes.{outcomeNumber};
 ghost use Rattle.rules.specs.State.{markOf};
 ghost use Rattle.rules.specs.Tags.{ownTag, secondHalf, notAllowed};
 ghost use Rattle.rules.specs.Tags as rules;
 ghost use Rattle.tags.specs.Layout.{Laid, section};
 
-// ---- fields
-
-// The bit at which field j of the section begins.
-fn field_place(c: Chain, j: usize) -> usize
-    requires { ⌜ Laid c × (j < c .nmack * c .fields) ⌝ }
-    ensures { λ r. ⌜ (r ≡ fieldAt c j) × (r + c .ms + 16 ≤ 480) ⌝ }
-{
-    let block = bitfields::block_bits(c.nmack) as usize;
-    let fields = c.fields as usize;
-    let wide = c.ms as usize + 16;
-    (j / fields) * block + (j % fields) * wide
-}
-
-// The tag of field j, as a number.
-pub fn field_tag(c: Chain, mack: &[u8], j: usize) -> u64
-    requires { ⌜ Laid c × ((j < c .nmack * c .fields) × (length (now mack) ≡ 60)) ⌝ }
-    ensures { λ r. ⌜ r ≡ fieldTag c (now (mack .entry)) j ⌝ }
-{
-    let at = field_place(c, j);
-    bitfields::bits_at(mack, at, c.ms as usize)
-}
-
-// The PRN, ADKD and IOD of field j: 16 bits.
-pub fn field_info(c: Chain, mack: &[u8], j: usize) -> u16
-    requires { ⌜ Laid c × ((j < c .nmack * c .fields) × (length (now mack) ≡ 60)) ⌝ }
-    ensures { λ r. ⌜ r ≡ fieldInfo c (now (mack .entry)) j ⌝ }
-{
-    let at = field_place(c, j);
-    bitfields::bits_at(mack, at + c.ms as usize, 16) as u16
-}
-
-// MACSEQ, after tag0.
-pub fn macseq_of(c: Chain, mack: &[u8]) -> u64
-    requires { ⌜ (c .ms ≤ 40) × (length (now mack) ≡ 60) ⌝ }
-    ensures { λ r. ⌜ r ≡ macseqOf c (now (mack .entry)) ⌝ }
-{
-    bitfields::bits_at(mack, c.ms as usize, 12)
-}
+// ---- a field as a tag
 
 // One of two bytes, by a test.
 fn pick(b: bool, x: u8, y: u8) -> u8
@@ -74,8 +33,8 @@ pub fn own_tag(c: Chain, prn: u8, time: u32, status: u8, mack: &[u8], j: usize) 
     ensures { λ r. ⌜ r ≡ ownTag c (section prn time status (now (mack .entry))) j ⌝ }
 {
     let fields = c.fields as usize;
-    let bits = field_tag(c, mack, j);
-    let info = field_info(c, mack, j);
+    let f = mack::read_field(c, mack, j);
+    let info = f.info;
     let first = j == 0;
     let named = pick(first, prn, (info / 256) as u8);
     let adkd = pick(first, 0, (info / 16 % 16) as u8);
@@ -87,7 +46,7 @@ pub fn own_tag(c: Chain, prn: u8, time: u32, status: u8, mack: &[u8], j: usize) 
         position: (j % fields + 1) as u8,
         time: time,
         status: status,
-        bits: bits,
+        bits: f.tag,
     }
 }
 

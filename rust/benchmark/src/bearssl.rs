@@ -1,6 +1,6 @@
 //! BearSSL's SHA-256 and HMAC. Its one-block function is an inner one of the static library.
 
-use crate::rows::{tags_kept, tags_new, words_to_bytes, Contender, Row, BLOCK, INITIAL, KEY};
+use crate::hash::{tags_kept, tags_new, words_to_bytes, Contender, Row, BLOCK, INITIAL, KEY};
 use std::ffi::c_void;
 
 /// Room for any of its contexts (build.rs checks that this is enough).

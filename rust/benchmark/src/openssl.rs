@@ -1,12 +1,13 @@
 //! OpenSSL's SHA-256 and HMAC, by the calls that keep the least between messages.
 
-use crate::rows::{tags_kept, tags_new, words_to_bytes, Contender, Row, BLOCK, INITIAL, KEY};
+use crate::hash::{tags_kept, tags_new, words_to_bytes, Contender, Row, BLOCK, INITIAL, KEY};
 use std::ffi::{c_int, c_uint, c_void};
 use std::ptr::{null, null_mut};
 
+/// OpenSSL's SHA256_CTX: the hash value, and what a block alone does not touch.
 #[repr(C)]
-struct Context {
-    h: [u32; 8],
+pub struct Context {
+    pub h: [u32; 8],
     rest: [u32; 20],
 }
 
@@ -35,16 +36,26 @@ extern "C" {
     fn HMAC_Final(context: *mut c_void, out: *mut u8, out_len: *mut c_uint) -> c_int;
 }
 
-fn block(n: u64) -> [u8; 32] {
-    let mut context = Context {
-        h: INITIAL,
-        rest: [0; 20],
-    };
-    for _ in 0..n {
-        // SAFETY: the context is OpenSSL's SHA256_CTX (112 bytes, checked by build.rs).
-        unsafe { SHA256_Transform(&mut context, BLOCK.as_ptr()) };
+impl Context {
+    pub fn new() -> Context {
+        Context {
+            h: INITIAL,
+            rest: [0; 20],
+        }
     }
-    std::hint::black_box(context.rest);
+
+    /// One block into the hash value.
+    pub fn transform(&mut self, block: &[u8; 64]) {
+        // SAFETY: this is OpenSSL's SHA256_CTX (112 bytes, checked by build.rs).
+        unsafe { SHA256_Transform(self, block.as_ptr()) };
+    }
+}
+
+fn block(n: u64) -> [u8; 32] {
+    let mut context = Context::new();
+    for _ in 0..n {
+        context.transform(&BLOCK);
+    }
     words_to_bytes(&context.h)
 }
 

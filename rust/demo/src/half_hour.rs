@@ -1,10 +1,10 @@
 //! A recorded half hour: what was heard, what the tags said, and which set of each satellite was
 //! authentic before, while and after a repeater's older words came in.
 
+use second_receiver::navdata::SET_LEN;
 use second_receiver::numbers::ACCEPTED;
 use second_receiver::replay::{replay, write_reads};
 use second_receiver::times::Gst;
-use second_receiver::words::SET_LEN;
 use second_receiver::Receiver;
 use signal::replay::{Run, RECORD};
 use std::collections::{BTreeMap, BTreeSet};

@@ -10,7 +10,7 @@ use signal::scenario::{find, SEED};
 use std::process::ExitCode;
 
 fn published_values() -> bool {
-    println!("1. The proved library (libhash_edge.a), at published values");
+    println!("1. The proved library (libtest_hash.a), at published values");
     println!();
     let mut all = true;
     for check in published::checks() {

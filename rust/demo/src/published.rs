@@ -2,10 +2,10 @@
 //! Annex A that are hashes. Where our copy of 000 prints a value wrongly, it stands here repaired
 //! (docs/DECISIONS.md).
 
-use proved_hash::vectors::{
+use leaves::hash::{hmac, sha256, sha256_of_two, HmacKey};
+use leaves::vectors::{
     hex, Coded, Hashed, FIPS_180_4, FIPS_198_1, NIST_ADDITIONAL, NIST_SHORT, RFC_4231,
 };
-use proved_hash::{hmac, sha256, sha256_of_two, HmacKey};
 
 /// How many of some published values came out right.
 #[derive(Debug)]

@@ -1,4 +1,4 @@
-//! The key chain, and the keys of a MACK section (crates/chain, crates/section).
+//! The key chain (crates/chain).
 
 use crate::raw;
 use crate::times::Slots;
@@ -18,7 +18,7 @@ pub struct Chain {
 }
 
 impl Chain {
-    fn walks(&self) -> bool {
+    pub(crate) fn walks(&self) -> bool {
         self.slots.in_range() && (12..=32).contains(&self.width)
     }
 
@@ -27,7 +27,7 @@ impl Chain {
     }
 
     /// Fields of a MACK block; none where the block is too short for one.
-    fn fields(&self) -> Option<u64> {
+    pub(crate) fn fields(&self) -> Option<u64> {
         let left = (480 / self.slots.nmack).checked_sub(self.key_bits())?;
         let fields = left / (self.ms + 16);
         (self.ms <= 40 && fields > 0).then_some(fields)
@@ -67,38 +67,5 @@ impl Chain {
         (self.walks() && slot <= LAST_SLOT).then(|| unsafe {
             raw::leaf_key_of_slot(ns, nmack, root, &self.alpha, self.width, slot, m, key)
         })
-    }
-
-    /// The keys of a section that `prn` sent at `g`, against the key that is held of slot `slot`: 0, 12
-    /// or 13, and the slot of the highest key proved, which is then in `key`.
-    pub fn keys_proved(
-        &self,
-        g: u32,
-        prn: u8,
-        section: &[u8; 60],
-        slot: u64,
-        key: &mut [u8; 32],
-    ) -> Option<(u32, u64)> {
-        let Slots { ns, nmack, root } = self.slots;
-        let (alpha, width, ms) = (&self.alpha, self.width, self.ms);
-        let fields = self.walks().then(|| self.fields()).flatten()?;
-        if slot >= LAST_SLOT {
-            return None;
-        }
-        let (m, m_len) = (section.as_ptr(), section.len());
-        let mut again = *key;
-        // SAFETY: each is lent with its length; lengths and ranges are as required.
-        let (code, high) = unsafe {
-            (
-                raw::leaf_keys_code(
-                    ns, nmack, root, alpha, width, ms, fields, g, prn, m, m_len, slot, key,
-                ),
-                raw::leaf_keys_slot(
-                    ns, nmack, root, alpha, width, ms, fields, g, prn, m, m_len, slot, &mut again,
-                ),
-            )
-        };
-        assert_eq!(*key, again);
-        Some((code, high))
     }
 }

@@ -1,17 +1,25 @@
-//! The proved leaves of the core, for tests: safe calls over the regions that the core lends them.
+//! The proved leaves of the core, for tests and measurements: safe calls over the regions that the core lends them.
 //!
-//! Each call tests what its leaf requires, and gives `None` where that does not hold; lengths hold by
-//! the regions' types. What a leaf gives is said by its contract in src/lib.rt of the boundary crate that
-//! `raw` names over it.
+//! A module is called as the crate whose functions it has. Each call tests what its leaf requires, and
+//! gives `None` where that does not hold; lengths hold by the regions' types. What a leaf gives is said by
+//! its contract in crates/test_leaves, and for the hashes in crates/test_hash.
 
-mod raw;
+#[doc(hidden)]
+pub mod raw;
 
+pub mod authentic_sets;
 pub mod chain;
-pub mod dsm;
-pub mod fields;
-pub mod keys;
-pub mod macs;
-pub mod messages;
+pub mod gather;
+pub mod hash;
+pub mod kroot;
+pub mod mack;
+pub mod mack_keys;
+pub mod navdata;
+pub mod pkr;
+pub mod public_keys;
+pub mod tag_codes;
+pub mod tag_records;
 pub mod tags;
 pub mod times;
-pub mod words;
+pub mod vectors;
+pub mod waiting_tags;

@@ -1,71 +1,194 @@
-//! The exports of the boundary crates as they are. A slice is a pointer and a count of elements, an
-//! array a pointer alone.
+//! The exports of crates/test_hash and crates/test_leaves as they are. A slice is a pointer and a count of
+//! elements, an array a pointer alone.
 //!
 //! Safety, for all: each pointer is aligned and good for what it stands for, to read, and where it is
 //! `*mut` also to write; what is written overlaps nothing else that is lent; and what the function's
-//! `requires` asks holds. It stands in src/lib.rt of the crate that is named over the functions.
+//! `requires` asks holds. It stands in the source that is named over the functions.
+
+#![allow(clippy::missing_safety_doc)]
 
 extern "C" {
-    // crates/leaf_edge
+    // crates/test_hash: total, 1 where a length is not as it must be
+    pub fn osnma_sha256(m: *const u8, m_count: usize, out: *mut u8, out_count: usize) -> u32;
+    pub fn osnma_sha256_of_two(
+        a: *const u8,
+        a_count: usize,
+        b: *const u8,
+        b_count: usize,
+        out: *mut u8,
+        out_count: usize,
+    ) -> u32;
+    pub fn osnma_hmac(
+        key: *const u8,
+        key_count: usize,
+        m: *const u8,
+        m_count: usize,
+        out: *mut u8,
+        out_count: usize,
+    ) -> u32;
+    pub fn osnma_hmac_key(
+        key: *const u8,
+        key_count: usize,
+        state: *mut u32,
+        state_count: usize,
+    ) -> u32;
+    pub fn osnma_hmac_with(
+        state: *const u32,
+        state_count: usize,
+        m: *const u8,
+        m_count: usize,
+        out: *mut u8,
+        out_count: usize,
+    ) -> u32;
+    pub fn osnma_compress(h: *mut [u32; 8], block: *const [u8; 64]);
+
+    // crates/test_leaves, of_times
     pub fn leaf_time_valid(g: u32) -> u32;
     pub fn leaf_seconds_of(g: u32) -> u64;
     pub fn leaf_slot_of(ns: u64, nmack: u64, s: u64, b: u64, p: u64) -> u64;
     pub fn leaf_slot_seconds(ns: u64, nmack: u64, root: u64, m: u64) -> u64;
     pub fn leaf_tag_slot(ns: u64, nmack: u64, root: u64, g: u32, b: u8, adkd: u8) -> u64;
 
+    // crates/test_leaves, of_navdata
     pub fn leaf_store_word(
         words: *mut u8,
-        words_len: usize,
-        times: *mut u32,
-        times_len: usize,
+        words_count: usize,
+        stamps: *mut u32,
+        stamps_count: usize,
         prn: usize,
         kind: usize,
         w: *const u8,
-        w_len: usize,
+        w_count: usize,
         stamp: u32,
     );
     pub fn leaf_usable(
         words: *const u8,
-        words_len: usize,
-        times: *const u32,
-        times_len: usize,
+        words_count: usize,
+        stamps: *const u32,
+        stamps_count: usize,
         prn: usize,
         t: u32,
     ) -> u32;
     pub fn leaf_set_bytes(
         words: *const u8,
-        words_len: usize,
+        words_count: usize,
         prn: usize,
         out: *mut u8,
-        out_len: usize,
+        out_count: usize,
         to: usize,
     );
-    pub fn leaf_set_of(words: *const u8, words_len: usize, prn: usize, out: *mut [u8; 69]);
-    pub fn leaf_set_issue(set: *const u8, set_len: usize) -> u16;
+    pub fn leaf_set_of(words: *const u8, words_count: usize, prn: usize, out: *mut [u8; 69]);
+    pub fn leaf_set_issue(set: *const u8, set_count: usize) -> u16;
     pub fn leaf_status_and_set(
         status: u8,
         set: *const u8,
-        set_len: usize,
+        set_count: usize,
         out: *mut u8,
-        out_len: usize,
+        out_count: usize,
         to: usize,
     );
 
-    pub fn leaf_hkroot_of(f: *const u8, f_len: usize, out: *mut [u8; 15]);
-    pub fn leaf_mack_of(f: *const u8, f_len: usize, out: *mut [u8; 60]);
+    // crates/test_leaves, of_gather
+    pub fn leaf_hkroot_of(f: *const u8, f_count: usize, out: *mut [u8; 15]);
+    pub fn leaf_mack_of(f: *const u8, f_count: usize, out: *mut [u8; 60]);
     pub fn leaf_gather(
         blocks: *mut u8,
-        blocks_len: usize,
+        blocks_count: usize,
         headers: *mut u8,
-        headers_len: usize,
-        marks: *mut u16,
-        marks_len: usize,
-        times: *mut u32,
-        times_len: usize,
+        headers_count: usize,
+        present: *mut u16,
+        present_count: usize,
+        since: *mut u32,
+        since_count: usize,
         t: u32,
         hk: *const [u8; 15],
     ) -> usize;
 
+    // crates/test_leaves, of_public_keys
+    pub fn leaf_above_all(pubkeys: *const u8, pubkeys_count: usize, id: u8) -> u32;
+    pub fn leaf_same_key(
+        pubkeys: *const u8,
+        pubkeys_count: usize,
+        id: u8,
+        kind: u8,
+        key: *const u8,
+        key_count: usize,
+    ) -> u32;
+    pub fn leaf_add_key(
+        pubkeys: *mut u8,
+        pubkeys_count: usize,
+        id: u8,
+        kind: u8,
+        key: *const u8,
+        key_count: usize,
+    );
+    pub fn leaf_drop_lower(pubkeys: *mut u8, pubkeys_count: usize, id: u8);
+
+    // crates/test_leaves, of_kroot
+    pub fn leaf_kroot_judge(
+        pubkeys: *const u8,
+        pubkeys_count: usize,
+        config: *const u8,
+        config_count: usize,
+        offer: *mut u8,
+        offer_count: usize,
+        header: u8,
+        d: *const u8,
+        d_count: usize,
+    ) -> u32;
+    pub fn leaf_names_offer(
+        offer: *const u8,
+        offer_count: usize,
+        id: u8,
+        message: *const u8,
+        message_count: usize,
+        signature: *const u8,
+        signature_count: usize,
+    ) -> u32;
+    pub fn leaf_in_force(
+        config: *const u8,
+        config_count: usize,
+        chain: *const u8,
+        chain_count: usize,
+    ) -> u32;
+    pub fn leaf_chain_with(
+        ns: u64,
+        c: *const u8,
+        c_count: usize,
+        numbers: *mut [u64; 6],
+        alpha: *mut [u8; 6],
+    );
+    pub fn leaf_chain_unchanged(a: *const u8, a_count: usize, b: *const u8, b_count: usize) -> u32;
+
+    // crates/test_leaves, of_pkr
+    pub fn leaf_pkr_code(
+        pubkeys: *mut u8,
+        pubkeys_count: usize,
+        root: *const u8,
+        root_count: usize,
+        d: *const u8,
+        d_count: usize,
+    ) -> u32;
+    pub fn leaf_pkr_stops(
+        pubkeys: *mut u8,
+        pubkeys_count: usize,
+        root: *const u8,
+        root_count: usize,
+        d: *const u8,
+        d_count: usize,
+    ) -> u32;
+
+    // crates/test_leaves, of_chain: the walk is total, 1 where a number is out of range
+    pub fn osnma_walk(
+        ns: u64,
+        nmack: u64,
+        root: u64,
+        alpha: *const [u8; 6],
+        width: usize,
+        n: u64,
+        m: u64,
+        key: *mut [u8; 32],
+    ) -> u32;
     pub fn leaf_key_fits(
         ns: u64,
         nmack: u64,
@@ -77,7 +200,6 @@ extern "C" {
         sent: u64,
         key: *const [u8; 32],
     ) -> u32;
-
     pub fn leaf_key_of_slot(
         ns: u64,
         nmack: u64,
@@ -89,6 +211,7 @@ extern "C" {
         key: *mut [u8; 32],
     );
 
+    // crates/test_leaves, of_mack_keys
     pub fn leaf_keys_code(
         ns: u64,
         nmack: u64,
@@ -100,7 +223,7 @@ extern "C" {
         g: u32,
         prn: u8,
         m: *const u8,
-        m_len: usize,
+        m_count: usize,
         slot: u64,
         key: *mut [u8; 32],
     ) -> u32;
@@ -115,144 +238,18 @@ extern "C" {
         g: u32,
         prn: u8,
         m: *const u8,
-        m_len: usize,
+        m_count: usize,
         slot: u64,
         key: *mut [u8; 32],
     ) -> u64;
 
-    pub fn leaf_put_entry(
-        waiting: *mut u8,
-        waiting_len: usize,
-        k: usize,
-        sender: u8,
-        prn: u8,
-        adkd: u8,
-        block: u8,
-        position: u8,
-        time: u32,
-        status: u8,
-        bits: u64,
-        set: *const u8,
-        set_len: usize,
-    );
-    pub fn leaf_keep_staying(waiting: *mut u8, waiting_len: usize, root: u64, n: usize) -> usize;
-    pub fn leaf_enter_set(
-        sets: *mut u8,
-        sets_len: usize,
-        times: *mut u32,
-        times_len: usize,
-        prn: u8,
-        time: u32,
-        set: *const u8,
-        set_len: usize,
-    );
-
-    // crates/message_edge
-    pub fn leaf_above_all(keys: *const u8, keys_len: usize, id: u8) -> u32;
-    pub fn leaf_same_key(
-        keys: *const u8,
-        keys_len: usize,
-        id: u8,
-        kind: u8,
-        key: *const u8,
-        key_len: usize,
-    ) -> u32;
-    pub fn leaf_add_key(
-        keys: *mut u8,
-        keys_len: usize,
-        id: u8,
-        kind: u8,
-        key: *const u8,
-        key_len: usize,
-    );
-    pub fn leaf_drop_lower(keys: *mut u8, keys_len: usize, id: u8);
-    pub fn leaf_kroot_judge(
-        keys: *const u8,
-        keys_len: usize,
-        maclt: u8,
-        offer: *mut u8,
-        offer_len: usize,
-        header: u8,
-        d: *const u8,
-        d_len: usize,
-    ) -> u32;
-    pub fn leaf_chain_unchanged(a: *const u8, a_len: usize, b: *const u8, b_len: usize) -> u32;
-    pub fn leaf_pkr_code(
-        keys: *mut u8,
-        keys_len: usize,
-        root: *const u8,
-        root_len: usize,
-        d: *const u8,
-        d_len: usize,
-    ) -> u32;
-    pub fn leaf_pkr_stops(
-        keys: *mut u8,
-        keys_len: usize,
-        root: *const u8,
-        root_len: usize,
-        d: *const u8,
-        d_len: usize,
-    ) -> u32;
-    pub fn leaf_names_offer(
-        offer: *const u8,
-        offer_len: usize,
-        id: u8,
-        message: *const u8,
-        message_len: usize,
-        signature: *const u8,
-        signature_len: usize,
-    ) -> u32;
-    pub fn leaf_in_force(maclt: u8, chain: *const u8, chain_len: usize) -> u32;
-    pub fn leaf_chain_with(
-        ns: u64,
-        c: *const u8,
-        c_len: usize,
-        numbers: *mut [u64; 6],
-        alpha: *mut [u8; 6],
-    );
-
-    // crates/chain_edge: total, 1 where a number is out of range
-    pub fn osnma_walk(
-        ns: u64,
-        nmack: u64,
-        root: u64,
-        alpha: *const [u8; 6],
-        width: usize,
-        n: u64,
-        m: u64,
-        key: *mut [u8; 32],
-    ) -> u32;
-
-    // crates/tag_edge
-    pub fn leaf_mac_bits(
-        n: usize,
-        key: *const u8,
-        key_len: usize,
-        message: *const u8,
-        message_len: usize,
-    ) -> u64;
-    pub fn leaf_tag_matches(
-        ms: u64,
-        key: *const u8,
-        key_len: usize,
-        first: u32,
-        sender: u8,
-        prn: u8,
-        position: u8,
-        time: u32,
-        status: u8,
-        bits: u64,
-        set: *const u8,
-        set_len: usize,
-    ) -> u32;
-
-    // crates/field_edge
+    // crates/test_leaves, of_mack
     pub fn leaf_field_tag(
         nmack: u64,
         ms: u64,
         fields: u64,
         mack: *const u8,
-        mack_len: usize,
+        mack_count: usize,
         j: usize,
     ) -> u64;
     pub fn leaf_field_info(
@@ -260,10 +257,12 @@ extern "C" {
         ms: u64,
         fields: u64,
         mack: *const u8,
-        mack_len: usize,
+        mack_count: usize,
         j: usize,
     ) -> u16;
-    pub fn leaf_macseq_of(ms: u64, mack: *const u8, mack_len: usize) -> u64;
+    pub fn leaf_macseq_of(ms: u64, mack: *const u8, mack_count: usize) -> u64;
+
+    // crates/test_leaves, of_tags
     pub fn leaf_own_tag(
         nmack: u64,
         ms: u64,
@@ -272,31 +271,18 @@ extern "C" {
         time: u32,
         status: u8,
         mack: *const u8,
-        mack_len: usize,
+        mack_count: usize,
         j: usize,
         out: *mut [u64; 8],
     );
-    pub fn leaf_flexible(config: *const u8, config_len: usize, time: u32, j: usize) -> u32;
+    pub fn leaf_flexible(config: *const u8, config_count: usize, time: u32, j: usize) -> u32;
     pub fn leaf_not_allowed(
         config: *const u8,
-        config_len: usize,
+        config_count: usize,
         j: usize,
         prn: u8,
         adkd: u8,
         time: u32,
-    ) -> u32;
-    pub fn leaf_macseq_fits(
-        config: *const u8,
-        config_len: usize,
-        nmack: u64,
-        ms: u64,
-        fields: u64,
-        prn: u8,
-        time: u32,
-        mack: *const u8,
-        mack_len: usize,
-        key: *const u8,
-        key_len: usize,
     ) -> u32;
     pub fn leaf_own_outcome(
         refused: u32,
@@ -306,10 +292,48 @@ extern "C" {
         matches: u32,
         free: u32,
     ) -> u8;
-    pub fn leaf_record_issue(outcome: u8, set: *const u8, set_len: usize) -> u16;
+
+    // crates/test_leaves, of_tag_codes
+    pub fn leaf_mac_bits(
+        n: usize,
+        key: *const u8,
+        key_count: usize,
+        message: *const u8,
+        message_count: usize,
+    ) -> u64;
+    pub fn leaf_tag_matches(
+        ms: u64,
+        key: *const u8,
+        key_count: usize,
+        first: u32,
+        sender: u8,
+        prn: u8,
+        position: u8,
+        time: u32,
+        status: u8,
+        bits: u64,
+        set: *const u8,
+        set_count: usize,
+    ) -> u32;
+    pub fn leaf_macseq_fits(
+        config: *const u8,
+        config_count: usize,
+        nmack: u64,
+        ms: u64,
+        fields: u64,
+        prn: u8,
+        time: u32,
+        mack: *const u8,
+        mack_count: usize,
+        key: *const u8,
+        key_count: usize,
+    ) -> u32;
+
+    // crates/test_leaves, of_tag_records
+    pub fn leaf_record_issue(outcome: u8, set: *const u8, set_count: usize) -> u16;
     pub fn leaf_put_record(
         area: *mut u8,
-        area_len: usize,
+        area_count: usize,
         at: usize,
         outcome: u8,
         sender: u8,
@@ -320,6 +344,24 @@ extern "C" {
         time: u32,
         issue: u16,
     );
+
+    // crates/test_leaves, of_waiting_tags
+    pub fn leaf_put_entry(
+        waiting: *mut u8,
+        waiting_count: usize,
+        k: usize,
+        sender: u8,
+        prn: u8,
+        adkd: u8,
+        block: u8,
+        position: u8,
+        time: u32,
+        status: u8,
+        bits: u64,
+        set: *const u8,
+        set_count: usize,
+    );
+    pub fn leaf_keep_staying(waiting: *mut u8, waiting_count: usize, root: u64, n: usize) -> usize;
     pub fn leaf_is_due(
         ns: u64,
         nmack: u64,
@@ -329,4 +371,16 @@ extern "C" {
         block: u8,
         time: u32,
     ) -> u32;
+
+    // crates/test_leaves, of_authentic_sets
+    pub fn leaf_enter_set(
+        sets: *mut u8,
+        sets_count: usize,
+        arrivals: *mut u32,
+        arrivals_count: usize,
+        prn: u8,
+        time: u32,
+        set: *const u8,
+        set_count: usize,
+    );
 }

@@ -1,6 +1,11 @@
-//! Waiting tags and authentic sets (crates/waiting, crates/authentic).
+//! The tags of a section, marks and tag outcomes (crates/tags).
 
+use crate::mack::{Layout, Section};
 use crate::raw;
+
+/// The region of what a start gives: NS, MACLT, two lists of 14 marks, the tree's root and 1 where the
+/// receiver is stopped.
+pub type Config = [u8; 63];
 
 /// A tag with what its message needs beside the set.
 #[derive(Clone, Copy, Debug, PartialEq, Eq)]
@@ -15,65 +20,89 @@ pub struct Tag {
     pub bits: u64,
 }
 
-/// The region of the waiting tags: 256 places of 84 bytes.
-#[derive(Clone, Debug, PartialEq, Eq)]
-pub struct Waiting(pub [u8; 21504]);
-
-impl Waiting {
-    /// The entry of a tag and its set at place `k`.
-    pub fn put(&mut self, k: usize, t: &Tag, set: &[u8; 69]) -> Option<()> {
-        let len = self.0.len();
-        // SAFETY: both are lent with their lengths; lengths and ranges are as required.
-        (k < 256).then(|| unsafe {
-            raw::leaf_put_entry(
-                self.0.as_mut_ptr(),
-                len,
-                k,
-                t.sender,
-                t.prn,
-                t.adkd,
-                t.block,
-                t.position,
-                t.time,
-                t.status,
-                t.bits,
-                set.as_ptr(),
-                set.len(),
+impl Layout {
+    /// Field `j` as a tag.
+    pub fn own_tag(&self, section: &Section, j: usize) -> Option<Tag> {
+        let Layout { nmack, ms, fields } = *self;
+        let Section {
+            prn,
+            time,
+            status,
+            mack,
+        } = section;
+        let mut out = [0; 8];
+        // SAFETY: the section is lent with its length; length and ranges are as required.
+        self.has(j).then(|| unsafe {
+            raw::leaf_own_tag(
+                nmack,
+                ms,
+                fields,
+                *prn,
+                *time,
+                *status,
+                mack.as_ptr(),
+                mack.len(),
+                j,
+                &mut out,
             )
+        })?;
+        let byte = |n: u64| u8::try_from(n).ok();
+        Some(Tag {
+            sender: byte(out[0])?,
+            prn: byte(out[1])?,
+            adkd: byte(out[2])?,
+            block: byte(out[3])?,
+            position: byte(out[4])?,
+            time: u32::try_from(out[5]).ok()?,
+            status: byte(out[6])?,
+            bits: out[7],
         })
-    }
-
-    /// Those of the first `n` that stay at a new root close up; their number.
-    pub fn keep_staying(&mut self, root: u64, n: usize) -> Option<usize> {
-        let len = self.0.len();
-        // SAFETY: as above.
-        (n <= 256).then(|| unsafe { raw::leaf_keep_staying(self.0.as_mut_ptr(), len, root, n) })
     }
 }
 
-/// The regions of authentic sets and their stamps: a time plus 1, or 0 where there is none.
-#[derive(Clone, Debug, PartialEq, Eq)]
-pub struct Authentic {
-    pub sets: [u8; 2484],
-    pub times: [u32; 36],
+/// Whether field `j` of a section at `time` has a flexible ADKD.
+pub fn flexible(config: &Config, time: u32, j: usize) -> Option<bool> {
+    // SAFETY: the region is lent with its length; length and range are as required.
+    (j < 14).then(|| unsafe { raw::leaf_flexible(config.as_ptr(), config.len(), time, j) == 1 })
 }
 
-impl Authentic {
-    /// A tag of the satellite that came at `time` shows the set to be authentic.
-    pub fn enter(&mut self, prn: u8, time: u32, set: &[u8; 69]) -> Option<()> {
-        let (sets, times) = (&mut self.sets, &mut self.times);
-        // SAFETY: as above.
-        ((1..=36).contains(&prn) && time < u32::MAX).then(|| unsafe {
-            raw::leaf_enter_set(
-                sets.as_mut_ptr(),
-                sets.len(),
-                times.as_mut_ptr(),
-                times.len(),
-                prn,
-                time,
-                set.as_ptr(),
-                set.len(),
-            )
-        })
+/// Whether the tag of field `j` is one that is not taken.
+pub fn not_allowed(config: &Config, j: usize, tag: &Tag) -> Option<bool> {
+    // SAFETY: as above.
+    (j < 14).then(|| unsafe {
+        raw::leaf_not_allowed(
+            config.as_ptr(),
+            config.len(),
+            j,
+            tag.prn,
+            tag.adkd,
+            tag.time,
+        ) == 1
+    })
+}
+
+/// The tests of a tag, in the order in which they are made.
+#[derive(Clone, Copy, Debug, PartialEq, Eq)]
+pub struct Tests {
+    pub refused: bool,
+    pub unfit: bool,
+    pub unusable: bool,
+    pub prompt: bool,
+    pub matches: bool,
+    pub free: bool,
+}
+
+/// The number of what becomes of a field's tag.
+pub fn own_outcome(t: &Tests) -> u8 {
+    // SAFETY: nothing is lent or required.
+    unsafe {
+        raw::leaf_own_outcome(
+            t.refused.into(),
+            t.unfit.into(),
+            t.unusable.into(),
+            t.prompt.into(),
+            t.matches.into(),
+            t.free.into(),
+        )
     }
 }

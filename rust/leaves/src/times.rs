@@ -1,4 +1,4 @@
-//! Times and key slots (crates/gst).
+//! Times and key slots (crates/times).
 
 use crate::raw;
 
@@ -45,14 +45,5 @@ impl Slots {
         // SAFETY: as above.
         self.in_range()
             .then(|| unsafe { raw::leaf_tag_slot(self.ns, self.nmack, self.root, g, b, adkd) })
-    }
-
-    /// Whether the held key, of slot `slot`, reaches the slot of the key of a tag of block `b` that came
-    /// at `g`.
-    pub fn is_due(&self, slot: u64, g: u32, b: u8, adkd: u8) -> Option<bool> {
-        let Slots { ns, nmack, root } = *self;
-        // SAFETY: as above.
-        self.in_range()
-            .then(|| unsafe { raw::leaf_is_due(ns, nmack, root, slot, adkd, b, g) == 1 })
     }
 }

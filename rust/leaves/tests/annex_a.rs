@@ -6,12 +6,13 @@ mod common;
 use common::annex::*;
 use common::{hex, upper};
 use leaves::chain::Chain;
-use leaves::keys::Keys;
-use leaves::macs::{mac_bits, tag_matches};
-use leaves::messages::{kroot_judge, pkr_judge};
+use leaves::kroot::kroot_judge;
+use leaves::navdata::{set_issue, status_and_set, Nav};
+use leaves::pkr::pkr_judge;
+use leaves::public_keys::Pubkeys;
+use leaves::tag_codes::{mac_bits, tag_matches};
 use leaves::tags::Tag;
 use leaves::times::Slots;
-use leaves::words::{set_issue, status_and_set, Nav};
 
 /// The annex's chain: NS 36, NMACK 2, root of week 947, hour 120; KS 128, MS 12.
 fn annex_chain() -> Chain {
@@ -69,16 +70,18 @@ fn keys_of_table_24_fit() {
 // A.1.4: what waits for a verdict after the DSM-KROOT of table 25.
 #[test]
 fn a_1_4_dsm_kroot() {
-    let mut keys = Keys([0; 1088]);
+    let mut keys = Pubkeys([0; 1088]);
     let mut offer = [0xA5; 179];
+    let mut config = [0; 63];
+    config[1] = 11;
     assert_eq!(
-        kroot_judge(&keys, 11, &mut offer, HEADER_A, &hex(DSM_KROOT)),
+        kroot_judge(&keys, &config, &mut offer, HEADER_A, &hex(DSM_KROOT)),
         Some(7)
     );
     assert_eq!(offer, [0xA5; 179]);
     keys.add(0, 1, &[2; 33]).unwrap();
     assert_eq!(
-        kroot_judge(&keys, 11, &mut offer, HEADER_A, &hex(DSM_KROOT)),
+        kroot_judge(&keys, &config, &mut offer, HEADER_A, &hex(DSM_KROOT)),
         Some(0)
     );
     assert_eq!(offer[..2], [1, 0]);
@@ -93,7 +96,7 @@ fn a_1_4_dsm_kroot() {
 fn a_1_5_set_in_the_message() {
     let mut nav = Nav {
         words: [0xA5; 2880],
-        times: [0; 180],
+        stamps: [0; 180],
     };
     for (word, kind) in words_of_e18().iter().zip(1..) {
         nav.store(18, kind, word, (947 << 20 | 432_000) + 1)
@@ -122,7 +125,7 @@ fn a_1_7_leaves_and_root() {
         .find(|repair| (repair.0, repair.1) == (level, index))
         .map(|repair| repair.2.apply(printed));
     assert_eq!(right, Some(upper(&root)));
-    let mut keys = Keys([0; 1088]);
+    let mut keys = Pubkeys([0; 1088]);
     for (id, leaf) in leaves.iter().enumerate() {
         let dsm = dsm_pkr(&leaves, id);
         let mut other = dsm.clone();
@@ -149,7 +152,7 @@ fn tag0_of_e18() {
     assert_eq!(mac_bits(12, &key, &hex(&mac0_message())), Some(0xE58));
     let mut nav = Nav {
         words: [0; 2880],
-        times: [0; 180],
+        stamps: [0; 180],
     };
     for (word, kind) in words_of_e18().iter().zip(1..) {
         nav.store(18, kind, word, 1).unwrap();

@@ -5,18 +5,19 @@ mod chains;
 
 use case::{any_case, leaf_tag, of_leaf, region, with_macseq, Case};
 use chains::any_chain;
-use leaves::fields::{self, Config, Layout, Tests};
-use leaves::macs::tag_matches;
-use leaves::tags::Tag;
+use leaves::mack::{self as leaf, Layout};
+use leaves::navdata::Nav;
+use leaves::tag_codes::tag_matches;
+use leaves::tag_records::{put_record, record_issue};
+use leaves::tags::{flexible, not_allowed, own_outcome, Config, Tag, Tests};
 use leaves::times::Slots;
-use leaves::words::Nav;
 use portable_hash::HmacKey;
 use second_receiver::bits::take;
 use second_receiver::chain::{Chain, TeslaKey};
 use second_receiver::mack::Section;
+use second_receiver::navdata::{NavSet, Words};
 use second_receiver::tags::{self, AuthenticSets, WaitingTag};
 use second_receiver::times::Gst;
-use second_receiver::words::{NavSet, Words};
 use signal::rng::Rng;
 
 /// A satellite's words: none, a whole set, one with a word missing, with another IODnav, or with a word of
@@ -107,7 +108,7 @@ struct Judge<'a> {
     chain: &'a Chain,
     layout: Layout,
     config: Config,
-    section: fields::Section,
+    section: leaf::Section,
     nav: Nav,
 }
 
@@ -145,14 +146,14 @@ impl Judge<'_> {
             let set = self.nav.set_of(tag.prn.into()).unwrap_or([0; 69]);
             let prompt = tag.adkd != 11 && tag.adkd != 12;
             let tests = Tests {
-                refused: fields::not_allowed(config, j, &tag).unwrap(),
-                unfit: fields::flexible(config, tag.time, j).unwrap() && !fits,
+                refused: not_allowed(config, j, &tag).unwrap(),
+                unfit: flexible(config, tag.time, j).unwrap() && !fits,
                 unusable: !usable,
                 prompt,
                 matches: prompt && usable && self.matches(j, &tag, &set),
                 free: count < 256,
             };
-            let outcome = fields::own_outcome(&tests);
+            let outcome = own_outcome(&tests);
             count += usize::from(outcome == 5);
             records.push(record(outcome, &tag, &set));
         }
@@ -171,9 +172,9 @@ impl Judge<'_> {
 /// A record in the middle of an area, of which nothing else changes.
 fn record(outcome: u8, tag: &Tag, set: &[u8; 69]) -> [u8; 12] {
     let mut area = [0xA5; 36];
-    let issue = fields::record_issue(outcome, set);
-    fields::put_record(&mut area, 12, outcome, tag, issue).unwrap();
-    assert_eq!(fields::put_record(&mut area, 25, outcome, tag, issue), None);
+    let issue = record_issue(outcome, set);
+    put_record(&mut area, 12, outcome, tag, issue).unwrap();
+    assert_eq!(put_record(&mut area, 25, outcome, tag, issue), None);
     assert_eq!(
         (&area[..12], &area[24..]),
         (&[0xA5; 12][..], &[0xA5; 12][..])
@@ -197,7 +198,7 @@ fn tags_of_sections_are_judged_alike() {
             Words::default(),
             Nav {
                 words: [0; 2880],
-                times: [0; 180],
+                stamps: [0; 180],
             },
         );
         for prn in 1..=36 {

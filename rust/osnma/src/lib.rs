@@ -36,8 +36,26 @@
 //! # Ok::<(), Refusal>(())
 //! ```
 //!
-//! The call for the authentication fields of a sub-frame is not in this version. What only they
-//! bring (a message that waits, proved keys, tags, authentic sets) does not come about without it.
+//! The authentication fields of each sub-frame, 75 bytes, are lent before its words, with an area for
+//! the records of the tags that they judge:
+//!
+//! ```
+//! use osnma::{Core, Gst, Outcome, Records, Refusal};
+//!
+//! fn half_minute(core: &mut Core, records: &mut Records, prn: u8, time: Gst, fields: &[u8; 75]) {
+//!     let answer = core.subframe(prn, time, fields, records);
+//!     if answer.mack.is_ok() {
+//!         for tag in answer.tags.filter(|tag| tag.outcome == Outcome::Authentic) {
+//!             // The set of satellite `tag.prn`, as it was at `tag.time`, is authentic.
+//!             let _set = core.read_set(tag.prn);
+//!         }
+//!     }
+//!     // A root message may wait for the chip now.
+//!     let _message = core.read_message();
+//! }
+//! # let (mut core, mut records) = (Core::new(), osnma::NO_RECORDS);
+//! # half_minute(&mut core, &mut records, 1, Gst::from_bits(0), &[0; 75]);
+//! ```
 
 #![no_std]
 #![warn(missing_docs)]
@@ -55,13 +73,21 @@ mod raw;
 mod refusal;
 #[doc(hidden)]
 pub mod regions;
+mod tag_record;
 
 pub use gst::Gst;
 pub use refusal::Refusal;
+pub use tag_record::{Outcome, TagRecord, TagRecords};
 
 use refusal::answered;
 use regions::Regions;
 
+/// Bytes of the authentication fields of a sub-frame: 15 of five bytes.
+pub const FIELDS_LEN: usize = 75;
+/// Bytes of the area for tag records: 256 tags that waited and 14 of the section's own.
+pub const RECORDS_LEN: usize = 3_240;
+/// Bytes of a tag record.
+pub const RECORD_LEN: usize = 12;
 /// Bytes of an I/NAV word.
 pub const WORD_LEN: usize = 16;
 /// Bytes of a navigation set: 549 bits of words 1 to 5, then three zero bits.
@@ -123,6 +149,24 @@ pub struct WaitingMessage {
     pub key_type: u8,
 }
 
+/// The area that a sub-frame's tag records are written to. Bytes past the records stay as they are.
+pub type Records = [u8; RECORDS_LEN];
+
+/// An area for tag records, to begin with.
+pub const NO_RECORDS: Records = [0; RECORDS_LEN];
+
+/// What a sub-frame answers.
+#[derive(Clone, Debug)]
+pub struct SubframeAnswer<'a> {
+    /// The HKROOT half: its block, and the message that the block completes.
+    pub hkroot: Result<(), Refusal>,
+    /// The MACK half: the section's keys and tags.
+    pub mack: Result<(), Refusal>,
+    /// The tags that were judged: those that had waited and were due, then the section's own. None
+    /// where the MACK half is refused.
+    pub tags: TagRecords<'a>,
+}
+
 /// The core: all memory that the calls take up, 32,896 bytes.
 ///
 /// Only a [`start`](Core::start) makes it a receiver. Before the first accepted one no satellite,
@@ -157,6 +201,51 @@ impl Core {
             &settings.tree_root,
             &settings.key,
         ))
+    }
+
+    /// The authentication fields of a satellite's sub-frame at `time`; they are lent before its words.
+    ///
+    /// The first byte of each five is the HKROOT half: the block is gathered, and a message that it
+    /// completes is judged. A DSM-KROOT then waits for a verdict, a DSM-PKR brings a public key or
+    /// stops the core. The others are the MACK half: the section's keys are proved, the tags that
+    /// waited for them and the section's own are judged, and `records` has a record for each.
+    ///
+    /// A half that is refused changes no public key, chain, held key or authentic set.
+    ///
+    /// # Refusals
+    /// In this order, each in both halves, and the core is as before:
+    /// - [`Refusal::OutOfRange`]: PRN not 1 to 36, or a time that is no start of a sub-frame;
+    /// - [`Refusal::Stopped`];
+    /// - [`Refusal::OutOfOrder`]: earlier than the last sub-frame, or not later than this satellite's
+    ///   last;
+    /// - [`Refusal::AllZero`]: 75 zero bytes; the time is noted.
+    ///
+    /// Then the time is noted, and the HKROOT half alone answers
+    /// - [`Refusal::BlockUnfit`]: the block is dropped, or the complete message;
+    /// - [`Refusal::KeyNotHeld`], [`Refusal::ParametersUnfit`]: a complete DSM-KROOT is dropped; what
+    ///   waits goes on waiting;
+    /// - [`Refusal::TreeUnfit`], [`Refusal::NotNewer`]: a complete DSM-PKR is dropped;
+    ///
+    /// and after it the MACK half alone
+    /// - [`Refusal::Stopped`]: this sub-frame brought an emergency message, and the core stops;
+    /// - [`Refusal::NotInForce`]: no chain in force, status 0 or 3, another CID, or a time before the
+    ///   chain's sub-frame 0;
+    /// - [`Refusal::TooFar`], [`Refusal::KeyUnfit`]: block by block; the whole section is refused.
+    pub fn subframe<'a>(
+        &mut self,
+        prn: u8,
+        time: Gst,
+        fields: &[u8; FIELDS_LEN],
+        records: &'a mut Records,
+    ) -> SubframeAnswer<'a> {
+        let (mut hkroot, mut mack) = (0, 0);
+        let mut lent = self.regions.lend();
+        let count = lent.subframe(records, prn, time.bits(), fields, &mut hkroot, &mut mack);
+        SubframeAnswer {
+            hkroot: answered(hkroot),
+            mack: answered(mack),
+            tags: TagRecords::of(records, count),
+        }
     }
 
     /// An I/NAV word of a satellite, in the sub-frame at `time`; the fields of a sub-frame are lent

@@ -7,8 +7,8 @@ use crate::raw;
 /// crates/rules/specs/State.antt.
 macro_rules! regions {
     ($($(#[$doc:meta])* $name:ident: [$element:ty; $count:literal],)*) => {
-        /// All memory of a core, laid out as `struct osnma_core` of `include/osnma.h`. A time is
-        /// stored plus 1, and 0 says never ("stamp").
+        /// All memory of a core, laid out as `struct osnma_core` of `include/osnma.h`. A "stamp"
+        /// is a GST_SF plus 1, or 0 for never.
         #[derive(Clone, Debug, PartialEq, Eq)]
         #[repr(C)]
         pub struct Regions {
@@ -60,31 +60,31 @@ regions! {
     clocks: [u32; 73],
     /// By PRN: words 1 to 5.
     words: [u8; 2880],
-    /// By PRN: the stamp of each word.
+    /// By PRN: the stamp of the sub-frame that each word came in.
     stamps: [u32; 180],
     /// By DSM ID: 16 blocks of 13 bytes.
     blocks: [u8; 3328],
     /// By DSM ID: the NMA header that its blocks came with.
     headers: [u8; 16],
     /// By DSM ID: the blocks present, block 0 in the lowest bit.
-    marks: [u16; 16],
-    /// By DSM ID: GST_SF of the block that came first.
+    present: [u16; 16],
+    /// By DSM ID: GST_SF of the block that came first; no stamp.
     since: [u32; 16],
     /// By key ID: the type plus 1 (0 where none is held), the public key in 67 bytes.
-    keys: [u8; 1088],
+    pubkeys: [u8; 1088],
     /// 1 where a message waits, its key ID, message and signature.
     offer: [u8; 179],
     /// 1 in force, 2 dropped, 0 where there was none; the contents put in force last.
     chain: [u8; 45],
     /// The held TESLA key's slot, and the count of waiting tags.
     numbers: [u64; 2],
-    /// The held TESLA key.
-    key: [u8; 32],
-    /// 256 waiting tags of 84 bytes, in order of arrival.
+    /// The held TESLA key, zeros after a short one.
+    heldkey: [u8; 32],
+    /// 256 places for waiting tags, 84 bytes each, in order of arrival.
     waiting: [u8; 21504],
     /// By PRN: the authentic set.
     sets: [u8; 2484],
-    /// By PRN: the stamp of that set's tag.
+    /// By PRN: the stamp of the sub-frame that brought that set's tag.
     arrivals: [u32; 36],
 }
 
@@ -101,13 +101,13 @@ macro_rules! lend {
             $from.stamps.$pointer(), $from.stamps.len(),
             $from.blocks.$pointer(), $from.blocks.len(),
             $from.headers.$pointer(), $from.headers.len(),
-            $from.marks.$pointer(), $from.marks.len(),
+            $from.present.$pointer(), $from.present.len(),
             $from.since.$pointer(), $from.since.len(),
-            $from.keys.$pointer(), $from.keys.len(),
+            $from.pubkeys.$pointer(), $from.pubkeys.len(),
             $from.offer.$pointer(), $from.offer.len(),
             $from.chain.$pointer(), $from.chain.len(),
             $from.numbers.$pointer(), $from.numbers.len(),
-            $from.key.$pointer(), $from.key.len(),
+            $from.heldkey.$pointer(), $from.heldkey.len(),
             $from.waiting.$pointer(), $from.waiting.len(),
             $from.sets.$pointer(), $from.sets.len(),
             $from.arrivals.$pointer(), $from.arrivals.len(),
@@ -116,7 +116,7 @@ macro_rules! lend {
     };
 }
 
-/// The calls that write give document 01's number.
+/// The calls that write give document 01's number, but for a sub-frame, which has two.
 impl Lent<'_> {
     /// `marks` are those of second 0, then those of second 30.
     #[allow(clippy::too_many_arguments)]
@@ -161,6 +161,34 @@ impl Lent<'_> {
                 time,
                 word.as_ptr(),
                 word.len()
+            )
+        }
+    }
+
+    /// The authentication fields of a sub-frame: the count of tag records in `area`, and the numbers
+    /// of both halves.
+    pub fn subframe(
+        &mut self,
+        area: &mut [u8],
+        prn: u8,
+        time: u32,
+        fields: &[u8],
+        hkroot: &mut u32,
+        mack: &mut u32,
+    ) -> u32 {
+        // SAFETY: as above.
+        unsafe {
+            lend!(
+                osnma_regions_subframe,
+                self.as_mut_ptr,
+                area.as_mut_ptr(),
+                area.len(),
+                prn,
+                time,
+                fields.as_ptr(),
+                fields.len(),
+                hkroot,
+                mack
             )
         }
     }

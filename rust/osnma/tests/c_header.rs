@@ -78,8 +78,8 @@ fn one_layout() {
         };
     }
     add!(
-        config clocks words stamps blocks headers marks since
-        keys offer chain numbers key waiting sets arrivals
+        config clocks words stamps blocks headers present since
+        pubkeys offer chain numbers heldkey waiting sets arrivals
     );
     assert_eq!(run(&program, &["layout"]), layout);
 }

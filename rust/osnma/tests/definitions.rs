@@ -4,14 +4,19 @@
 
 mod common;
 
-use common::twin::{garbage, Call, KINDS};
+use common::twin::{garbage, Call, Kind};
 use common::{draw, driver};
 use osnma::regions::Regions;
 use rules_runner::machine::with_large_stack;
 use rules_runner::program::Hashes;
 use rules_runner::rules::{self, Rules};
+use second_receiver::bits::BitString;
+use second_receiver::chain::{Chain, TeslaKey};
+use second_receiver::mack::Layout;
 use second_receiver::Receiver;
 use signal::rng::Rng;
+use signal::subframe;
+use signal::time::Gst;
 use std::collections::BTreeMap;
 use std::path::Path;
 
@@ -29,13 +34,13 @@ fn lists(r: &Regions) -> rules::Regions {
         list(&r.stamps),
         list(&r.blocks),
         list(&r.headers),
-        list(&r.marks),
+        list(&r.present),
         list(&r.since),
-        list(&r.keys),
+        list(&r.pubkeys),
         list(&r.offer),
         list(&r.chain),
         list(&r.numbers),
-        list(&r.key),
+        list(&r.heldkey),
         list(&r.waiting),
         list(&r.sets),
         list(&r.arrivals),
@@ -56,13 +61,13 @@ fn spoil(r: &mut Regions, rng: &mut Rng) {
             6 => r.chain[rng.range(1, 12) as usize] = any as u8,
             7 => r.numbers[0] = any >> rng.below(64),
             8 => r.numbers[1] = *rng.pick(&[0, 1, 2, 3, 255, 256, 257, 1 << 32, u64::MAX]),
-            9 => r.keys[68 * rng.below(16) as usize] = rng.below(7) as u8,
+            9 => r.pubkeys[68 * rng.below(16) as usize] = rng.below(7) as u8,
             10 => r.arrivals[rng.below(36) as usize] = *rng.pick(&[0, 1, any as u32, u32::MAX]),
             11 => {
                 r.clocks[36 + rng.range(1, 36) as usize] = *rng.pick(&[0, 1, any as u32, u32::MAX])
             }
             12 => rng.fill(&mut r.waiting),
-            _ => rng.fill(&mut r.keys),
+            _ => rng.fill(&mut r.pubkeys),
         }
     }
 }
@@ -104,8 +109,84 @@ fn verdict(r: &Regions, rng: &mut Rng) -> Call {
     }
 }
 
-/// What a call gives: its number, the bytes read and the numbers read.
+/// A section with any fields whose keys are those below the held one, if the regions say a chain; the held key
+/// becomes that of the section's last slot or of one above it.
+fn section(r: &mut Regions, rng: &mut Rng, prn: u8, time: u32) -> Option<[u8; 60]> {
+    let ns = Some(r.config[0]).filter(|ns| (1..=36).contains(ns));
+    let mut chain = Chain::new(&r.chain[1..], ns.unwrap_or(1));
+    let layout = Layout::of(&chain.parameters).filter(|layout| layout.fields > 0)?;
+    let (seconds, slots) = (second_receiver::times::Gst(time).seconds(), chain.slots);
+    if seconds < slots.start || !(1..=36).contains(&prn) {
+        return None;
+    }
+    chain.held_slot = slots.of_key(seconds, layout.blocks, prn) + rng.below(40);
+    chain.held = TeslaKey::new(&r.heldkey[..layout.key_bits / 8]);
+    r.numbers[0] = chain.held_slot;
+    let mut bits = BitString::default();
+    for block in 1..=layout.blocks {
+        let fields = layout.fields * (layout.tag_bits + 16);
+        let slot = slots.of_key(seconds, block, prn);
+        let key = chain.hash_down(&chain.held, chain.held_slot, slot);
+        bits.push_bits(&rng.bytes(60), 0, fields);
+        bits.push_bits(key.as_slice(), 0, layout.key_bits);
+        bits.push_bits(&[0; 60], 0, layout.block_bits - layout.key_bits - fields);
+    }
+    bits.into_bytes().try_into().ok()
+}
+
+/// A block of any DSM ID; often of a message that it completes with the bytes that are held.
+fn block(r: &mut Regions, rng: &mut Rng, header: u8, time: u32) -> [u8; 15] {
+    let mut hkroot = rng.array::<15>();
+    hkroot[0] = header;
+    let (id, k) = (usize::from(hkroot[1] >> 4), usize::from(hkroot[1] & 15));
+    if !rng.once_in(3) {
+        let count = rng.range(7, 16);
+        let first = &mut r.blocks[208 * id];
+        *first = *first & 15 | ((count - 6) << 4) as u8;
+        r.present[id] = ((1u32 << count) - 1) as u16 & !(1 << k);
+        (r.headers[id], r.since[id]) = (header, time);
+        hkroot[2..].copy_from_slice(&r.blocks[208 * id + 13 * k..][..13]);
+    }
+    hkroot
+}
+
+/// A sub-frame near the root and the held key, so that the definitions, which walk anew for each tag, do not
+/// walk far.
+fn subframe(r: &mut Regions, rng: &mut Rng) -> Call {
+    r.numbers[0] %= 200;
+    let week = u16::from_be_bytes([r.chain[4] & 15, r.chain[5]]);
+    let root = 604_800 * u64::from(week) + 3_600 * u64::from(r.chain[6]);
+    let mut time = Gst::from_seconds(root + 30 * rng.below(3)).0;
+    let prn = draw::prn(rng);
+    if rng.once_in(8) {
+        time ^= 1 << rng.below(32);
+        r.chain[0] = 2;
+    }
+    for clock in &mut r.clocks {
+        *clock = (*clock).min(time.saturating_sub(rng.below(2) as u32));
+    }
+    let header = match rng.below(4) {
+        0 => rng.number() as u8,
+        _ => (rng.range(1, 2) << 6) as u8 | r.chain[1] >> 6 << 4,
+    };
+    let hkroot = block(r, rng, header, time);
+    let any = rng.array();
+    let right = (!rng.once_in(4))
+        .then(|| section(r, rng, prn, time))
+        .flatten();
+    let fields = match rng.below(16) {
+        0 => [0; 75],
+        _ => subframe::join(&hkroot, &right.unwrap_or(any)),
+    };
+    Call::Subframe { prn, time, fields }
+}
+
+/// What a call gives: its number, the bytes read and the numbers read; of a sub-frame the count of records,
+/// the record area, and the numbers of both halves.
 type Given = (u64, Vec<u8>, [u64; 2]);
+
+/// What is in the record area before a sub-frame.
+const AREA: [u8; 3240] = [0x5A; 3240];
 
 fn by_core(r: &mut Regions, call: &Call) -> Given {
     let mut lent = r.lend();
@@ -124,6 +205,11 @@ fn by_core(r: &mut Regions, call: &Call) -> Given {
             ))
         }
         Call::Word { prn, time, word } => told(lent.word(*prn, *time, word)),
+        Call::Subframe { prn, time, fields } => {
+            let (mut area, mut hkroot, mut mack) = (AREA, 17, 17);
+            let count = lent.subframe(&mut area, *prn, *time, fields, &mut hkroot, &mut mack);
+            (count.into(), area.to_vec(), [hkroot.into(), mack.into()])
+        }
         Call::Verdict {
             good,
             key_id,
@@ -163,6 +249,11 @@ fn by_rules(run: &mut rules::Run, call: &Call) -> Given {
             ))
         }
         Call::Word { prn, time, word } => told(run.word(*prn, *time, word)),
+        Call::Subframe { prn, time, fields } => {
+            run.lend_area(&AREA);
+            let told = run.subframe(*prn, *time, fields);
+            (told.records as u64, run.area(), [told.hkroot, told.mack])
+        }
         Call::Verdict {
             good,
             key_id,
@@ -181,6 +272,18 @@ fn by_rules(run: &mut rules::Run, call: &Call) -> Given {
     }
 }
 
+// A core's regions have the lengths that the definitions name.
+#[test]
+fn lengths_of_the_regions() {
+    let crates = Path::new(env!("CARGO_MANIFEST_DIR")).join("../../crates");
+    let lengths = with_large_stack(|| {
+        let rules = Rules::load(&crates, Hashes::Portable).unwrap_or_else(|e| panic!("{e}"));
+        rules.lengths()
+    });
+    let regions = Regions::zeroed();
+    assert_eq!(lists(&regions).map(|region| region.len()), lengths);
+}
+
 #[test]
 fn any_contents() {
     let crates = Path::new(env!("CARGO_MANIFEST_DIR")).join("../../crates");
@@ -189,19 +292,20 @@ fn any_contents() {
         let mut rng = Rng::new(11);
         let tree = draw::tree(&mut rng);
         let states = driver::states(11, 2).unwrap_or_else(|error| panic!("{error}"));
-        let mut answers: BTreeMap<(&str, u64), u64> = BTreeMap::new();
+        let mut answers: BTreeMap<(Kind, [u64; 2]), u64> = BTreeMap::new();
         for at in 0..CALLS {
             let mut regions = match rng.below(8) {
                 0 => garbage(&mut rng),
-                _ => rng.pick(&states).core.regions().clone(),
+                _ => rng.pick(&states).twin.core.regions().clone(),
             };
             spoil(&mut regions, &mut rng);
-            let call = match rng.below(8) {
+            let call = match rng.below(12) {
                 0 if rng.once_in(2) => Call::Start(draw::bad_settings(&mut rng, &tree)),
                 0 => Call::Start(draw::settings(&mut rng, &tree)),
                 1 => Call::ReadSet(draw::prn(&mut rng)),
                 2 => Call::ReadMessage,
                 3 | 4 => draw::word(&mut rng, &Receiver::new()),
+                5..=8 => subframe(&mut regions, &mut rng),
                 _ => {
                     offer(&mut regions, &mut rng);
                     verdict(&regions, &mut rng)
@@ -211,7 +315,11 @@ fn any_contents() {
             let (given, right) = (by_core(&mut regions, &call), by_rules(&mut run, &call));
             assert_eq!(given, right, "call {at}: {call:?}");
             assert!(lists(&regions) == run.regions(), "call {at}: {call:?}");
-            *answers.entry((KINDS[call.kind()], given.0)).or_default() += 1;
+            let numbers = match call {
+                Call::Subframe { .. } => given.2,
+                _ => [given.0, 0],
+            };
+            *answers.entry((call.kind(), numbers)).or_default() += 1;
         }
         answers
     });

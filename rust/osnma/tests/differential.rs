@@ -1,21 +1,19 @@
-//! The core against the second receiver: the same calls into both, and after each the answer, the
-//! reads, and every byte of every region. Sub-frames go to the second receiver alone; the core gets
-//! the regions that its state stands for.
+//! The core against the second receiver: the same calls into both, and after each the answers, the tag
+//! records, the reads, and every byte of every region and of the record area.
 
 mod common;
 
 use common::driver::{replay, Driver, Tally};
 use common::expected::difference;
 use common::loose::{parts, refused, REGIONS, WRONG};
-use common::twin::{garbage, Call, Twin};
+use common::twin::{garbage, Answer, Call, Twin};
 use common::{draw, driver};
 use osnma::regions::Regions;
 use osnma::{Core, Gst, Refusal};
 use signal::rng::Rng;
 use signal::scenario;
 
-/// Runs of long key walks, which take the second receiver seconds and bring the calls here no other
-/// states.
+/// Runs of long key walks, which take seconds.
 const LONG: [&str; 4] = ["sections", "gaps", "held_key", "gap_full"];
 
 const CALLS: u64 = if cfg!(debug_assertions) {
@@ -29,7 +27,7 @@ fn replay_named(long: bool) -> Tally {
     for scenario in scenario::all() {
         if LONG.contains(&scenario.name) == long {
             let run = scenario.run(scenario::SEED);
-            let each = |_: &Twin, _: &mut Rng| Ok(());
+            let each = |_: &Twin, _: usize, _: &mut Rng| Ok(());
             if let Err(error) = replay(&run.bytes, &mut Rng::new(1), &mut tally, each) {
                 panic!("{}: {error}", run.name);
             }
@@ -39,14 +37,24 @@ fn replay_named(long: bool) -> Tally {
     tally
 }
 
-// Starts, words and verdicts of every named run, in the states that its sub-frames bring about.
+// Every named run. Every number that a call can answer comes, but for 1, which `wrong_lengths` has, and those of reads, which
+// are made after each call; so does every outcome, and an area full of records.
 #[test]
 fn named_runs() {
-    assert!(replay_named(false).calls > 10_000);
+    let tally = replay_named(false);
+    assert!(tally.calls > 10_000);
+    let not_here = |name: &String| name.ends_with(" 1") || name.starts_with("Read");
+    let missing: Vec<String> = tally
+        .missing_answers()
+        .into_iter()
+        .filter(|name| !not_here(name))
+        .collect();
+    assert_eq!(missing, ["MACK 13"; 0], "never came");
+    assert_eq!(tally.records, 270);
 }
 
 #[test]
-#[ignore = "takes long without optimisation"]
+#[cfg_attr(debug_assertions, ignore = "takes long without optimisation")]
 fn long_named_runs() {
     assert!(replay_named(true).calls > 100);
 }
@@ -71,7 +79,7 @@ fn wrong_lengths() {
     let tree = draw::tree(&mut rng);
     let states = driver::states(3, 0).unwrap_or_else(|error| panic!("{error}"));
     for round in 0..40 {
-        let twin = rng.pick(&states).clone();
+        let twin = rng.pick(&states).twin.clone();
         let receiver = &twin.receiver;
         let mut calls = vec![
             Call::Start(draw::settings(&mut rng, &tree)),
@@ -82,6 +90,7 @@ fn wrong_lengths() {
         ];
         calls.extend((0..2).map(|_| draw::word(&mut rng, receiver)));
         calls.extend((0..2).map(|_| draw::verdict(&mut rng, receiver)));
+        calls.extend((0..2).map(|_| draw::subframe(&mut rng, receiver)));
         let regions = match round % 4 {
             0 => garbage(&mut rng),
             _ => twin.core.regions().clone(),
@@ -105,9 +114,13 @@ fn starts_on_any_bytes() {
     for round in 0..400 {
         let mut twin = Twin::new(&mut rng);
         let refused = Call::Start(draw::bad_settings(&mut rng, &tree));
-        assert_eq!(twin.call(&refused, 1), Ok(2), "round {round}");
+        assert_eq!(twin.call(&refused, 1), Ok(Answer::from(2)), "round {round}");
         let accepted = Call::Start(draw::settings(&mut rng, &tree));
-        assert_eq!(twin.call(&accepted, 1), Ok(0), "round {round}");
+        assert_eq!(
+            twin.call(&accepted, 1),
+            Ok(Answer::from(0)),
+            "round {round}"
+        );
     }
 }
 
@@ -143,7 +156,7 @@ fn one_bit_changed_is_seen() {
     let mut rng = Rng::new(6);
     let states = driver::states(6, 0).unwrap_or_else(|error| panic!("{error}"));
     for state in &states {
-        let mut twin = state.clone();
+        let mut twin = state.twin.clone();
         assert_eq!(twin.compare(), Ok(()));
         macro_rules! changed {
             ($($name:ident)*) => {
@@ -159,8 +172,8 @@ fn one_bit_changed_is_seen() {
             };
         }
         changed!(
-            config clocks words stamps blocks headers marks since
-            keys offer chain numbers key waiting sets arrivals
+            config clocks words stamps blocks headers present since
+            pubkeys offer chain numbers heldkey waiting sets arrivals
         );
     }
     let zeroed = Regions::zeroed();
@@ -175,8 +188,8 @@ fn one_bit_changed_is_seen() {
         };
     }
     every!(
-        config clocks words stamps blocks headers marks since
-        keys offer chain numbers key waiting sets arrivals
+        config clocks words stamps blocks headers present since
+        pubkeys offer chain numbers heldkey waiting sets arrivals
     );
 }
 
@@ -186,7 +199,7 @@ fn a_call_does_not_hide_a_change() {
     let mut rng = Rng::new(7);
     let states = driver::states(7, 0).unwrap_or_else(|error| panic!("{error}"));
     for state in &states {
-        let mut twin = state.clone();
+        let mut twin = state.twin.clone();
         let place = rng.below(21504) as usize;
         twin.core.regions_mut().waiting[place] ^= 1;
         let call = Call::ReadSet(rng.range(1, 36) as u8);

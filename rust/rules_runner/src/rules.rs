@@ -14,9 +14,24 @@ pub const RECORD_LEN: usize = 12;
 /// The sixteen regions of a state, in the order of crates/rules/specs/State.antt.
 pub type Regions = [Vec<u64>; 16];
 
-/// Elements of each region.
-const COUNTS: [usize; 16] = [
-    63, 73, 2880, 180, 3328, 16, 16, 16, 1088, 179, 45, 2, 32, 21504, 2484, 36,
+/// The definitions of crates/rules/specs/State.antt that name the regions' lengths.
+const LENGTHS: [&str; 16] = [
+    "configLength",
+    "clocksLength",
+    "wordsLength",
+    "stampsLength",
+    "blocksLength",
+    "dsmIds",
+    "dsmIds",
+    "dsmIds",
+    "pubkeysLength",
+    "offerLength",
+    "chainLength",
+    "numbersLength",
+    "heldkeyLength",
+    "waitingLength",
+    "setsLength",
+    "satellites",
 ];
 
 pub struct Rules {
@@ -126,25 +141,25 @@ impl Rules {
     /// The state that regions stand for.
     fn state(&self, regions: &Regions) -> Value {
         let list = |at: usize| Value::List(List::of_numbers(regions[at].clone()));
-        let nav = self.record(vec![("words", list(2)), ("times", list(3))]);
+        let nav = self.record(vec![("words", list(2)), ("stamps", list(3))]);
         let store = self.record(vec![
             ("blocks", list(4)),
             ("headers", list(5)),
-            ("marks", list(6)),
-            ("times", list(7)),
+            ("present", list(6)),
+            ("since", list(7)),
         ]);
         let tesla = self.record(vec![
             ("numbers", list(11)),
             ("key", list(12)),
             ("waiting", list(13)),
         ]);
-        let auth = self.record(vec![("sets", list(14)), ("times", list(15))]);
+        let auth = self.record(vec![("sets", list(14)), ("arrivals", list(15))]);
         self.record(vec![
             ("config", list(0)),
             ("clocks", list(1)),
             ("nav", nav),
             ("store", store),
-            ("keys", list(8)),
+            ("pubkeys", list(8)),
             ("offer", list(9)),
             ("chain", list(10)),
             ("tesla", tesla),
@@ -152,12 +167,21 @@ impl Rules {
         ])
     }
 
-    /// The bytes of a public key of a type (01, "a key of 29, 33, 49 or 67 bytes").
-    pub fn key_len(&self, key_type: u64) -> usize {
-        match self.call("rules.Keys.keyLength", vec![Value::Number(key_type)]) {
-            Value::Number(len) => len as usize,
+    fn size(&self, name: &str, arguments: Vec<Value>) -> usize {
+        match self.call(name, arguments) {
+            Value::Number(size) => size as usize,
             value => panic!("{value:?} is no number"),
         }
+    }
+
+    /// Elements of each region.
+    pub fn lengths(&self) -> [usize; 16] {
+        LENGTHS.map(|name| self.size(&format!("rules.State.{name}"), Vec::new()))
+    }
+
+    /// The bytes of a public key of a type (01, "a key of 29, 33, 49 or 67 bytes").
+    pub fn key_len(&self, key_type: u64) -> usize {
+        self.size("rules.PublicKeys.keyLength", vec![Value::Number(key_type)])
     }
 
     /// SHA-256 and HMAC-SHA-256 as they are defined.
@@ -171,7 +195,7 @@ impl Rules {
 
     /// A run from zeros, before any start.
     pub fn run(&self) -> Run<'_> {
-        let run = self.run_on(&COUNTS.map(|count| vec![0; count]));
+        let run = self.run_on(&self.lengths().map(|length| vec![0; length]));
         let shaped = self.call("rules.State.shaped", vec![run.state.clone()]);
         assert!(matches!(shaped, Value::Bool(true)), "a region's length");
         run
@@ -205,19 +229,19 @@ impl Run<'_> {
             region(&["config"]),
             region(&["clocks"]),
             region(&["nav", "words"]),
-            region(&["nav", "times"]),
+            region(&["nav", "stamps"]),
             region(&["store", "blocks"]),
             region(&["store", "headers"]),
-            region(&["store", "marks"]),
-            region(&["store", "times"]),
-            region(&["keys"]),
+            region(&["store", "present"]),
+            region(&["store", "since"]),
+            region(&["pubkeys"]),
             region(&["offer"]),
             region(&["chain"]),
             region(&["tesla", "numbers"]),
             region(&["tesla", "key"]),
             region(&["tesla", "waiting"]),
             region(&["auth", "sets"]),
-            region(&["auth", "times"]),
+            region(&["auth", "arrivals"]),
         ]
     }
 
@@ -284,6 +308,11 @@ impl Run<'_> {
             mack: self.rules.number(&told, "mack"),
             records: self.rules.number(&told, "count") as usize,
         }
+    }
+
+    /// The area of tag records that is lent to sub-frames, with any length and contents.
+    pub fn lend_area(&mut self, area: &[u8]) {
+        self.area = list(area);
     }
 
     /// The lent area of tag records as the last sub-frame left it.

@@ -71,10 +71,10 @@ pub struct DsmStore {
 
 impl DsmStore {
     /// The blocks present, marked in sixteen bits: block 0 is the lowest.
-    pub fn marks(&self) -> u16 {
+    pub fn present(&self) -> u16 {
         (0..16)
             .filter(|&id| self.blocks[id].is_some())
-            .fold(0, |marks, id| marks | 1 << id)
+            .fold(0, |present, id| present | 1 << id)
     }
 
     /// The number of blocks told by the block 0 held.
@@ -128,7 +128,7 @@ impl DsmStore {
         self.header = Some(new.header);
         if self
             .count()
-            .is_some_and(|count| self.marks().count_ones() == u32::from(count))
+            .is_some_and(|count| self.present().count_ones() == u32::from(count))
         {
             let whole = std::mem::take(self);
             let bytes = whole

@@ -2,8 +2,8 @@
 
 use crate::bits::take;
 use crate::gather::{least_count, BLOCK_LEN};
-use crate::keys::{signature_len, PublicKeys};
 use crate::numbers::{Number, KEY_NOT_HELD, WRONG_PARAMETER, WRONG_SIZE};
+use crate::public_keys::{signature_len, PublicKeys};
 use crate::times::RootTime;
 use crate::verdict::WaitingMessage;
 

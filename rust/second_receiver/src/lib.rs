@@ -7,9 +7,9 @@
 //! - `numbers`: the numbers that calls return;
 //! - `bits`: bit strings read from and written to bytes;
 //! - `times`: GST_SF, seconds, key slots;
-//! - `words`: I/NAV words 1 to 5 of each satellite and the 549 authenticated bits;
+//! - `navdata`: I/NAV words 1 to 5 of each satellite and the 549 authenticated bits;
 //! - `gather`: DSM blocks gathered into whole messages;
-//! - `keys`: the public keys held;
+//! - `public_keys`: the public keys held;
 //! - `kroot`, `pkr`: the two kinds of DSM, read and judged;
 //! - `chain`: the TESLA chain in force and its key walk;
 //! - `verdict`: the message that waits and what a verdict on it does;
@@ -23,16 +23,16 @@
 pub mod bits;
 pub mod chain;
 pub mod gather;
-pub mod keys;
 pub mod kroot;
 pub mod mack;
+pub mod navdata;
 pub mod numbers;
 pub mod pkr;
+pub mod public_keys;
 pub mod receiver;
 pub mod replay;
 pub mod tags;
 pub mod times;
 pub mod verdict;
-pub mod words;
 
 pub use receiver::{Receiver, SetAnswer, SubframeAnswer, WaitingAnswer};

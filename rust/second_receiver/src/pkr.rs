@@ -2,8 +2,8 @@
 //! HKROOT).
 
 use crate::gather::{least_count, BLOCK_LEN};
-use crate::keys::{key_len, PublicKey};
 use crate::numbers::{Number, WRONG_NODES, WRONG_SIZE};
+use crate::public_keys::{key_len, PublicKey};
 use portable_hash::sha256;
 
 pub const NODE_LEN: usize = 32;

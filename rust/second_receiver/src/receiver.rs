@@ -2,16 +2,16 @@
 
 use crate::chain::Chain;
 use crate::gather::{nma_status, Dsm, DsmStore, Gathered, Hkroot, HKROOT_LEN};
-use crate::keys::{is_key_id, key_len, PublicKey, PublicKeys, MAX_KEY_LEN};
 use crate::kroot;
 use crate::mack::{self, Layout, Section, SECTION_LEN};
+use crate::navdata::{svid, word_type, SatelliteWords, Words, SET_LEN, WORD_LEN};
 use crate::numbers::*;
 use crate::pkr::{self, Proved, NODE_LEN};
+use crate::public_keys::{is_key_id, key_len, PublicKey, PublicKeys, MAX_KEY_LEN};
 use crate::tags::{AuthenticSet, AuthenticSets, Marks, ProvedSection, Record};
 use crate::tags::{WaitingTag, MARKS, RECORD_LEN};
 use crate::times::{is_prn, Gst, RootTime, SATELLITES};
 use crate::verdict::{filled, Vouched, WaitingMessage, MESSAGE_LEN, SIGNATURE_LEN};
-use crate::words::{svid, word_type, SatelliteWords, Words, SET_LEN, WORD_LEN};
 
 /// The authentication fields of a sub-frame: 15 of five bytes.
 pub const FIELDS_LEN: usize = 75;

@@ -1,12 +1,12 @@
 //! The replay program: 256-byte records in, lines out (01, "The replay program").
 
-use crate::keys::{key_len, MAX_KEY_LEN};
+use crate::navdata::SET_LEN;
 use crate::numbers::{Number, ACCEPTED, OUT_OF_RANGE, WRONG_LENGTH};
+use crate::public_keys::{key_len, MAX_KEY_LEN};
 use crate::receiver::{Receiver, SubframeAnswer, RECORDS_LEN};
 use crate::tags::RECORD_LEN;
 use crate::times::SATELLITES;
 use crate::verdict::{MESSAGE_LEN, SIGNATURE_LEN};
-use crate::words::SET_LEN;
 use std::io::{self, Read, Write};
 
 pub const INPUT_LEN: usize = 256;

@@ -4,8 +4,8 @@
 use crate::bits::{take, BitString};
 use crate::chain::Chain;
 use crate::mack::{Field, Section};
+use crate::navdata::{NavSet, Words};
 use crate::times::{is_prn, Gst, Slots, SATELLITES, SUBFRAME_SECONDS};
-use crate::words::{NavSet, Words};
 use portable_hash::HmacKey;
 use std::collections::BTreeMap;
 

@@ -2,9 +2,9 @@
 
 use crate::chain::Chain;
 use crate::gather::{header_cid, nma_status};
-use crate::keys::{PublicKeys, MAX_SIGNATURE_LEN};
 use crate::kroot::RootFields;
 use crate::numbers::{Number, NOT_NEWER, NO_CHAIN};
+use crate::public_keys::{PublicKeys, MAX_SIGNATURE_LEN};
 use crate::tags::WaitingTag;
 use crate::times::RootTime;
 

@@ -8,13 +8,13 @@ use common::*;
 use portable_hash::{hmac_sha256, sha256};
 use second_receiver::chain::TeslaKey;
 use second_receiver::gather::header_cid;
-use second_receiver::keys::PublicKey;
 use second_receiver::kroot::RootFields;
 use second_receiver::mack::{Field, Section};
+use second_receiver::navdata::NavSet;
 use second_receiver::pkr::{self, tree_root, Proved};
+use second_receiver::public_keys::PublicKey;
 use second_receiver::tags::{ProvedSection, Tag};
 use second_receiver::times::{Gst, RootTime};
-use second_receiver::words::NavSet;
 
 // Table 24 from the seed key, K414721, down to KROOT.
 #[test]

@@ -13,8 +13,8 @@ fn block_0(count: u8) -> [u8; 13] {
     block
 }
 
-fn marks(bench: &Bench, id: u8) -> u16 {
-    bench.receiver.dsm(id).unwrap().marks()
+fn present(bench: &Bench, id: u8) -> u16 {
+    bench.receiver.dsm(id).unwrap().present()
 }
 
 fn times(bench: &Bench, id: u8) -> Vec<u32> {
@@ -32,7 +32,7 @@ fn two_blocks() -> Bench {
     let mut bench = Bench::started(&Start::default());
     assert_eq!(bench.block(1, T, HEADER, (2, 1), &[1; 13]), 0);
     assert_eq!(bench.block(1, later(T, 1), HEADER, (2, 2), &[2; 13]), 0);
-    assert_eq!(marks(&bench, 2), 0b110);
+    assert_eq!(present(&bench, 2), 0b110);
     bench
 }
 
@@ -42,7 +42,7 @@ fn old_blocks_are_dropped() {
     for (moved, after) in [(120, 0b1110), (121, 0b1000)] {
         let mut bench = two_blocks();
         assert_eq!(bench.block(1, later(T, moved), HEADER, (2, 3), &[3; 13]), 0);
-        assert_eq!(marks(&bench, 2), after, "after {moved} sub-frames");
+        assert_eq!(present(&bench, 2), after, "after {moved} sub-frames");
     }
     // Over a change of week.
     let week_end = gst(1000, 604_770);
@@ -50,15 +50,15 @@ fn old_blocks_are_dropped() {
         let mut bench = Bench::started(&Start::default());
         bench.block(1, week_end, HEADER, (2, 1), &[1; 13]);
         bench.block(1, later(week_end, moved), HEADER, (2, 2), &[2; 13]);
-        assert_eq!(marks(&bench, 2), after, "after {moved} sub-frames");
+        assert_eq!(present(&bench, 2), after, "after {moved} sub-frames");
     }
     // Other IDs are not looked at, and a repeat is judged too.
     let mut bench = two_blocks();
     bench.block(1, later(T, 200), HEADER, (3, 1), &[3; 13]);
-    assert_eq!(marks(&bench, 2), 0b110);
+    assert_eq!(present(&bench, 2), 0b110);
     bench.block(2, later(T, 200), HEADER, (2, 1), &[1; 13]);
     assert_eq!(
-        (marks(&bench, 2), times(&bench, 2)),
+        (present(&bench, 2), times(&bench, 2)),
         (0b10, vec![later(T, 200)])
     );
 }
@@ -72,7 +72,7 @@ fn a_repeat_keeps_its_first_time() {
     // So block 1 is old at T + 3630.
     assert_eq!(bench.block(1, later(T, 121), HEADER, (2, 2), &[2; 13]), 0);
     assert_eq!(
-        (marks(&bench, 2), times(&bench, 2)),
+        (present(&bench, 2), times(&bench, 2)),
         (0b100, vec![later(T, 121)])
     );
 }
@@ -85,7 +85,7 @@ fn another_header_drops() {
             bench.block(2, later(T, 1), HEADER ^ 1 << bit, (2, 3), &[3; 13]),
             0
         );
-        assert_eq!(marks(&bench, 2), 0b1000, "header bit {bit}");
+        assert_eq!(present(&bench, 2), 0b1000, "header bit {bit}");
         assert_eq!(
             bench.receiver.dsm(2).unwrap().header,
             Some(HEADER ^ 1 << bit)
@@ -96,12 +96,12 @@ fn another_header_drops() {
             bench.block(2, later(T, 1), HEADER ^ 1 << bit, (2, 2), &[2; 13]),
             0
         );
-        assert_eq!(marks(&bench, 2), 0b100, "header bit {bit}");
+        assert_eq!(present(&bench, 2), 0b100, "header bit {bit}");
     }
     // Each ID has a header of its own.
     let mut bench = two_blocks();
     bench.block(2, later(T, 1), HEADER ^ 1, (3, 3), &[3; 13]);
-    assert_eq!((marks(&bench, 2), marks(&bench, 3)), (0b110, 0b1000));
+    assert_eq!((present(&bench, 2), present(&bench, 3)), (0b110, 0b1000));
 }
 
 #[test]
@@ -112,7 +112,7 @@ fn other_bytes_drop() {
         block[byte] ^= 0x80;
         assert_eq!(bench.block(2, later(T, 1), HEADER, (2, 2), &block), 0);
         assert_eq!(
-            (marks(&bench, 2), times(&bench, 2)),
+            (present(&bench, 2), times(&bench, 2)),
             (0b100, vec![later(T, 1)]),
             "byte {byte}"
         );
@@ -130,7 +130,7 @@ fn other_bytes_drop() {
         0,
         "another block ID"
     );
-    assert_eq!(marks(&bench, 2), 0b1110);
+    assert_eq!(present(&bench, 2), 0b1110);
 }
 
 #[test]
@@ -145,7 +145,7 @@ fn a_count_not_above_every_id_drops() {
         let mut bench = Bench::started(&Start::default());
         bench.block(1, T, HEADER, (2, stored), &[1; 13]);
         assert_eq!(bench.block(2, T, HEADER, (2, 0), &block_0(count)), 0);
-        assert_eq!(marks(&bench, 2), after, "{stored} stored, {count} blocks");
+        assert_eq!(present(&bench, 2), after, "{stored} stored, {count} blocks");
     }
 }
 
@@ -157,7 +157,7 @@ fn too_high_is_called_after_the_drops() {
     // Another header, or age: the block 0 is gone, and the block is stored.
     let mut other = bench.clone();
     assert_eq!(other.block(2, T, HEADER ^ 1, (2, 9), &[9; 13]), 0);
-    assert_eq!(marks(&other, 2), 1 << 9);
+    assert_eq!(present(&other, 2), 1 << 9);
     let mut old = bench.clone();
     assert_eq!(
         old.clone()
@@ -165,7 +165,7 @@ fn too_high_is_called_after_the_drops() {
         6
     );
     assert_eq!(old.block(2, later(T, 121), HEADER, (2, 9), &[9; 13]), 0);
-    assert_eq!(marks(&old, 2), 1 << 9);
+    assert_eq!(present(&old, 2), 1 << 9);
 }
 
 #[test]
@@ -216,12 +216,12 @@ fn a_dsm_from_several_satellites() {
     );
     assert_eq!(waiting.signature, [9; 64]);
     assert_eq!(
-        (marks(&bench, 9), bench.receiver.dsm(9).unwrap().header),
+        (present(&bench, 9), bench.receiver.dsm(9).unwrap().header),
         (0, None)
     );
     // The next block begins anew.
     assert_eq!(bench.block(8, T, HEADER ^ 1, (9, 4), blocks[4]), 0);
-    assert_eq!(marks(&bench, 9), 1 << 4);
+    assert_eq!(present(&bench, 9), 1 << 4);
 }
 
 // A newer message replaces the one that waits; a refused one leaves it. IDs 0 to 11 are DSM-KROOT.

@@ -644,7 +644,7 @@ fn number_7_key_not_held() {
             number,
             "key {id}"
         );
-        assert_eq!(bench.receiver.dsm(4).unwrap().marks(), 0, "taken out");
+        assert_eq!(bench.receiver.dsm(4).unwrap().present(), 0, "taken out");
         assert_eq!(bench.receiver.waiting_message().is_some(), number == 0);
     }
 }

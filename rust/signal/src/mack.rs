@@ -2,9 +2,9 @@
 
 use crate::bits;
 use crate::chain::{Chain, Params};
+use crate::navdata::Authenticated;
 use crate::subframe::Mack;
 use crate::time::Gst;
-use crate::words::Authenticated;
 use portable_hash::HmacKey;
 use std::ops::Range;
 
@@ -272,7 +272,7 @@ impl TagKeys<'_> {
 #[cfg(test)]
 mod tests {
     use super::*;
-    use crate::words::NavSet;
+    use crate::navdata::NavSet;
     use portable_hash::hmac_sha256;
 
     fn hex(bytes: &[u8]) -> String {

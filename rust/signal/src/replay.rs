@@ -1,9 +1,9 @@
 //! Records of the replay program and runs of them (01, The replay program).
 
 use crate::mack::Marks;
+use crate::navdata::{Authenticated, Word};
 use crate::subframe::Field;
 use crate::time::Gst;
-use crate::words::{Authenticated, Word};
 
 /// Bytes of a record.
 pub const RECORD: usize = 256;

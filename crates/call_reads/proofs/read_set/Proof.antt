@@ -1,59 +1,68 @@
--- `call_reads::read_set` meets its contract: the checks of lengths, then `take_set` over the regions that it reads.
+-- `call_reads::read_set` meets its contract: each return is the rule's, by the first check that fails.
 -- Assumes nothing.
-use mathlib.Core.Path.{_≡_, refl, sym, _∙_}
+use mathlib.Core.Path.{_≡_, sym, _∙_}
 use mathlib.Core.Bool.{true}
+use Prim.Native.Nat.{_≤_}
 use denote.Ref.{now}
 use borrow.Author.Needs.{needs}
 use borrow.Author.Tests.{not-true, not-false}
-use Rattle.regions.proofs.Shapes.{lengths}
-use Rattle.rules.specs.State.{State, state, shaped}
-use Rattle.call_reads.proofs.Answers.{set-unshaped, out-misfit, set-lengths}
+use Rattle.rules.specs.State.{prnValid}
+use Rattle.call_reads.proofs.Answers.{set-unheard, set-missing, set-found}
 use Rattle.call_reads.proofs.read_set.Statement.{statement}
 use Rattle.call_reads.proofs.read_set.Tie as tie
 
--- the state of the sixteen lent regions
-abbrev whole : tie.Start → State
-whole c =
-    state (now (c .args .config)) (now (c .args .clocks)) (now (c .args .words)) (now (c .args .stamps)) (now (c .args .blocks)) (now (c .args .headers)) (now (c .args .present)) (now (c .args .since)) (now (c .args .pubkeys)) (now (c .args .offer)) (now (c .args .chain)) (now (c .args .numbers)) (now (c .args .heldkey)) (now (c .args .waiting)) (now (c .args .sets)) (now (c .args .arrivals))
+-- the PRN is heard
+heard : (c : tie.Else1) → prnValid (c .before .before .before .before .before .args .prn) ≡ true
+heard c = sym (c .before .prn-valid .ensures .0) ∙ not-false _ (c .if1 .left)
 
-abbrev start : tie.After-shaped → tie.Start
-start c = c .before .before .before .before .before .before .before .before .before .before .before .before .before .before .before .before .before .before
-
-shaped-is : (c : tie.After-shaped) → shaped (whole (start c)) ≡ c .shaped .result
-shaped-is c = sym (c .shaped .ensures)
-
--- every region has its length
-fits : (c : tie.Else1) → shaped (whole (start (c .before))) ≡ true
-fits c = shaped-is (c .before) ∙ not-false _ (c .if1 .left)
+in-range : (c : tie.After-index) → (1 ≤ c .index .result) × (c .index .result ≤ 36)
+in-range c = let i = c .before in rw (c .index .ensures .0) (i .before .prn-valid .ensures .1 (not-false _ (i .if1 .left)))
 
 returns : tie.Need-returns
 returns c =
-    let g = start (c .before) in
-    set-unshaped (whole g) (g .args .prn) (now (g .args .out)) (shaped-is (c .before) ∙ not-true _ (c .if1 .taken))
+    let p = c .before .before .before .before .before in
+    λ s ea e. rw (p .pre .1 .0, p .pre .1 .1) (set-unheard s (p .args .prn) (now (p .args .out)) e (sym (c .before .prn-valid .ensures .0) ∙ not-true _ (c .if1 .taken)))
+
+stamp-of-requires : tie.Need-stamp-of-requires
+stamp-of-requires c κs = let k = in-range c in search (needs, k .0, k .1)
 
 returns-2 : tie.Need-returns-2
 returns-2 c =
-    let g = start (c .before .before) in
-    out-misfit (whole g) (g .args .prn) (now (g .args .out)) (fits (c .before)) (c .if2 .taken)
+    let i = c .before .before in
+    let p = i .before .before .before .before .before .before in
+    λ s ea e.
+    rw (p .pre .1 .0, p .pre .1 .1)
+    (set-missing s (p .args .prn) (now (p .args .out)) (now (p .args .sets)) (now (p .args .arrivals)) ea e (heard (i .before)) (c .before .stamp-of .result)
+    (rw (i .index .ensures .0) at (c .before .stamp-of .ensures (now (p .args .sets))))
+    (c .if2 .taken))
 
-take-set-requires : tie.Need-take-set-requires
-take-set-requires c κs =
-    let k = c .before .before .before .before in
-    let l = lengths (whole (start (k .before .before))) (fits (k .before)) in
-    (((l .sets, l .arrivals), k .if2 .left), (refl, refl))
+copy-set-requires : tie.Need-copy-set-requires
+copy-set-requires c κs = let k = in-range (c .before .before .before) in search (needs, k .0, k .1)
 
 returns-3 : tie.Need-returns-3
 returns-3 c =
-    let k = c .before .before .before .before .before .before .before in
-    let g = start (k .before .before) in
-    rw (← (c .before .before .before .before .before .before .index .ensures .0))
-    (c .before .before .take-set .ensures (whole g) refl (set-lengths (whole g) (g .args .prn) (now (g .args .out)) (fits (k .before)) (k .if2 .left)))
+    let t = c .before .before .before .before in
+    let z = t .before .before in
+    let i = z .before .before in
+    let p = i .before .before .before .before .before .before in
+    let stamp = z .before .stamp-of in
+    λ s ea e.
+    set-found s (p .args .prn) (now (p .args .out)) (now (p .args .sets)) (now (p .args .arrivals)) ea e
+    (heard (i .before))
+    (t .copy-set .last .1 .1 .0)
+    (c .set-issue .result)
+    (stamp .result)
+    (rw (i .index .ensures .0) at (t .copy-set .ensures (now (p .args .arrivals))))
+    (c .set-issue .ensures)
+    (rw (i .index .ensures .0) at (stamp .ensures (now (p .args .sets))))
+    (z .if2 .left)
 
 pub read-set-spec : {M : Type 1} → statement M
 read-set-spec =
     tie.close
     (tie.spec (λ c κs. search needs)
-    returns
-    returns-2 (λ c κs. search needs)
-    take-set-requires (λ c. search needs)
+    returns (λ c κs. search needs)
+    stamp-of-requires
+    returns-2
+    copy-set-requires (λ c κs. search needs) (λ c. search needs) (λ c. search needs)
     returns-3)

@@ -1,7 +1,6 @@
 -- `call_start_parts::clear_message` meets its contract. Assumes nothing.
 use denote.Ref.{now}
 use borrow.Author.Needs.{needs}
-use native.Mathlib.Omega.{arith}
 use Rattle.rules.specs.Kroot.{noOffer}
 use Rattle.call_start_parts.proofs.Cleared.{cleared}
 use Rattle.call_start_parts.proofs.clear_message.Statement.{statement}

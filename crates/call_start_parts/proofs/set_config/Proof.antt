@@ -1,8 +1,8 @@
 -- `call_start_parts::set_config` meets its contract: the parts stand one after the other and fill the region.
 -- Assumes nothing.
-use mathlib.Core.Path.{_≡_, sym, ap, _∙_}
+use mathlib.Core.Path.{_≡_, _∙_}
 use denote.Ref.{now}
-use lib.ListN.{length, set, length-set}
+use lib.ListN.{length, length-set}
 use borrow.Author.Needs.{needs}
 use native.Mathlib.Omega.{arith}
 use Rattle.call_start_parts.proofs.Cleared.{config-set}

@@ -1,15 +1,11 @@
 -- `call_verdict::judge_verdict` meets its contract: 2 and 4, and the checks against what waits.
 -- Assumes nothing.
-use mathlib.Core.Path.{ap}
-use mathlib.Core.List.{List}
-use Prim.Native.Nat.{ℕ}
-use lib.ListN.{getD}
 use denote.Ref.{now}
 use native.Mathlib.Omega.{arith}
-use borrow.Author.Tests.{eq-eqb, ne-eqb}
-use Rattle.rules.specs.State.{State, stopped, macltOf}
+use Rattle.rules.specs.State.{State}
 use Rattle.rules.specs.Verdict as S
-use Rattle.call_verdict.specs.Trusted.{tesla, trusted}
+use Rattle.regions.specs.Tesla.{tesla}
+use Rattle.call_verdict.specs.Trusted.{trusted}
 use Rattle.call_verdict.proofs.Effects.{not-a-verdict, not-an-id, is-stopped, judged}
 use borrow.Author.Needs.{needs}
 use Rattle.call_verdict.proofs.judge_verdict.Statement.{statement}
@@ -36,27 +32,25 @@ returns-2 c =
     λ s e l. not-an-id (lent g s) (verdict g) l (omega arith) (omega arith)
 
 returns-3 : tie.Need-returns-3
-unfolding stopped
 returns-3 c =
     let g = c .before .before .before .before .before .before .before .before .before .before .before .before .before in
-    λ s e l. is-stopped (lent g s) (verdict g) l (omega arith) (omega arith) (rw (e, ne-eqb _ 0 (c .if3 .taken)))
+    λ s e l. is-stopped (lent g s) (verdict g) l (omega arith) (omega arith) (rw (e, ← (c .before .stopped .ensures)) (c .if3 .taken))
 
 returns-4 : tie.Need-returns-4
-unfolding stopped macltOf
 returns-4 c =
     let n = c .before .before .before .before .before .before .before .before .before .before .before .before in
-    let k = n .before .before .before .before .before .before .before .before in
+    let k = n .before .before .before .before .before .before .before in
     let i = k .before .before in
     let g = i .before .before .before .before .before .before .before .before .before .before .before in
     λ s e l.
-    let j = n .judge-named .ensures s (ap (λ (x : List ℕ). getD x 1 0) e) in
-    judged (lent g s) (verdict g) l (i .before .if1 .left) (i .if2 .left) _ _ (rw (e, eq-eqb _ 0 (k .if3 .left))) (j .0) (j .1)
+    let j = n .judge-named .ensures s e in
+    judged (lent g s) (verdict g) l (i .before .if1 .left) (i .if2 .left) _ _ (rw (e, ← (k .before .stopped .ensures)) (k .if3 .left)) (j .0) (j .1)
 
 pub judge-verdict-spec : {M : Type 1} → statement M
 judge-verdict-spec =
     tie.close
     (tie.spec
     returns
-    returns-2 (λ c. search needs)
-    returns-3 (λ c. search needs) (λ c κs. search needs) (λ c. search needs) (λ c. search needs) (λ c. search needs) (λ c. search needs) (λ c. search needs) (λ c. search needs)
+    returns-2 (λ c κs. search needs)
+    returns-3 (λ c κs. search needs) (λ c. search needs) (λ c. search needs) (λ c. search needs) (λ c. search needs) (λ c. search needs) (λ c. search needs)
     returns-4)

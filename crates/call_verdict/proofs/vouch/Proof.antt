@@ -12,7 +12,7 @@ use Rattle.call_verdict.proofs.vouch.Tie as tie
 returns : tie.Need-returns
 unfolding S.messageHeader
 returns c =
-    let g = c .before .before .before .before .before .before .before .before .before .args in
+    let g = c .before .before .before .before .before .before .before .before .before .before .args in
     λ s good signature m k e t.
     dropped s (record { good = good; id = g .id; message = now (g .message); signature = signature }) _ _ _ k e t (sym (c .before .status-of .ensures) ∙ c .if1 .taken)
 
@@ -22,7 +22,7 @@ returns-2 c =
     let n = c .before .before .before .before .before .before .before .before in
     let d = n .before .before .before .before .before .before .before .before in
     let i = d .before .before in
-    let g = i .before .before .before .before .before .before .before .before .before .args in
+    let g = i .before .before .before .before .before .before .before .before .before .before .args in
     λ s good signature m k e t.
     let r = n .renew .ensures s m e t in
     renewed s (record { good = good; id = g .id; message = now (g .message); signature = signature }) _ _ _ k e t _ _ _ (λ q. i .if1 .left (i .before .status-of .ensures ∙ q)) (d .drop-lower .ensures) (r .0) (r .1)

@@ -1,7 +1,6 @@
 -- `kroot::names_offer` meets its contract: each test is a part of the definition.
 -- Assumes nothing.
 use mathlib.Core.Path.{sym, _∙_}
-use mathlib.Core.Bool.{true, false}
 use borrow.Author.Tests.{not-true, not-false}
 use borrow.Author.Needs.{needs}
 use Rattle.kroot.proofs.Parameters.{names-none, names-other, names-message, names-all}

@@ -1,74 +1,120 @@
--- `osnma::osnma_regions_start` meets its contract: that of the core's start; each region keeps its length.
+-- `osnma::osnma_regions_start` meets its contract: a refusal changes nothing, and an accepted start writes every part of the state.
 -- Assumes nothing.
+use mathlib.Core.Path.{_≡_, refl}
+use denote.Ref.{now}
+use lib.ListN.{length}
 use borrow.Author.Needs.{needs}
+use Rattle.laws.specs.Refusal.{firstOf}
+use Rattle.regions.specs.Lengths.{Lengths}
+use Rattle.rules.specs.Calls as S
+use Rattle.rules.specs.State.{State, state}
+use Rattle.osnma.proofs.Lengths.{long-three}
+use Rattle.osnma.proofs.Started.{refused, accepted, all-written}
 use Rattle.osnma.proofs.osnma_regions_start.Statement.{statement}
 use Rattle.osnma.proofs.osnma_regions_start.Tie as tie
 
-same-length : tie.Need-same-length
-same-length c = c .before .before .before .before .before .before .before .before .before .before .before .before .before .before .before .before .before .before .before .before .before .before .before .before .before .before .before .before .before .before .before .before .start .kept .0
+-- the state of the sixteen lent regions
+abbrev whole : tie.Start → State
+whole c =
+    state (now (c .args .config)) (now (c .args .clocks)) (now (c .args .words)) (now (c .args .stamps)) (now (c .args .blocks)) (now (c .args .headers)) (now (c .args .present)) (now (c .args .since)) (now (c .args .pubkeys)) (now (c .args .offer)) (now (c .args .chain)) (now (c .args .numbers)) (now (c .args .heldkey)) (now (c .args .waiting)) (now (c .args .sets)) (now (c .args .arrivals))
 
-same-length-2 : tie.Need-same-length-2
-same-length-2 c = c .before .before .before .before .before .before .before .before .before .before .before .before .before .before .before .before .before .before .before .before .before .before .before .before .before .before .before .before .before .before .before .before .start .kept .1 .0
+-- the settings that are lent
+abbrev given : tie.Start → S.Start
+given c =
+    record { ns = c .args .ns; id = c .args .id; type = c .args .kind; maclt = c .args .maclt; marks = now (c .args .marks); root = now (c .args .root); key = now (c .args .pubkey) }
 
-same-length-3 : tie.Need-same-length-3
-same-length-3 c = c .before .before .before .before .before .before .before .before .before .before .before .before .before .before .before .before .before .before .before .before .before .before .before .before .before .before .before .before .before .before .before .before .start .kept .1 .1 .0
+abbrev start : tie.After-shaped → tie.Start
+start c = c .before .before .before .before .before .before .before .before .before .before .before .before .before .before .before .before .before .before .before .before .before .before .before .before .before .before .before .before .before .before .before .before .before .before .before .before
 
-same-length-4 : tie.Need-same-length-4
-same-length-4 c = c .before .before .before .before .before .before .before .before .before .before .before .before .before .before .before .before .before .before .before .before .before .before .before .before .before .before .before .before .before .before .before .before .start .kept .1 .1 .1 .0
+-- the number is that of the rule's checks
+number-is : (c : tie.After-start-refusal) → let g = start (c .before) in c .start-refusal .result ≡ firstOf (S.startChecks (whole g) (given g))
+unfolding S.startLengths
+number-is c =
+    let g = start (c .before) in
+    c .start-refusal .ensures .0 (whole g) (g .args .maclt) (now (g .args .root)) (now (g .args .pubkey)) (rw (← (c .before .shaped .ensures)))
 
-same-length-5 : tie.Need-same-length-5
-same-length-5 c = c .before .before .before .before .before .before .before .before .before .before .before .before .before .before .before .before .before .before .before .before .before .before .before .before .before .before .before .before .before .before .before .before .start .kept .1 .1 .1 .1 .0
+-- an accepted start has right lengths
+long : (c : tie.Else1) → let g = start (c .before .before) in Lengths (whole g) × ((length (now (g .args .marks)) ≡ 28) × ((length (now (g .args .root)) ≡ 32) × (length (now (g .args .pubkey)) ≡ 67)))
+long c =
+    let g = start (c .before .before) in
+    long-three (whole g) (now (g .args .marks)) (now (g .args .root)) (now (g .args .pubkey)) 28 32 67
+    (rw (← (c .before .before .shaped .ensures)) (c .before .start-refusal .ensures .1 (c .if1 .left) .0))
 
-same-length-6 : tie.Need-same-length-6
-same-length-6 c = c .before .before .before .before .before .before .before .before .before .before .before .before .before .before .before .before .before .before .before .before .before .before .before .before .before .before .before .before .before .before .before .before .start .kept .1 .1 .1 .1 .1 .0
+returns : tie.Need-returns
+returns c =
+    let g = start (c .before .before) in
+    refused (whole g) (given g) (c .before .start-refusal .result) (number-is (c .before)) (c .if1 .taken)
 
-same-length-7 : tie.Need-same-length-7
-same-length-7 c = c .before .before .before .before .before .before .before .before .before .before .before .before .before .before .before .before .before .before .before .before .before .before .before .before .before .before .before .before .before .before .before .before .start .kept .1 .1 .1 .1 .1 .1 .0
+start-refusal-requires : tie.Need-start-refusal-requires
+start-refusal-requires c κs =
+    let g = start c in
+    λ e. (long-three (whole g) (now (g .args .marks)) (now (g .args .root)) (now (g .args .pubkey)) 28 32 67 (rw (← (c .shaped .ensures)) e)) .1 .0
 
-same-length-8 : tie.Need-same-length-8
-same-length-8 c = c .before .before .before .before .before .before .before .before .before .before .before .before .before .before .before .before .before .before .before .before .before .before .before .before .before .before .before .before .before .before .before .before .start .kept .1 .1 .1 .1 .1 .1 .1 .0
+install-settings-requires : tie.Need-install-settings-requires
+install-settings-requires c κs =
+    let i = c .before .before .before .before .before .before .before .before in
+    let l = long i in
+    (((l .0 .config, l .0 .clocks), (l .0 .words, l .0 .stamps)), (((l .0 .blocks, l .0 .headers), (l .0 .present, l .0 .since)), (l .1 .0, l .1 .1 .0)))
 
-same-length-9 : tie.Need-same-length-9
-same-length-9 c = c .before .before .before .before .before .before .before .before .before .before .before .before .before .before .before .before .before .before .before .before .before .before .before .before .before .before .before .before .before .before .before .before .start .kept .1 .1 .1 .1 .1 .1 .1 .1 .0
+install-key-requires : tie.Need-install-key-requires
+install-key-requires c κs =
+    let i = c .before .before .before .before .before .before .before .before .before .before .before .before .before .before .before .before .before .before .before .before .before .before .before .before .before .before .before .before .before .before .before .before .before in
+    let l = long i in
+    ((l .0 .pubkeys, (l .0 .offer, l .0 .chain)), ((l .0 .numbers, (l .0 .heldkey, l .0 .waiting)), ((l .0 .sets, l .0 .arrivals), (l .1 .1 .1, i .before .start-refusal .ensures .1 (i .if1 .left) .1))))
 
-same-length-10 : tie.Need-same-length-10
-same-length-10 c = c .before .before .before .before .before .before .before .before .before .before .before .before .before .before .before .before .before .before .before .before .before .before .before .before .before .before .before .before .before .before .before .before .start .kept .1 .1 .1 .1 .1 .1 .1 .1 .1 .0
+abbrev key : tie.After-slice-known32 → tie.After-install-key
+key c = c .before .before .before .before .before .before .before .before .before .before .before .before .before .before .before .before
 
-same-length-11 : tie.Need-same-length-11
-same-length-11 c = c .before .before .before .before .before .before .before .before .before .before .before .before .before .before .before .before .before .before .before .before .before .before .before .before .before .before .before .before .before .before .before .before .start .kept .1 .1 .1 .1 .1 .1 .1 .1 .1 .1 .0
+abbrev settings : tie.After-slice-known32 → tie.After-install-settings
+settings c = (key c) .before .before .before .before .before .before .before .before .before .before .before .before .before .before .before .before .before .before .before .before .before .before .before .before .before
 
-same-length-12 : tie.Need-same-length-12
-same-length-12 c = c .before .before .before .before .before .before .before .before .before .before .before .before .before .before .before .before .before .before .before .before .before .before .before .before .before .before .before .before .before .before .before .before .start .kept .1 .1 .1 .1 .1 .1 .1 .1 .1 .1 .1 .0
-
-same-length-13 : tie.Need-same-length-13
-same-length-13 c = c .before .before .before .before .before .before .before .before .before .before .before .before .before .before .before .before .before .before .before .before .before .before .before .before .before .before .before .before .before .before .before .before .start .kept .1 .1 .1 .1 .1 .1 .1 .1 .1 .1 .1 .1 .0
-
-same-length-14 : tie.Need-same-length-14
-same-length-14 c = c .before .before .before .before .before .before .before .before .before .before .before .before .before .before .before .before .before .before .before .before .before .before .before .before .before .before .before .before .before .before .before .before .start .kept .1 .1 .1 .1 .1 .1 .1 .1 .1 .1 .1 .1 .1 .0
-
-same-length-15 : tie.Need-same-length-15
-same-length-15 c = c .before .before .before .before .before .before .before .before .before .before .before .before .before .before .before .before .before .before .before .before .before .before .before .before .before .before .before .before .before .before .before .before .start .kept .1 .1 .1 .1 .1 .1 .1 .1 .1 .1 .1 .1 .1 .1 .0
-
-same-length-16 : tie.Need-same-length-16
-same-length-16 c = c .before .before .before .before .before .before .before .before .before .before .before .before .before .before .before .before .before .before .before .before .before .before .before .before .before .before .before .before .before .before .before .before .start .kept .1 .1 .1 .1 .1 .1 .1 .1 .1 .1 .1 .1 .1 .1 .1 .0
+returns-2 : tie.Need-returns-2
+returns-2 c =
+    let i = settings c .before .before .before .before .before .before .before .before .before in
+    let g = start (i .before .before) in
+    let t = (settings c) .install-settings .ensures in
+    let k = (key c) .install-key .ensures in
+    accepted (whole g) (given g) (i .before .start-refusal .result) (number-is (i .before)) (i .if1 .left) _
+    (all-written (given g) _ _ _ _ _ _ _ _ _ (t .0) (t .1) (k .0) (k .1))
 
 pub osnma-regions-start-spec : {M : Type 1} → statement M
 osnma-regions-start-spec =
     tie.close
     (tie.spec (λ c κs. search needs)
-    same-length
-    same-length-2
-    same-length-3
-    same-length-4
-    same-length-5
-    same-length-6
-    same-length-7
-    same-length-8
-    same-length-9
-    same-length-10
-    same-length-11
-    same-length-12
-    same-length-13
-    same-length-14
-    same-length-15
-    same-length-16 (λ c. search needs))
+    start-refusal-requires
+    (λ c. refl)
+    (λ c. refl)
+    (λ c. refl)
+    (λ c. refl)
+    (λ c. refl)
+    (λ c. refl)
+    (λ c. refl)
+    (λ c. refl)
+    (λ c. refl)
+    (λ c. refl)
+    (λ c. refl)
+    (λ c. refl)
+    (λ c. refl)
+    (λ c. refl)
+    (λ c. refl)
+    (λ c. refl)
+    returns
+    install-settings-requires
+    install-key-requires
+    (λ c. (settings c) .install-settings .kept .0)
+    (λ c. (settings c) .install-settings .kept .1 .0)
+    (λ c. (settings c) .install-settings .kept .1 .1 .0)
+    (λ c. (settings c) .install-settings .kept .1 .1 .1 .0)
+    (λ c. (settings c) .install-settings .kept .1 .1 .1 .1 .0)
+    (λ c. (settings c) .install-settings .kept .1 .1 .1 .1 .1 .0)
+    (λ c. (settings c) .install-settings .kept .1 .1 .1 .1 .1 .1 .0)
+    (λ c. (settings c) .install-settings .kept .1 .1 .1 .1 .1 .1 .1 .0)
+    (λ c. (key c) .install-key .kept .0)
+    (λ c. (key c) .install-key .kept .1 .0)
+    (λ c. (key c) .install-key .kept .1 .1 .0)
+    (λ c. (key c) .install-key .kept .1 .1 .1 .0)
+    (λ c. (key c) .install-key .kept .1 .1 .1 .1 .0)
+    (λ c. (key c) .install-key .kept .1 .1 .1 .1 .1 .0)
+    (λ c. (key c) .install-key .kept .1 .1 .1 .1 .1 .1 .0)
+    (λ c. (key c) .install-key .kept .1 .1 .1 .1 .1 .1 .1 .0)
+    returns-2)

@@ -3,7 +3,6 @@
 use mathlib.Core.Path.{ap, _≡_, _∙_}
 use Prim.Native.Nat.{_+_, _-_, _*_, _≤_}
 use denote.Ref.{now}
-use lib.ListN.{length}
 use native.Mathlib.Omega.{arith}
 use borrow.Author.Needs.{needs}
 use Rattle.laws.proofs.Splice.{length-part, range-part}

@@ -9,7 +9,6 @@ use native.Mathlib.Omega.{arith}
 use borrow.Author.Tests.{eq-eqb, ne-eqb}
 use borrow.Author.Needs.{needs}
 use Rattle.sha256.specs.Sha256.{sha256}
-use Rattle.laws.specs.Lists.{part}
 use Rattle.laws.proofs.Splice.{range-part}
 use Rattle.public_keys.proofs.Keys.{key-bound}
 use Rattle.rules.specs.Pkr as S

@@ -1,14 +1,12 @@
 -- `pkr::renew` meets its contract: each return is the case of its tests.
 -- Assumes nothing.
 use mathlib.Core.Path.{_≡_, sym, _∙_}
-use mathlib.Core.Bool.{true, false}
 use Prim.Native.Nat.{_+_, _≤_, _<_}
 use denote.Ref.{now}
 use lib.ListN.{length, length-take, length-drop}
 use native.Mathlib.Omega.{arith}
 use borrow.Author.Tests.{not-true, not-false}
 use borrow.Author.Needs.{needs}
-use Rattle.laws.specs.Lists.{part}
 use Rattle.laws.proofs.Splice.{range-part}
 use Rattle.public_keys.proofs.Keys.{key-bound}
 use Rattle.rules.specs.PublicKeys as K

@@ -1,8 +1,7 @@
 -- `regions::prn_valid` meets its contract. Assumes nothing.
 use native.Mathlib.Omega.{arith}
-use mathlib.Core.Path.{_≡_, refl, sym}
-use mathlib.Core.Bool.{true}
-use borrow.Author.Tests.{le-leb, leb-true}
+use mathlib.Core.Path.{sym}
+use borrow.Author.Tests.{leb-true}
 use Rattle.laws.proofs.Tests.{true-false}
 use Rattle.regions.proofs.Faults.{prn-low, prn-from-1}
 use Rattle.regions.proofs.prn_valid.Statement.{statement}

@@ -1,6 +1,4 @@
 -- `regions::reached` meets its contract: a stamp is a time plus 1. Assumes nothing.
-use native.Mathlib.Omega.{arith}
-use Prim.Native.Nat.{_+_}
 use Rattle.regions.proofs.Faults.{reached-stamp}
 use Rattle.regions.proofs.reached.Statement.{statement}
 use Rattle.regions.proofs.reached.Tie as tie

@@ -1,6 +1,5 @@
 -- `regions::shaped` meets its contract: the tests of the sixteen lengths, in groups of four.
 -- Assumes nothing.
-use mathlib.Core.Path.{_≡_}
 use denote.Ref.{now}
 use lib.Dec.{eqb}
 use lib.ListN.{length}

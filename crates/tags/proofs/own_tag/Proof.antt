@@ -9,10 +9,10 @@ use Rattle.tags.proofs.own_tag.Statement.{statement}
 use Rattle.tags.proofs.own_tag.Tie as tie
 
 low : (c : tie.After-pick2)
-    → (c .before .before .before .before .before .args .j / c .before .before .before .before .before .args .c .fields ≤ 13)
-    × (c .before .before .before .before .before .args .j % c .before .before .before .before .before .args .c .fields ≤ 13)
+    → (c .before .before .before .before .args .j / c .before .before .before .before .args .c .fields ≤ 13)
+    × (c .before .before .before .before .args .j % c .before .before .before .before .args .c .fields ≤ 13)
 low c =
-    let s = c .before .before .before .before .before in
+    let s = c .before .before .before .before in
     small (s .args .c) (s .pre .0) (s .args .j) (s .pre .1 .0)
 
 add-t17 : tie.Need-add-t17
@@ -30,17 +30,12 @@ cast-t20 c = omega (arith, low c)
 returns : tie.Need-returns
 unfolding ownTag
 returns c =
-    rw (
-      c .pick2 .ensures,
-      c .before .pick .ensures,
-      c .before .before .field-info .ensures,
-      c .before .before .before .field-tag .ensures,
-    )
+    rw (c .pick2 .ensures, c .before .pick .ensures, c .before .before .read-field .ensures)
 
 pub own-tag-spec : {M : Type 1} → statement M
 own-tag-spec =
     tie.close
-    (tie.spec (λ c κs. search needs) (λ c κs. search needs) (λ c. search needs) (λ c κs. search needs) (λ c. search needs) (λ c κs. search needs) (λ c. search needs)
+    (tie.spec (λ c κs. search needs) (λ c. search needs) (λ c κs. search needs) (λ c. search needs) (λ c κs. search needs) (λ c. search needs)
     add-t17
     cast-t14 (λ c. search needs)
     add-t19

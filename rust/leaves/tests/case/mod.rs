@@ -1,13 +1,47 @@
-//! A MACK section with any fields and marks, for both receivers.
+//! Tags, and MACK sections with any fields and marks, for both receivers.
 
-use leaves::fields::{self, Config, Layout};
-use leaves::tags::Tag;
+#![allow(dead_code)]
+
+use leaves::mack::{self as leaf, Layout};
+use leaves::tags::{Config, Tag};
 use portable_hash::HmacKey;
 use second_receiver::bits::{take, BitString};
 use second_receiver::mack::{self, Field, Section};
 use second_receiver::tags::{self, Marks, ProvedSection, FLEXIBLE};
 use second_receiver::times::Gst;
 use signal::rng::Rng;
+
+/// Bits of a key (000, table 12) and of a tag (table 13).
+const KEY_BITS: [usize; 9] = [96, 104, 112, 120, 128, 160, 192, 224, 256];
+const TAG_BITS: [usize; 10] = [10, 12, 14, 16, 18, 20, 24, 28, 32, 40];
+
+/// Every layout that has a field.
+pub fn layouts() -> Vec<mack::Layout> {
+    let mut layouts = Vec::new();
+    for blocks in 1..=3u8 {
+        let block_bits = 480 / usize::from(blocks);
+        for (key_bits, tag_bits) in KEY_BITS
+            .into_iter()
+            .flat_map(|key| TAG_BITS.map(|tag| (key, tag)))
+        {
+            let room = block_bits.saturating_sub(key_bits);
+            let layout = mack::Layout {
+                blocks,
+                block_bits,
+                fields: room / (tag_bits + 16),
+                tag_bits,
+                key_bits,
+            };
+            layouts.extend((layout.fields > 0).then_some(layout));
+        }
+    }
+    layouts
+}
+
+/// Any time of a sub-frame.
+pub fn any_time(rng: &mut Rng) -> Gst {
+    Gst::new(rng.below(4096) as u32, 30 * rng.below(20_160) as u32)
+}
 
 /// A layout as the leaves have it.
 pub fn of_leaf(layout: &mack::Layout) -> Layout {
@@ -111,8 +145,8 @@ impl Case {
         }
     }
 
-    pub fn of_leaf(&self, rng: &mut Rng) -> fields::Section {
-        fields::Section {
+    pub fn of_leaf(&self, rng: &mut Rng) -> leaf::Section {
+        leaf::Section {
             prn: self.sender,
             time: self.time.0,
             status: self.status,
@@ -154,5 +188,20 @@ pub fn any_case(rng: &mut Rng, layout: mack::Layout, time: Gst) -> Case {
         status: rng.below(4) as u8,
         fields: any_fields(rng, &layout, marks.at(time)),
         marks,
+    }
+}
+
+/// Any tag.
+pub fn any_tag(rng: &mut Rng) -> Tag {
+    let second = 30 * rng.below(20_160) as u32;
+    Tag {
+        sender: rng.number() as u8,
+        prn: rng.number() as u8,
+        adkd: *rng.pick(&[0, 11, 12, 4, 255]),
+        block: rng.range(1, 3) as u8,
+        position: rng.range(1, 14) as u8,
+        time: Gst::new(rng.range(946, 948) as u32, second).0,
+        status: rng.below(4) as u8,
+        bits: rng.below(1 << 40),
     }
 }

@@ -1,11 +1,12 @@
 /*
- * The calls of include/osnma.h from C: a start, words, what waits and its verdicts, reads, and each
- * refusal that they can give. After every call all regions are compared with what they must hold.
- * Stops with a message and a status other than 0 at the first difference. Compiles as C99 and as
- * C++.
+ * The calls of include/osnma.h from C: a start, words, sub-frames, what waits and its verdicts, reads,
+ * and each refusal that they can give, but for those of a sub-frame that take a tree of public keys.
+ * After every call all regions are compared with what they must hold. Stops with a message and a status
+ * other than 0 at the first difference. Compiles as C99 and as C++.
  *
- * Only sub-frames bring a message that waits, waiting tags, an authentic set or a stop, so the test
- * writes these into the core itself (`wait_for`, `tag_waits`, `config[62]`).
+ * Annex A of the specification gives the sub-frames that bring a root, a section and its tags. Before
+ * them the test writes what only sub-frames bring into the core itself (`wait_for`, `tag_waits`,
+ * `config[62]`).
  */
 #include <osnma.h>
 
@@ -42,13 +43,13 @@ static void check_regions(int line)
     SAME(stamps);
     SAME(blocks);
     SAME(headers);
-    SAME(marks);
+    SAME(present);
     SAME(since);
-    SAME(keys);
+    SAME(pubkeys);
     SAME(offer);
     SAME(chain);
     SAME(numbers);
-    SAME(key);
+    SAME(heldkey);
     SAME(waiting);
     SAME(sets);
     SAME(arrivals);
@@ -107,8 +108,8 @@ static void want_fresh(void)
     want.config[1] = settings.maclt;
     memcpy(want.config + 2, settings.marks, 28);
     memcpy(want.config + 30, settings.tree_root, 32);
-    want.keys[68 * settings.key_id] = (uint8_t)(settings.key_type + 1);
-    memcpy(want.keys + 68 * settings.key_id + 1, settings.key, length[settings.key_type]);
+    want.pubkeys[68 * settings.key_id] = (uint8_t)(settings.key_type + 1);
+    memcpy(want.pubkeys + 68 * settings.key_id + 1, settings.key, length[settings.key_type]);
 }
 
 static void start(void)
@@ -247,14 +248,19 @@ static void make_message(unsigned status, unsigned cid, unsigned cidkr, unsigned
     memset(signature, (int)(0x10 + hour), 64);
 }
 
+static void want_offer(unsigned key_id)
+{
+    want.offer[0] = 1;
+    want.offer[1] = (uint8_t)key_id;
+    memcpy(want.offer + 2, message, OSNMA_MESSAGE);
+    memcpy(want.offer + 47, signature, OSNMA_SIGNATURE);
+}
+
 /* What only a sub-frame does: the message now waits. */
 static void wait_for(unsigned key_id)
 {
-    core.offer[0] = 1;
-    core.offer[1] = (uint8_t)key_id;
-    memcpy(core.offer + 2, message, OSNMA_MESSAGE);
-    memcpy(core.offer + 47, signature, OSNMA_SIGNATURE);
-    memcpy(want.offer, core.offer, sizeof want.offer);
+    want_offer(key_id);
+    memcpy(core.offer, want.offer, sizeof core.offer);
 }
 
 /* The same for a tag that came at `time`: entry `place` of the waiting tags. */
@@ -281,8 +287,8 @@ static void want_in_force(void)
     want_no_offer();
     want.chain[0] = 1;
     memcpy(want.chain + 1, message + 1, 44);
-    memset(want.key, 0, sizeof want.key);
-    memcpy(want.key, message + 13, 16);
+    memset(want.heldkey, 0, sizeof want.heldkey);
+    memcpy(want.heldkey, message + 13, 16);
     want.numbers[0] = 0;
     want.numbers[1] = 0;
 }
@@ -344,8 +350,8 @@ static void test_verdicts(void)
     unsigned cid;
     start();
     /* A second key is held, of lower ID: it goes with a root under key 3. */
-    core.keys[68 * 2] = want.keys[68 * 2] = 1;
-    core.keys[68 * 2 + 1] = want.keys[68 * 2 + 1] = 77;
+    core.pubkeys[68 * 2] = want.pubkeys[68 * 2] = 1;
+    core.pubkeys[68 * 2 + 1] = want.pubkeys[68 * 2 + 1] = 77;
     /* No chain is in force: status 0 and 3, and a CIDKR that is not the CID. */
     make_message(0, 0, 0, 947, 120);
     wait_for(3);
@@ -365,12 +371,12 @@ static void test_verdicts(void)
     make_message(1, 0, 0, 947, 120);
     wait_for(3);
     want_in_force();
-    memset(want.keys, 0, 68 * 3);
+    memset(want.pubkeys, 0, 68 * 3);
     ANSWERS(verdict(1, 3), OSNMA_DONE);
     /* The same contents again change nothing but the public keys. */
     core.numbers[0] = want.numbers[0] = 5000000000u;
     core.numbers[1] = want.numbers[1] = 3;
-    core.keys[68 * 1] = want.keys[68 * 1] = 1;
+    core.pubkeys[68 * 1] = want.pubkeys[68 * 1] = 1;
     tag_waits(0, 12, osnma_gst(947, 435300 - 30));
     tag_waits(1, 12, osnma_gst(947, 435300));
     tag_waits(2, 11, osnma_gst(947, 435600));
@@ -378,7 +384,7 @@ static void test_verdicts(void)
     memset(signature, 9, 64);
     wait_for(3);
     want_no_offer();
-    memset(want.keys, 0, 68 * 3);
+    memset(want.pubkeys, 0, 68 * 3);
     ANSWERS(verdict(1, 3), OSNMA_DONE);
     /* Not newer: earlier, or the same hour with other contents. */
     make_message(1, 0, 0, 947, 119);
@@ -413,7 +419,7 @@ static void test_verdicts(void)
     ANSWERS(verdict(1, 3), OSNMA_NOT_IN_FORCE);
     core.numbers[0] = want.numbers[0] = 42;
     core.numbers[1] = 1;
-    core.keys[68 * 1] = want.keys[68 * 1] = 1;
+    core.pubkeys[68 * 1] = want.pubkeys[68 * 1] = 1;
     make_message(3, 1, 2, 947, 1);
     wait_for(3);
     want_no_offer();
@@ -427,7 +433,7 @@ static void test_verdicts(void)
     make_message(1, 2, 2, 948, 0);
     wait_for(3);
     want_in_force();
-    memset(want.keys, 0, 68 * 3);
+    memset(want.pubkeys, 0, 68 * 3);
     ANSWERS(verdict(1, 3), OSNMA_DONE);
 }
 
@@ -491,6 +497,305 @@ static void test_stopped(void)
     start();
 }
 
+/* ---- sub-frames */
+
+static uint8_t hkroot[15], section[60], fields[OSNMA_FIELDS];
+static uint8_t records[OSNMA_RECORDS], want_records[OSNMA_RECORDS];
+
+static void check_halves(struct osnma_halves answer, enum osnma_answer right_hkroot,
+                         enum osnma_answer right_mack, unsigned right_count, int line)
+{
+    calls++;
+    checks++;
+    if (answer.hkroot != right_hkroot || answer.mack != right_mack ||
+        answer.records != right_count) {
+        fprintf(stderr, "calls.c:%d: answered %d and %d with %u records, not %d and %d with %u\n",
+                line, (int)answer.hkroot, (int)answer.mack, (unsigned)answer.records,
+                (int)right_hkroot, (int)right_mack, right_count);
+        exit(1);
+    }
+    check(memcmp(records, want_records, sizeof records) == 0, "the record area differs", line);
+    check_regions(line);
+}
+
+/* The sub-frame answers these numbers and this count, and leaves `want` and `want_records`. */
+#define HALVES(prn, time, hkroot, mack, count)                                                     \
+    check_halves(osnma_subframe(&core, (uint8_t)(prn), time, fields, records), hkroot, mack,       \
+                 count, __LINE__)
+
+/* The fields of a sub-frame: a byte of HKROOT, then four of the section, fifteen times. */
+static void join(void)
+{
+    unsigned i;
+    for (i = 0; i < 15; i++) {
+        fields[5 * i] = hkroot[i];
+        memcpy(fields + 5 * i + 1, section + 4 * i, 4);
+    }
+}
+
+/* Block k of a message of a DSM ID. */
+static void make_block(unsigned header, unsigned id, unsigned k, const uint8_t *dsm)
+{
+    hkroot[0] = (uint8_t)header;
+    hkroot[1] = (uint8_t)(id << 4 | k);
+    memcpy(hkroot + 2, dsm + 13 * k, 13);
+    join();
+}
+
+static void want_noted(unsigned prn, uint32_t time)
+{
+    want.clocks[0] = want.clocks[prn] = time + 1;
+}
+
+/* What a block leaves that is held. */
+static void want_block(unsigned prn, uint32_t time)
+{
+    unsigned id = hkroot[1] >> 4, k = hkroot[1] & 15;
+    want_noted(prn, time);
+    memcpy(want.blocks + 208 * id + 13 * k, hkroot + 2, 13);
+    want.headers[id] = hkroot[0];
+    if (want.present[id] == 0)
+        want.since[id] = time;
+    want.present[id] = (uint16_t)(want.present[id] | 1u << k);
+}
+
+/* All blocks of a message, from satellite 1 on, at one time. Those before the last are held; the last
+ * takes it out, and this is the answer of its half. Where it is 0, `message` then waits under key 0. */
+static void send_message(uint32_t time, unsigned header, unsigned id, const uint8_t *dsm,
+                         unsigned count, enum osnma_answer answer)
+{
+    unsigned k;
+    for (k = 0; k < count; k++) {
+        make_block(header, id, k, dsm);
+        want_block(k + 1, time);
+        if (k + 1 < count) {
+            HALVES(k + 1, time, OSNMA_DONE, OSNMA_NOT_IN_FORCE, 0);
+        } else {
+            want.present[id] = 0;
+            if (answer == OSNMA_DONE)
+                want_offer(0);
+            HALVES(k + 1, time, answer, OSNMA_NOT_IN_FORCE, 0);
+        }
+    }
+}
+
+static void test_blocks(void)
+{
+    const uint32_t t = osnma_gst(947, 431760);
+    uint8_t dsm[16 * 13];
+    unsigned i;
+    for (i = 0; i < sizeof dsm; i++)
+        dsm[i] = (uint8_t)(i * 11 + 3);
+    for (i = 0; i < sizeof section; i++)
+        section[i] = (uint8_t)(i + 1);
+    for (i = 0; i < sizeof records; i++)
+        records[i] = want_records[i] = (uint8_t)(0xA5 ^ i);
+    start();
+    make_block(0x82, 2, 1, dsm);
+    HALVES(0, t, OSNMA_OUT_OF_RANGE, OSNMA_OUT_OF_RANGE, 0);
+    HALVES(37, t, OSNMA_OUT_OF_RANGE, OSNMA_OUT_OF_RANGE, 0);
+    HALVES(18, t + 1, OSNMA_OUT_OF_RANGE, OSNMA_OUT_OF_RANGE, 0);
+    HALVES(18, osnma_gst(947, 604800), OSNMA_OUT_OF_RANGE, OSNMA_OUT_OF_RANGE, 0);
+    memset(fields, 0, sizeof fields);
+    want_noted(18, t);
+    HALVES(18, t, OSNMA_ALL_ZERO, OSNMA_ALL_ZERO, 0);
+    HALVES(18, t, OSNMA_OUT_OF_ORDER, OSNMA_OUT_OF_ORDER, 0);
+    HALVES(17, t - 30, OSNMA_OUT_OF_ORDER, OSNMA_OUT_OF_ORDER, 0);
+    make_block(0x82, 2, 1, dsm);
+    want_block(1, t);
+    HALVES(1, t, OSNMA_DONE, OSNMA_NOT_IN_FORCE, 0);
+    /* A reserved NB drops its block alone. */
+    for (i = 0; i < 16; i += i == 0 ? 11 : 1) {
+        dsm[0] = (uint8_t)(i << 4);
+        make_block(0x82, 2, 0, dsm);
+        want_noted(2 + i, t);
+        HALVES(2 + i, t, OSNMA_BLOCK_UNFIT, OSNMA_NOT_IN_FORCE, 0);
+    }
+    /* Seven blocks: block 7 is too high, and another header drops the others. */
+    dsm[0] = 0x10;
+    make_block(0x82, 2, 0, dsm);
+    want_block(3, t);
+    HALVES(3, t, OSNMA_DONE, OSNMA_NOT_IN_FORCE, 0);
+    make_block(0x82, 2, 7, dsm);
+    want_noted(4, t);
+    HALVES(4, t, OSNMA_BLOCK_UNFIT, OSNMA_NOT_IN_FORCE, 0);
+    make_block(0x83, 2, 3, dsm);
+    want.present[2] = 0;
+    want_block(5, t + 30);
+    HALVES(5, t + 30, OSNMA_DONE, OSNMA_NOT_IN_FORCE, 0);
+    core.config[62] = want.config[62] = 1;
+    HALVES(6, t + 30, OSNMA_STOPPED, OSNMA_STOPPED, 0);
+    HALVES(37, t + 30, OSNMA_OUT_OF_RANGE, OSNMA_OUT_OF_RANGE, 0);
+    HALVES(6, t, OSNMA_STOPPED, OSNMA_STOPPED, 0);
+}
+
+/* Annex A.1.4: a DSM-KROOT of eight blocks under key 0, of type 1. */
+static const uint8_t annex_dsm[8 * 13] = {
+    0x20, 0x20, 0x41, 0x0B, 0x03, 0xB3, 0x78, 0xF1, 0xCA, 0x38, 0x56, 0xA9, 0x75,
+    0xEE, 0x67, 0x72, 0xD9, 0xAB, 0x83, 0x96, 0x86, 0x6D, 0xC5, 0x7E, 0xAD, 0xA1,
+    0xD2, 0x96, 0x37, 0x15, 0xE8, 0x1E, 0xE2, 0x89, 0xC9, 0xF6, 0xF5, 0x48, 0x69,
+    0x40, 0x5F, 0x5E, 0x11, 0x5E, 0x42, 0x47, 0x77, 0xD1, 0x1D, 0x59, 0x8D, 0x24,
+    0x51, 0xCC, 0x57, 0x6C, 0x28, 0x37, 0xA3, 0x98, 0x47, 0x15, 0xB2, 0x2F, 0xD1,
+    0x53, 0xEF, 0x85, 0x17, 0x9E, 0xA6, 0xD4, 0xBD, 0x01, 0x01, 0xDB, 0x1C, 0x0E,
+    0x36, 0x3A, 0x19, 0xDC, 0xA1, 0x62, 0x50, 0x34, 0xF2, 0xCC, 0xF9, 0xD0, 0xE7,
+    0x63, 0xE3, 0xA4, 0x42, 0xFF, 0x81, 0x99, 0xA7, 0xD3, 0xC8, 0xCE, 0xF9, 0xB2};
+
+/* Table 26: words 1 to 5 of E18, and their set. */
+static const uint8_t annex_words[5][OSNMA_WORD] = {
+    {0x04, 0x50, 0x70, 0x80, 0xCD, 0x1C, 0x00, 0x34, 0x00, 0x00, 0x00, 0x02, 0xA8, 0x12, 0xD2, 0x92},
+    {0x08, 0x50, 0xA1, 0xEF, 0xEA, 0x92, 0x27, 0xD2, 0x7D, 0x28, 0x00, 0x00, 0x00, 0x00, 0x00, 0x01},
+    {0x0C, 0x50, 0x00, 0x00, 0x00, 0x00, 0x00, 0x00, 0x00, 0x00, 0x00, 0x00, 0x00, 0x00, 0x00, 0x19},
+    {0x10, 0x50, 0x48, 0x00, 0x00, 0x00, 0x01, 0xC2, 0x00, 0x00, 0x00, 0x00, 0x00, 0x00, 0x00, 0x01},
+    {0x14, 0xC8, 0x00, 0x00, 0x00, 0x00, 0x00, 0x00, 0x00, 0x1D, 0x9B, 0x4B, 0xCC, 0xAA, 0xAA, 0xAA}};
+static const uint8_t annex_set[OSNMA_SET] = {
+    0x14, 0x1C, 0x20, 0x33, 0x47, 0x00, 0x0D, 0x00, 0x00, 0x00, 0x00, 0xAA, 0x04, 0xB4,
+    0xA4, 0x14, 0x28, 0x7B, 0xFA, 0xA4, 0x89, 0xF4, 0x9F, 0x4A, 0x00, 0x00, 0x00, 0x00,
+    0x00, 0x00, 0x14, 0x00, 0x00, 0x00, 0x00, 0x00, 0x00, 0x00, 0x00, 0x00, 0x00, 0x00,
+    0x00, 0x00, 0x06, 0x45, 0x04, 0x80, 0x00, 0x00, 0x00, 0x1C, 0x20, 0x00, 0x00, 0x00,
+    0x00, 0x00, 0x00, 0x00, 0x0C, 0x80, 0x00, 0x00, 0x00, 0x00, 0x00, 0x00, 0x00};
+
+/* A.1.5: E18's section at 947/432030. Tag0 and MACSEQ are the annex's, the keys are those of slots 90
+ * and 126, hashed down from its seed; what it does not print is 0. */
+static const uint8_t annex_section[60] = {
+    0xE5, 0x8C, 0x24, 0x00, 0x00, 0xFF, 0x40, 0x00, 0x01, 0x2B, 0x00, 0x00, 0x00, 0x00, 0xA7,
+    0xE1, 0x4E, 0xC9, 0x5C, 0xA7, 0x32, 0x03, 0xED, 0x68, 0xAA, 0x28, 0xE2, 0xBD, 0x02, 0xA2,
+    0x00, 0x00, 0x00, 0x00, 0x00, 0x00, 0x00, 0x00, 0x00, 0x00, 0x00, 0x00, 0x00, 0x00, 0x33,
+    0x32, 0x83, 0xCE, 0x9B, 0x04, 0xE0, 0xFE, 0x6A, 0xA2, 0x16, 0xDB, 0x56, 0x4B, 0x19, 0x1E};
+
+/* The root of the annex comes, waits, and is vouched for. */
+static void put_annex_root_in_force(void)
+{
+    const uint32_t t = osnma_gst(947, 431760);
+    struct osnma_message got;
+    uint8_t dsm[9 * 13];
+    settle();
+    memset(settings.marks, 0, sizeof settings.marks);
+    settings.marks[1] = settings.marks[2] = OSNMA_FLEXIBLE;
+    settings.marks[15] = settings.marks[16] = OSNMA_FLEXIBLE;
+    settings.key_id = 0;
+    want_fresh();
+    ANSWERS(osnma_start(&core, &settings), OSNMA_DONE);
+    /* Under a key that is not held, with another MACLT, of one block too many. */
+    memset(dsm, 0, sizeof dsm);
+    memcpy(dsm, annex_dsm, sizeof annex_dsm);
+    dsm[0] = 0x21;
+    send_message(t - 90, 0x82, 5, dsm, 8, OSNMA_KEY_NOT_HELD);
+    dsm[0] = 0x20;
+    dsm[3] = 12;
+    send_message(t - 60, 0x82, 5, dsm, 8, OSNMA_PARAMETERS_UNFIT);
+    dsm[0] = 0x30;
+    dsm[3] = 11;
+    send_message(t - 30, 0x82, 5, dsm, 9, OSNMA_BLOCK_UNFIT);
+    memset(message, 0, sizeof message);
+    memset(signature, 0, sizeof signature);
+    message[0] = 0x82;
+    memcpy(message + 1, annex_dsm + 1, 28);
+    memcpy(signature, annex_dsm + 29, 64);
+    send_message(t, 0x82, 0, annex_dsm, 8, OSNMA_DONE);
+    ANSWERS(osnma_read_message(&core, &got), OSNMA_DONE);
+    CHECK(memcmp(got.message, message, sizeof message) == 0);
+    CHECK(memcmp(got.signature, signature, sizeof signature) == 0);
+    CHECK(got.key_id == 0 && got.key_type == 1);
+    want_in_force();
+    ANSWERS(osnma_verdict(&core, 1, 0, got.message, got.signature), OSNMA_DONE);
+}
+
+/* What the annex's section leaves. */
+static void want_annex_section(uint32_t t)
+{
+    static const uint8_t of[8][6] = {{1, 18, 18, 0, 1, 1}, {4, 18, 255, 4, 1, 2},
+                                     {5, 18, 18, 11, 1, 3}, {4, 18, 0, 0, 1, 4},
+                                     {4, 18, 0, 0, 2, 1},  {4, 18, 0, 0, 2, 2},
+                                     {4, 18, 0, 0, 2, 3},  {4, 18, 0, 0, 2, 4}};
+    static const uint8_t head[15] = {18, 18, 11, 1, 3, 0x3B, 0x36, 0x97, 0x9E, 2, 0, 0, 0, 0, 0};
+    unsigned i;
+    for (i = 0; i < 8; i++) {
+        uint8_t *record = want_records + OSNMA_RECORD * i;
+        memcpy(record, of[i], 6);
+        record[6] = 0;
+        record[7] = of[i][0] == 4 ? 0 : 0x50;
+        memcpy(record + 8, head + 5, 4);
+    }
+    want.numbers[0] = 126;
+    want.numbers[1] = 1;
+    memcpy(want.heldkey, annex_section + 44, 16);
+    memcpy(want.waiting, head, sizeof head);
+    memcpy(want.waiting + sizeof head, annex_set, sizeof annex_set);
+    memcpy(want.sets + 69 * 17, annex_set, sizeof annex_set);
+    want.arrivals[17] = t + 1;
+}
+
+static void test_section(void)
+{
+    const uint32_t t = osnma_gst(947, 432030);
+    struct osnma_tag_record record;
+    uint8_t set[OSNMA_SET];
+    uint16_t iodnav;
+    uint32_t time;
+    unsigned i;
+    put_annex_root_in_force();
+    for (i = 0; i < 5; i++) {
+        memcpy(word, annex_words[i], sizeof word);
+        want_word(18, osnma_gst(947, 432000));
+        ANSWERS(osnma_word(&core, 18, osnma_gst(947, 432000), word), OSNMA_DONE);
+    }
+    memcpy(section, annex_section, sizeof section);
+    make_block(0xC2, 0, 0, annex_dsm);
+    want_block(17, t);
+    HALVES(17, t, OSNMA_DONE, OSNMA_NOT_IN_FORCE, 0); /* status 3 */
+    make_block(0x82, 0, 0, annex_dsm);
+    want.present[0] = 0;
+    want_block(19, t);
+    HALVES(19, t, OSNMA_DONE, OSNMA_KEY_UNFIT, 0); /* not E19's keys */
+    want_block(18, t);
+    want_annex_section(t);
+    HALVES(18, t, OSNMA_DONE, OSNMA_DONE, 8);
+    record = osnma_record(records, 0);
+    CHECK(record.outcome == OSNMA_AUTHENTIC && record.sender == 18 && record.prn == 18);
+    CHECK(record.adkd == 0 && record.block == 1 && record.position == 1);
+    CHECK(record.iodnav == 0x50 && record.time == t);
+    record = osnma_record(records, 2);
+    CHECK(record.outcome == OSNMA_WAITS && record.adkd == 11 && record.iodnav == 0x50);
+    record = osnma_record(records, 7);
+    CHECK(record.outcome == OSNMA_NOT_ALLOWED && record.block == 2 && record.position == 4);
+    CHECK(record.prn == 0 && record.iodnav == 0 && record.time == t);
+    record = osnma_record(records, 269);
+    CHECK(record.outcome == records[3228] && record.sender == records[3229]);
+    record = osnma_record(records, 270);
+    CHECK(record.outcome == 0 && record.sender == 0 && record.time == 0);
+    ANSWERS(osnma_read_set(&core, 18, set, &iodnav, &time), OSNMA_DONE);
+    CHECK(memcmp(set, annex_set, sizeof set) == 0 && iodnav == 0x50 && time == t);
+    /* A spare bit, then keys of a time that is too far. */
+    make_block(0x82, 0, 0, annex_dsm);
+    want_block(18, t + 30);
+    HALVES(18, t + 30, OSNMA_DONE, OSNMA_KEY_UNFIT, 0);
+    want.present[0] = 0;
+    want_block(18, osnma_gst(949, 0));
+    HALVES(18, osnma_gst(949, 0), OSNMA_DONE, OSNMA_TOO_FAR, 0);
+}
+
+/* DSM-PKR of types that no key has, of a wrong size, and with nodes that do not give the root. */
+static void test_key_messages(void)
+{
+    const uint32_t t = osnma_gst(947, 431760);
+    uint8_t dsm[16 * 13];
+    unsigned i;
+    start();
+    for (i = 0; i < sizeof dsm; i++)
+        dsm[i] = (uint8_t)(i * 5 + 1);
+    dsm[0] = 0x70;
+    dsm[129] = 0x54;
+    send_message(t, 0x82, 12, dsm, 13, OSNMA_BLOCK_UNFIT);
+    dsm[129] = 0x34;
+    send_message(t + 30, 0x82, 13, dsm, 13, OSNMA_BLOCK_UNFIT);
+    dsm[129] = 0x41;
+    send_message(t + 60, 0x82, 14, dsm, 13, OSNMA_BLOCK_UNFIT);
+    dsm[129] = 0x14;
+    send_message(t + 90, 0x82, 15, dsm, 13, OSNMA_TREE_UNFIT);
+    dsm[129] = 0x40;
+    send_message(t + 120, 0x82, 15, dsm, 13, OSNMA_TREE_UNFIT);
+}
+
 /* ---- counts that are wrong, by the calls over single regions */
 
 enum { REGIONS = 16 };
@@ -500,10 +805,10 @@ static const size_t right_counts[REGIONS + 3] = {63, 73, 2880, 180,   3328, 16, 
                                                  45, 2,  32,   21504, 2484, 36, 0,  0,  0};
 
 #define LENT(n)                                                                                    \
-    core.config, n[0], core.clocks, n[1], core.words, n[2], core.stamps, n[3], core.blocks, n[4],  \
-        core.headers, n[5], core.marks, n[6], core.since, n[7], core.keys, n[8], core.offer, n[9], \
-        core.chain, n[10], core.numbers, n[11], core.key, n[12], core.waiting, n[13], core.sets,   \
-        n[14], core.arrivals, n[15]
+    core.config, n[0], core.clocks, n[1], core.words, n[2], core.stamps, n[3],                     \
+    core.blocks, n[4], core.headers, n[5], core.present, n[6], core.since, n[7],                   \
+    core.pubkeys, n[8], core.offer, n[9], core.chain, n[10], core.numbers, n[11],                  \
+    core.heldkey, n[12], core.waiting, n[13], core.sets, n[14], core.arrivals, n[15]
 
 static enum osnma_answer counted_start(const size_t *n)
 {
@@ -515,6 +820,16 @@ static enum osnma_answer counted_start(const size_t *n)
 static enum osnma_answer counted_word(const size_t *n)
 {
     return (enum osnma_answer)osnma_regions_word(LENT(n), 5, osnma_gst(947, 432000), word, n[16]);
+}
+
+static enum osnma_answer counted_subframe(const size_t *n)
+{
+    uint32_t of_hkroot = 77, of_mack = 77;
+    uint32_t count = osnma_regions_subframe(LENT(n), records, n[17], 5, osnma_gst(947, 432000),
+                                            fields, n[16], &of_hkroot, &of_mack);
+    CHECK(count == 0 && memcmp(records, want_records, sizeof records) == 0);
+    CHECK(of_hkroot == OSNMA_DONE ? of_mack == OSNMA_NOT_IN_FORCE : of_mack == of_hkroot);
+    return (enum osnma_answer)of_hkroot;
 }
 
 static enum osnma_answer counted_verdict(const size_t *n)
@@ -570,6 +885,8 @@ static void short_counts(enum osnma_answer (*call)(const size_t *), const size_t
     /* Nothing else was wrong. */
     if (call == counted_word)
         want_word(5, osnma_gst(947, 432000));
+    if (call == counted_subframe)
+        want_block(5, osnma_gst(947, 432000));
     if (call == counted_verdict)
         want_no_offer();
     if (call == counted_start)
@@ -580,7 +897,7 @@ static void short_counts(enum osnma_answer (*call)(const size_t *), const size_t
 static void test_counts(void)
 {
     static const size_t of_start[3] = {28, 32, 67}, of_word[1] = {16}, of_verdict[2] = {45, 132},
-                        of_set[1] = {69};
+                        of_set[1] = {69}, of_subframe[2] = {75, 3240};
     static const size_t of_message[3] = {45, 132, 67};
     start();
     make_message(1, 0, 0, 947, 120);
@@ -589,6 +906,8 @@ static void test_counts(void)
     short_counts(counted_read_set, of_set, 1, OSNMA_NO_SET);
     short_counts(counted_read_message, of_message, 3, OSNMA_DONE);
     short_counts(counted_word, of_word, 1, OSNMA_DONE);
+    make_block(0x82, 7, 1, annex_dsm);
+    short_counts(counted_subframe, of_subframe, 2, OSNMA_DONE);
     short_counts(counted_verdict, of_verdict, 2, OSNMA_VERDICT_BAD);
     short_counts(counted_start, of_start, 3, OSNMA_DONE);
 }
@@ -604,13 +923,13 @@ static void print_layout(void)
     PRINT(stamps);
     PRINT(blocks);
     PRINT(headers);
-    PRINT(marks);
+    PRINT(present);
     PRINT(since);
-    PRINT(keys);
+    PRINT(pubkeys);
     PRINT(offer);
     PRINT(chain);
     PRINT(numbers);
-    PRINT(key);
+    PRINT(heldkey);
     PRINT(waiting);
     PRINT(sets);
     PRINT(arrivals);
@@ -636,6 +955,9 @@ int main(int argc, char **argv)
     test_verdicts();
     test_read_set();
     test_stopped();
+    test_blocks();
+    test_section();
+    test_key_messages();
     test_counts();
     printf("%lu calls, %lu checks\n", calls, checks);
     return 0;

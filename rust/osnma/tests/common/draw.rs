@@ -1,6 +1,6 @@
 //! Calls drawn at random: valid ones, and ones of which a number, a bit or a time is wrong.
 
-use super::twin::{Call, Twin};
+use super::twin::Call;
 use osnma::{Settings, FLEXIBLE};
 use second_receiver::kroot::ChainParameters;
 use second_receiver::verdict::filled;
@@ -266,7 +266,7 @@ impl Root {
     }
 }
 
-/// Whether sections of the chain in force at this time make the second receiver walk far.
+/// Whether sections of the chain in force at this time make both walk far.
 fn walks_far(receiver: &Receiver, header: u8, time: u32) -> bool {
     let time = second_receiver::times::Gst(time);
     receiver.chain().is_some_and(|chain| {
@@ -287,49 +287,109 @@ fn next(receiver: &Receiver, rng: &mut Rng) -> Option<u32> {
     }
 }
 
-/// Lends all blocks of a message at one time, each from another satellite, with sections of any
-/// bytes. Gives the number of sub-frames, as those do that use it.
-fn deliver(twin: &mut Twin, rng: &mut Rng, header: u8, id: u8, message: &[u8], time: u32) -> u64 {
+/// The blocks of a message at one time, each from another satellite, with sections of any bytes; the last
+/// one first.
+fn blocks(rng: &mut Rng, header: u8, id: u8, message: &[u8], time: u32) -> Vec<Call> {
     let (count, first) = (dsm::blocks(message), rng.range(1, 20) as u8);
-    let fields = (0..count).map(|block| {
+    let calls = (0..count).rev().map(|block| {
         let section = rng.array();
-        let field = subframe::join(&dsm::hkroot(header, id, message, block), &section);
-        (first + block as u8, field)
+        Call::Subframe {
+            prn: first + block as u8,
+            time,
+            fields: subframe::join(&dsm::hkroot(header, id, message, block), &section),
+        }
     });
-    let fields: Vec<(u8, [u8; 75])> = fields.collect();
-    let filler = rng.once_in(4).then_some(rng);
-    twin.subframes(time, &fields, filler);
-    count as u64
+    calls.collect()
 }
 
-/// A DSM-KROOT comes under a held key: it then waits for a verdict.
-pub fn deliver_root(twin: &mut Twin, rng: &mut Rng) -> u64 {
-    let root = Root::draw(rng, &twin.receiver);
-    let keys = twin.receiver.public_keys();
-    let key = rng.pick(keys).clone();
+/// A DSM-KROOT under a held key, or one of which a bit is turned over; the last block first.
+pub fn root_message(rng: &mut Rng, receiver: &Receiver) -> Vec<Call> {
+    let root = Root::draw(rng, receiver);
+    let key = rng.pick(receiver.public_keys()).clone();
     let signature = rng.bytes(dsm::SIGNATURE_LEN[usize::from(key.key_type)]);
-    let message = root.dsm(key.id, &signature);
-    match next(&twin.receiver, rng) {
-        Some(time) if !walks_far(&twin.receiver, root.header, time) => {
+    let mut message = root.dsm(key.id, &signature);
+    if rng.once_in(4) {
+        message[rng.below(13) as usize] ^= 1 << rng.below(8);
+    }
+    match next(receiver, rng) {
+        Some(time) if !walks_far(receiver, root.header, time) => {
             let id = rng.below(12) as u8;
-            deliver(twin, rng, root.header, id, &message, time)
+            blocks(rng, root.header, id, &message, time)
         }
-        _ => 0,
+        _ => Vec::new(),
     }
 }
 
-/// A DSM-PKR comes: a public key is added, or an emergency message stops both.
-pub fn deliver_key(twin: &mut Twin, rng: &mut Rng, tree: &Tree, emergency: bool) -> u64 {
+/// A DSM-PKR: a public key or an emergency message, or one of which a bit is turned over; the last block
+/// first.
+pub fn key_message(rng: &mut Rng, receiver: &Receiver, tree: &Tree, emergency: bool) -> Vec<Call> {
     let leaf = if emergency {
         15
     } else {
-        let highest = twin.receiver.public_keys().iter().map(|key| key.id).max();
+        let highest = receiver.public_keys().iter().map(|key| key.id).max();
         let above = highest.map_or(0, |id| u64::from(id) + 1);
-        rng.range(above, above + 3).min(14) as usize
+        match rng.below(4) {
+            0 => rng.below(15) as usize,
+            _ => rng.range(above, above + 3).min(14) as usize,
+        }
     };
-    let (message, id) = (tree.pkr(leaf), rng.range(12, 15) as u8);
-    match next(&twin.receiver, rng) {
-        Some(time) => deliver(twin, rng, 0, id, &message, time),
-        None => 0,
+    let (mut message, id) = (tree.pkr(leaf), rng.range(12, 15) as u8);
+    if rng.once_in(4) {
+        let at = rng.below(message.len() as u64) as usize;
+        message[at] ^= 1 << rng.below(8);
     }
+    match next(receiver, rng) {
+        Some(time) => blocks(rng, rng.clone().number() as u8, id, &message, time),
+        None => Vec::new(),
+    }
+}
+
+/// A sub-frame of any bytes, zeros, or a block and section by the chain in force.
+pub fn subframe(rng: &mut Rng, receiver: &Receiver) -> Call {
+    let prn = prn(rng);
+    let last = receiver.last_subframe().map(|last| last.0);
+    let mut time = match rng.below(4) {
+        0 => time(rng, last),
+        1 => last.unwrap_or_else(|| valid_time(rng)),
+        _ => next(receiver, rng).unwrap_or(0),
+    };
+    let mut fields = rng.array();
+    if let (Some(chain), false) = (receiver.chain(), rng.once_in(4)) {
+        fields[0] = (rng.range(1, 2) << 6) as u8 | chain.parameters.cid << 4;
+    }
+    if walks_far(receiver, fields[0], time) && !rng.once_in(2000) {
+        time = last.unwrap_or(0);
+    }
+    match rng.below(12) {
+        0 => fields = [0; 75],
+        1 => {
+            // Block 0 of a reserved NB, or any.
+            fields[5] &= 0xF0;
+            fields[10] = *rng.pick(&[0x00, 0xB0, 0xF0, 0x10, 0xA0]);
+        }
+        _ => {}
+    }
+    Call::Subframe { prn, time, fields }
+}
+
+/// A call as it is, or one time in four with a bit turned over or another satellite.
+pub fn damaged(rng: &mut Rng, mut call: Call) -> Call {
+    if !rng.once_in(4) {
+        return call;
+    }
+    match &mut call {
+        Call::Word { prn, word, .. } => match rng.below(4) {
+            0 => *prn = self::prn(rng),
+            _ => word[rng.below(16) as usize] ^= 1 << rng.below(8),
+        },
+        Call::Subframe { prn, fields, .. } => match rng.below(6) {
+            0 => *prn = self::prn(rng),
+            // A bit of the block, or of the section.
+            1 => fields[5 * rng.below(15) as usize] ^= 1 << rng.below(8),
+            _ => fields[rng.below(75) as usize] ^= 1 << rng.below(8),
+        },
+        Call::Verdict { message, .. } => message[rng.below(45) as usize] ^= 1 << rng.below(8),
+        _ => {}
+    }
+    call
 }

@@ -2,7 +2,7 @@
 
 use super::draw;
 use super::loose::{parts, refused, REGIONS, WRONG};
-use super::twin::{Call, Twin, KINDS};
+use super::twin::{Answer, Call, Kind, Twin};
 use second_receiver::Receiver;
 use signal::dsm::Tree;
 use signal::replay::RECORD;
@@ -10,18 +10,23 @@ use signal::rng::Rng;
 use signal::scenario;
 use std::collections::{BTreeMap, BTreeSet};
 use std::fmt;
+use std::rc::Rc;
 
-/// The numbers that each call can answer, by [`Call::kind`].
-const ANSWERS: [&[u32]; 5] = [
-    &[0, 1, 2],
-    &[0, 1, 2, 3, 4],
-    &[0, 1, 2, 4, 9, 11, 14, 15],
-    &[0, 1, 2, 16],
-    &[0, 1, 14],
+/// The numbers that each call can answer, those of a sub-frame's HKROOT half.
+const ANSWERS: [(Kind, &[u32]); 6] = [
+    (Kind::Start, &[0, 1, 2]),
+    (Kind::Word, &[0, 1, 2, 3, 4]),
+    (Kind::Subframe, &[0, 1, 2, 3, 4, 5, 6, 7, 8, 9, 10]),
+    (Kind::Verdict, &[0, 1, 2, 4, 9, 11, 14, 15]),
+    (Kind::ReadSet, &[0, 1, 2, 16]),
+    (Kind::ReadMessage, &[0, 1, 14]),
 ];
 
-/// What good verdicts did, and what calls met.
-const EVENTS: [&str; 10] = [
+/// The numbers that a sub-frame's MACK half can answer.
+const MACK: &[u32] = &[0, 1, 2, 3, 4, 5, 11, 12, 13];
+
+/// What good verdicts and sub-frames did, and what calls met.
+const EVENTS: [&str; 14] = [
     "first root",
     "later root, no tag waited",
     "later root, all tags stay",
@@ -31,22 +36,35 @@ const EVENTS: [&str; 10] = [
     "equal contents",
     "chain dropped",
     "public keys dropped",
+    "public key added",
+    "message waits",
+    "stopped by an emergency message",
+    "waiting tags judged",
     "call of a full core",
 ];
 
 /// How often each answer came.
 #[derive(Clone, Debug, Default, PartialEq, Eq)]
 pub struct Tally {
-    answers: BTreeMap<(usize, u32), u64>,
+    answers: BTreeMap<(Kind, u32), u64>,
+    mack: BTreeMap<u32, u64>,
+    outcomes: BTreeMap<u8, u64>,
     events: BTreeMap<&'static str, u64>,
     pub calls: u64,
-    /// Sub-frames lent to the second receiver in between.
-    pub subframes: u64,
+    /// Most tag records of a sub-frame.
+    pub records: usize,
 }
 
 impl Tally {
-    fn add(&mut self, kind: usize, answer: u32) {
-        *self.answers.entry((kind, answer)).or_default() += 1;
+    fn add(&mut self, kind: Kind, answer: &Answer) {
+        *self.answers.entry((kind, answer.number)).or_default() += 1;
+        if kind == Kind::Subframe {
+            *self.mack.entry(answer.mack).or_default() += 1;
+        }
+        for &outcome in &answer.outcomes {
+            *self.outcomes.entry(outcome).or_default() += 1;
+        }
+        self.records = self.records.max(answer.outcomes.len());
         self.calls += 1;
     }
 
@@ -54,39 +72,52 @@ impl Tally {
         *self.events.entry(event).or_default() += 1;
     }
 
+    /// What never came of the numbers and outcomes.
+    pub fn missing_answers(&self) -> Vec<String> {
+        let mut missing = Vec::new();
+        for (kind, numbers) in ANSWERS {
+            let never = |number: &&u32| !self.answers.contains_key(&(kind, **number));
+            missing.extend(
+                numbers
+                    .iter()
+                    .filter(never)
+                    .map(|n| format!("{kind:?} {n}")),
+            );
+        }
+        let never = |number: &&u32| !self.mack.contains_key(*number);
+        missing.extend(MACK.iter().filter(never).map(|n| format!("MACK {n}")));
+        let never = |outcome: &u8| !self.outcomes.contains_key(outcome);
+        missing.extend((1..=7).filter(never).map(|n| format!("outcome {n}")));
+        missing
+    }
+
     /// What never came.
     pub fn missing(&self) -> Vec<String> {
-        let answers = ANSWERS.iter().enumerate().flat_map(|(kind, numbers)| {
-            let never = move |number: &&u32| !self.answers.contains_key(&(kind, **number));
-            numbers
-                .iter()
-                .filter(never)
-                .map(move |number| format!("{} {number}", KINDS[kind]))
-        });
-        let events = EVENTS
-            .iter()
-            .filter(|event| !self.events.contains_key(*event));
-        answers
-            .chain(events.map(|event| event.to_string()))
-            .collect()
+        let mut missing = self.missing_answers();
+        let never = |event: &&&str| !self.events.contains_key(**event);
+        missing.extend(EVENTS.iter().filter(never).map(|event| event.to_string()));
+        missing
     }
+}
+
+fn counts<K: fmt::Display>(all: impl Iterator<Item = (K, u64)>) -> String {
+    all.map(|(key, count)| format!("  {key}: {count}"))
+        .collect()
 }
 
 impl fmt::Display for Tally {
     fn fmt(&self, f: &mut fmt::Formatter<'_>) -> fmt::Result {
-        writeln!(
-            f,
-            "{} calls, {} sub-frames between them",
-            self.calls, self.subframes
-        )?;
-        for (kind, name) in KINDS.iter().enumerate() {
-            write!(f, "{name:>13}:")?;
+        writeln!(f, "{} calls", self.calls)?;
+        for (kind, _) in ANSWERS {
             let all = self.answers.range((kind, 0)..=(kind, u32::MAX));
-            for ((_, answer), count) in all {
-                write!(f, "  {answer}: {count}")?;
-            }
-            writeln!(f)?;
+            let all = counts(all.map(|((_, number), count)| (number, *count)));
+            writeln!(f, "{:>13}:{all}", format!("{kind:?}"))?;
         }
+        let mack = counts(self.mack.iter().map(|(number, count)| (number, *count)));
+        writeln!(f, "{:>13}:{mack}", "its MACK half")?;
+        let outcomes = counts(self.outcomes.iter().map(|(number, count)| (number, *count)));
+        writeln!(f, "{:>13}:{outcomes}", "outcomes")?;
+        writeln!(f, "{:>13}  most records of a sub-frame", self.records)?;
         for (event, count) in &self.events {
             writeln!(f, "{count:>13}  {event}")?;
         }
@@ -94,7 +125,7 @@ impl fmt::Display for Tally {
     }
 }
 
-/// A record of the replay program as a call; `None` for sub-frames and other kinds.
+/// A record of the replay program as a call; `None` for other kinds.
 pub fn call_of(record: &[u8]) -> Option<Call> {
     let mut marks = [[0; 14]; 2];
     marks[0].copy_from_slice(&record[5..19]);
@@ -114,6 +145,11 @@ pub fn call_of(record: &[u8]) -> Option<Call> {
             time: gst(record),
             word: record[6..22].try_into().ok()?,
         }),
+        3 => Some(Call::Subframe {
+            prn: record[1],
+            time: gst(record),
+            fields: record[6..81].try_into().ok()?,
+        }),
         4 => Some(Call::Verdict {
             good: record[1],
             key_id: record[2],
@@ -130,32 +166,27 @@ fn gst(record: &[u8]) -> u32 {
         .fold(0, |time, &byte| time << 8 | u32::from(byte))
 }
 
-/// Lends a replay input: starts, words and verdicts to both, sub-frames to the second receiver.
-/// `each` sees every state.
+/// Lends a replay input to both. `each` sees every state, with the number of records before it.
 pub fn replay(
     input: &[u8],
     rng: &mut Rng,
     tally: &mut Tally,
-    mut each: impl FnMut(&Twin, &mut Rng) -> Result<(), String>,
+    mut each: impl FnMut(&Twin, usize, &mut Rng) -> Result<(), String>,
 ) -> Result<(), String> {
     let mut twin = Twin::new(rng);
     for (place, record) in input.chunks_exact(RECORD).enumerate() {
         let at = |error| format!("record {}: {error}", place + 1);
-        match call_of(record) {
-            Some(call) if twin.receiver.is_started() || call.kind() == 0 => {
-                let prn = rng.range(1, 36) as u8;
-                tally.add(call.kind(), twin.call(&call, prn).map_err(at)?);
+        let Some(call) = call_of(record) else {
+            continue;
+        };
+        if twin.receiver.is_started() || call.kind() == Kind::Start {
+            let prn = rng.range(1, 36) as u8;
+            tally.add(call.kind(), &twin.call(&call, prn).map_err(at)?);
+            if call.kind() == Kind::Subframe && rng.once_in(16) {
+                twin.refill(rng);
             }
-            None if record[0] == 3 => {
-                let mut field = [0; 75];
-                field.copy_from_slice(&record[6..81]);
-                let filler = rng.once_in(16).then_some(&mut *rng);
-                twin.subframes(gst(record), &[(record[1], field)], filler);
-                tally.subframes += 1;
-            }
-            _ => {}
         }
-        each(&twin, rng).map_err(at)?;
+        each(&twin, place + 1, rng).map_err(at)?;
     }
     Ok(())
 }
@@ -172,7 +203,7 @@ fn shape(receiver: &Receiver) -> [usize; 7] {
         receiver.public_keys().len(),
         sets.count().div_ceil(12),
         (0..16)
-            .filter(|&id| receiver.dsm(id).is_some_and(|store| store.marks() != 0))
+            .filter(|&id| receiver.dsm(id).is_some_and(|store| store.present() != 0))
             .count()
             .min(3),
     ]
@@ -194,8 +225,39 @@ const SCENARIOS: [&str; 12] = [
     "verdicts",
 ];
 
+/// A state in the middle of a run, and the records that come then.
+#[derive(Clone)]
+pub struct State {
+    pub twin: Twin,
+    run: Rc<Vec<u8>>,
+    next: usize,
+}
+
+impl State {
+    /// Not started, and no run.
+    fn new(rng: &mut Rng) -> State {
+        State {
+            twin: Twin::new(rng),
+            run: Rc::default(),
+            next: 0,
+        }
+    }
+
+    /// The run's next call.
+    fn next_of_run(&mut self) -> Option<Call> {
+        let records = self.run.chunks_exact(RECORD).skip(self.next);
+        for record in records {
+            self.next += 1;
+            if let Some(call) = call_of(record) {
+                return Some(call);
+            }
+        }
+        None
+    }
+}
+
 /// States in the middle of scenarios, one or a few of each shape.
-pub fn states(seed: u64, mixes: u64) -> Result<Vec<Twin>, String> {
+pub fn states(seed: u64, mixes: u64) -> Result<Vec<State>, String> {
     let mut rng = Rng::new(seed);
     let named = SCENARIOS.iter().filter_map(|name| scenario::find(name));
     let runs = named
@@ -204,14 +266,19 @@ pub fn states(seed: u64, mixes: u64) -> Result<Vec<Twin>, String> {
     let mut states = Vec::new();
     for run in runs {
         let mut seen = BTreeSet::new();
-        let keep = |twin: &Twin, rng: &mut Rng| {
+        let bytes = Rc::new(run.bytes);
+        let keep = |twin: &Twin, next: usize, rng: &mut Rng| {
             let again = rng.once_in(200);
             if twin.receiver.is_started() && (seen.insert(shape(&twin.receiver)) || again) {
-                states.push(twin.clone());
+                states.push(State {
+                    twin: twin.clone(),
+                    run: Rc::clone(&bytes),
+                    next,
+                });
             }
             Ok(())
         };
-        replay(&run.bytes, &mut rng, &mut Tally::default(), keep)
+        replay(&bytes, &mut rng, &mut Tally::default(), keep)
             .map_err(|error| format!("{}: {error}", run.name))?;
     }
     Ok(states)
@@ -221,10 +288,12 @@ pub fn states(seed: u64, mixes: u64) -> Result<Vec<Twin>, String> {
 pub struct Driver {
     rng: Rng,
     tree: Tree,
-    states: Vec<Twin>,
-    twin: Twin,
+    states: Vec<State>,
+    state: State,
     /// Calls until the next state is begun at.
     left: u64,
+    /// Calls to be made before others are drawn: a message's blocks.
+    queue: Vec<Call>,
     pub tally: Tally,
 }
 
@@ -234,8 +303,9 @@ impl Driver {
         Ok(Driver {
             tree: draw::tree(&mut rng),
             states: states(seed, mixes)?,
-            twin: Twin::new(&mut rng),
+            state: State::new(&mut rng),
             left: 0,
+            queue: Vec::new(),
             rng,
             tally: Tally::default(),
         })
@@ -256,20 +326,23 @@ impl Driver {
 
     fn begin(&mut self) {
         let rng = &mut self.rng;
-        self.left = rng.range(5, 60);
-        self.twin = match rng.below(8) {
-            0 => Twin::new(rng),
+        self.left = rng.range(5, 80);
+        self.state = match rng.below(8) {
+            0 => State::new(rng),
             _ => rng.pick(&self.states).clone(),
         };
     }
 
     fn step(&mut self) -> Result<(), String> {
+        if let Some(call) = self.queue.pop() {
+            return self.call(&call);
+        }
         if self.left == 0 {
             self.begin();
         }
         self.left -= 1;
-        if self.twin.receiver.is_started() {
-            self.deliver();
+        if self.rng.once_in(100) {
+            self.state.twin.refill(&mut self.rng);
         }
         let call = self.draw();
         if self.rng.once_in(12) {
@@ -278,47 +351,66 @@ impl Driver {
         self.call(&call)
     }
 
-    /// Sub-frames that bring what no call here brings.
-    fn deliver(&mut self) {
-        let (twin, rng) = (&mut self.twin, &mut self.rng);
-        self.tally.subframes += match rng.below(600) {
-            0..=99 if twin.receiver.waiting_message().is_none() => draw::deliver_root(twin, rng),
-            100..=105 => draw::deliver_root(twin, rng),
-            106..=125 => draw::deliver_key(twin, rng, &self.tree, false),
-            126..=127 => draw::deliver_key(twin, rng, &self.tree, true),
-            _ => 0,
-        };
-    }
-
     fn draw(&mut self) -> Call {
-        let (rng, receiver) = (&mut self.rng, &self.twin.receiver);
+        let (rng, twin) = (&mut self.rng, &self.state.twin);
+        let receiver = &twin.receiver;
         if !receiver.is_started() {
             return Call::Start(match rng.below(3) {
                 0 => draw::bad_settings(rng, &self.tree),
                 _ => draw::settings(rng, &self.tree),
             });
         }
-        match rng.below(64) {
+        let waits = receiver.waiting_message().is_some();
+        match rng.below(128) {
             0 => Call::Start(draw::settings(rng, &self.tree)),
-            1..=3 => Call::Start(draw::bad_settings(rng, &self.tree)),
-            4..=19 => draw::verdict(rng, receiver),
-            20..=25 => Call::ReadSet(draw::prn(rng)),
-            26..=28 => Call::ReadMessage,
-            _ => draw::word(rng, receiver),
+            1..=4 => Call::Start(draw::bad_settings(rng, &self.tree)),
+            5..=8 => draw::verdict(rng, receiver),
+            9..=28 if waits => draw::verdict(rng, receiver),
+            9..=18 => self.message(),
+            29..=30 => self.message(),
+            31..=36 => Call::ReadSet(draw::prn(rng)),
+            37..=39 => Call::ReadMessage,
+            40..=51 => draw::subframe(rng, receiver),
+            52..=75 => draw::word(rng, receiver),
+            _ => match self.state.next_of_run() {
+                Some(call) => draw::damaged(&mut self.rng, call),
+                None => draw::subframe(&mut self.rng, &self.state.twin.receiver),
+            },
+        }
+    }
+
+    /// The first block of a message; the others wait in the queue.
+    fn message(&mut self) -> Call {
+        let (rng, receiver) = (&mut self.rng, &self.state.twin.receiver);
+        self.queue = match rng.below(8) {
+            0 | 1 => draw::key_message(rng, receiver, &self.tree, false),
+            2 => draw::key_message(rng, receiver, &self.tree, true),
+            _ => draw::root_message(rng, receiver),
+        };
+        match self.queue.pop() {
+            Some(call) => call,
+            None => draw::word(rng, receiver),
         }
     }
 
     fn call(&mut self, call: &Call) -> Result<(), String> {
-        let before = Before::of(&self.twin.receiver);
+        let twin = &mut self.state.twin;
+        let before = Before::of(&twin.receiver);
         let prn = self.rng.range(1, 36) as u8;
-        let answer = self.twin.call(call, prn);
+        let answer = twin.call(call, prn);
         let answer = answer.map_err(|error| format!("{error}, after {call:?}"))?;
-        self.tally.add(call.kind(), answer);
+        self.tally.add(call.kind(), &answer);
         if before.tags == 256 {
             self.tally.event("call of a full core");
         }
-        if (call.kind(), answer) == (2, 0) {
-            before.tell(&self.twin.receiver, &mut self.tally);
+        match call {
+            Call::Verdict { .. } if answer.number == 0 => {
+                before.tell_verdict(&twin.receiver, &mut self.tally)
+            }
+            Call::Subframe { time, .. } => {
+                before.tell_subframe(&twin.receiver, *time, &mut self.tally)
+            }
+            _ => {}
         }
         Ok(())
     }
@@ -330,19 +422,25 @@ impl Driver {
             false => *rng.pick(REGIONS),
         };
         let wrong = *rng.pick(&WRONG);
-        refused(self.twin.core.regions(), call, what, wrong)
+        refused(self.state.twin.core.regions(), call, what, wrong)
             .map_err(|error| format!("{error}, after {call:?}"))?;
-        self.tally.add(call.kind(), 1);
+        let mut answer = Answer::from(1);
+        if call.kind() == Kind::Subframe {
+            answer.mack = 1;
+        }
+        self.tally.add(call.kind(), &answer);
         Ok(())
     }
 }
 
-/// What a good verdict can change.
+/// What a good verdict or a sub-frame can change.
 struct Before {
     contents: Option<Vec<u8>>,
     rooted: bool,
+    message: bool,
     tags: usize,
     keys: usize,
+    stopped: bool,
 }
 
 impl Before {
@@ -350,13 +448,15 @@ impl Before {
         Before {
             contents: receiver.chain().map(|chain| chain.contents.clone()),
             rooted: receiver.last_root().is_some(),
+            message: receiver.waiting_message().is_some(),
             tags: receiver.waiting_tags().len(),
             keys: receiver.public_keys().len(),
+            stopped: receiver.is_stopped(),
         }
     }
 
     /// Tallies what a good verdict did.
-    fn tell(&self, receiver: &Receiver, tally: &mut Tally) {
+    fn tell_verdict(&self, receiver: &Receiver, tally: &mut Tally) {
         let now = Before::of(receiver);
         tally.event(match (&self.contents, &now.contents) {
             (_, None) => "chain dropped",
@@ -370,6 +470,31 @@ impl Before {
         });
         if now.keys < self.keys {
             tally.event("public keys dropped");
+        }
+    }
+
+    /// Tallies what a sub-frame did.
+    fn tell_subframe(&self, receiver: &Receiver, time: u32, tally: &mut Tally) {
+        let now = Before::of(receiver);
+        let earlier = |waiting: &&_| -> bool {
+            let waiting: &second_receiver::tags::WaitingTag = waiting;
+            waiting.tag.time.0 < time
+        };
+        for (event, came) in [
+            ("public key added", now.keys > self.keys),
+            ("message waits", now.message && !self.message),
+            (
+                "stopped by an emergency message",
+                now.stopped && !self.stopped,
+            ),
+            (
+                "waiting tags judged",
+                receiver.waiting_tags().iter().filter(earlier).count() < self.tags,
+            ),
+        ] {
+            if came {
+                tally.event(event);
+            }
         }
     }
 }

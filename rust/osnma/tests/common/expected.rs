@@ -7,6 +7,7 @@
 //! start leaves zeros in all of them.
 
 use osnma::regions::Regions;
+use second_receiver::gather::Hkroot;
 use second_receiver::tags::WaitingTag;
 use second_receiver::times::Gst;
 use second_receiver::Receiver;
@@ -36,6 +37,32 @@ fn entry(waiting: &WaitingTag) -> [u8; ENTRY] {
     entry[10..15].copy_from_slice(&tag.bits.to_be_bytes()[3..]);
     entry[15..].copy_from_slice(&waiting.set.0);
     entry
+}
+
+/// The block of a sub-frame, if it is one that is stored. The second receiver takes a complete message
+/// out whole; the region keeps the bytes of its blocks, of the one that completed it too.
+pub struct Block(Option<Hkroot>);
+
+impl Block {
+    /// The receiver is as it was before the sub-frame.
+    pub fn of(fields: &[u8; 75], time: u32, receiver: &Receiver) -> Block {
+        let new = Hkroot::read(&std::array::from_fn(|at| fields[5 * at]));
+        let stored = receiver.dsm(new.dsm_id).is_some_and(|store| {
+            let age_is_known = receiver
+                .last_subframe()
+                .is_none_or(|last| last <= Gst(time));
+            age_is_known && store.clone().add(&new, Gst(time)).is_ok()
+        });
+        Block(stored.then_some(new))
+    }
+
+    /// The sub-frame is past check 5.
+    pub fn write(&self, regions: &mut Regions) {
+        if let Some(new) = &self.0 {
+            let place = 208 * usize::from(new.dsm_id) + 13 * usize::from(new.block_id);
+            regions.blocks[place..place + 13].copy_from_slice(&new.block);
+        }
+    }
 }
 
 /// Writes all that the receiver knows; the rest of `regions` stays. The receiver is started.
@@ -85,7 +112,7 @@ fn write_satellite(receiver: &Receiver, prn: u8, regions: &mut Regions) {
 
 fn write_blocks(receiver: &Receiver, id: u8, regions: &mut Regions) {
     let (at, store) = (usize::from(id), receiver.dsm(id).expect("DSM ID 0 to 15"));
-    regions.marks[at] = store.marks();
+    regions.present[at] = store.present();
     if let Some(header) = store.header {
         regions.headers[at] = header;
     }
@@ -102,9 +129,9 @@ fn write_blocks(receiver: &Receiver, id: u8, regions: &mut Regions) {
 }
 
 fn write_keys(receiver: &Receiver, regions: &mut Regions) {
-    regions.keys.fill(0);
+    regions.pubkeys.fill(0);
     for key in receiver.public_keys() {
-        let place = &mut regions.keys[68 * usize::from(key.id)..][..68];
+        let place = &mut regions.pubkeys[68 * usize::from(key.id)..][..68];
         place[0] = key.key_type + 1;
         put_filled(&mut place[1..], &key.bytes);
     }
@@ -126,7 +153,7 @@ fn write_chain(receiver: &Receiver, regions: &mut Regions) {
         (Some(chain), _) => {
             regions.chain[0] = 1;
             put_filled(&mut regions.chain[1..], &chain.contents);
-            put_filled(&mut regions.key, chain.held.as_slice());
+            put_filled(&mut regions.heldkey, chain.held.as_slice());
             regions.numbers[0] = chain.held_slot;
         }
         // A drop leaves the contents; of them only the root's time counts again.
@@ -139,7 +166,7 @@ fn write_chain(receiver: &Receiver, regions: &mut Regions) {
         }
         (None, None) => {
             regions.chain.fill(0);
-            regions.key.fill(0);
+            regions.heldkey.fill(0);
             regions.numbers[0] = 0;
         }
     }
@@ -165,8 +192,8 @@ pub fn difference(got: &Regions, want: &Regions) -> Option<String> {
         };
     }
     first!(
-        config clocks words stamps blocks headers marks since
-        keys offer chain numbers key waiting sets arrivals
+        config clocks words stamps blocks headers present since
+        pubkeys offer chain numbers heldkey waiting sets arrivals
     );
     None
 }

@@ -41,13 +41,13 @@ loose! {
     stamps: u32,
     blocks: u8,
     headers: u8,
-    marks: u16,
+    present: u16,
     since: u32,
-    keys: u8,
+    pubkeys: u8,
     offer: u8,
     chain: u8,
     numbers: u64,
-    key: u8,
+    heldkey: u8,
     waiting: u8,
     sets: u8,
     arrivals: u32,
@@ -80,6 +80,7 @@ pub fn parts(call: &Call) -> &'static [&'static str] {
     match call {
         Call::Start(_) => &["the marks", "the tree root", "the first key"],
         Call::Word { .. } => &["the word"],
+        Call::Subframe { .. } => &["the fields", "the record area"],
         Call::Verdict { .. } => &["the message", "the signature"],
         Call::ReadSet(_) => &["the set"],
         Call::ReadMessage => &["the message", "the signature", "the public key"],
@@ -125,6 +126,16 @@ fn answer(lent: &mut Loose, call: &Call, what: &str, wrong: Wrong) -> Result<u32
             &cut(&s.key, "the first key"),
         )),
         Call::Word { prn, time, word } => Ok(lent.word(*prn, *time, &cut(word, "the word"))),
+        Call::Subframe { prn, time, fields } => {
+            let mut area = cut(&[0x5A; 3240], "the record area");
+            let fields = cut(fields, "the fields");
+            let (mut hkroot, mut mack) = (0x5A5A_5A5A, 0x5A5A_5A5A);
+            let count = lent.subframe(&mut area, *prn, *time, &fields, &mut hkroot, &mut mack);
+            match (count, hkroot == mack) {
+                (0, true) => stayed(&[&area], hkroot),
+                _ => Err("a count that is not 0, or halves that differ"),
+            }
+        }
         Call::Verdict {
             good,
             key_id,

@@ -1,9 +1,8 @@
 //! The same call into the core and into the second receiver.
 
-use super::expected::{difference, write_known};
+use super::expected::{difference, write_known, Block};
 use osnma::regions::Regions;
-use osnma::{Core, Gst, Settings};
-use second_receiver::receiver::RECORDS_LEN;
+use osnma::{Core, Gst, Records, Settings, TagRecord};
 use second_receiver::Receiver;
 use signal::rng::Rng;
 
@@ -16,6 +15,11 @@ pub enum Call {
         time: u32,
         word: [u8; 16],
     },
+    Subframe {
+        prn: u8,
+        time: u32,
+        fields: [u8; 75],
+    },
     Verdict {
         good: u8,
         key_id: u8,
@@ -26,35 +30,63 @@ pub enum Call {
     ReadMessage,
 }
 
-/// Names of the calls, by [`Call::kind`].
-pub const KINDS: [&str; 5] = ["start", "word", "verdict", "read_set", "read_message"];
+#[derive(Clone, Copy, Debug, PartialEq, Eq, PartialOrd, Ord)]
+pub enum Kind {
+    Start,
+    Word,
+    Subframe,
+    Verdict,
+    ReadSet,
+    ReadMessage,
+}
 
 impl Call {
-    pub fn kind(&self) -> usize {
+    pub fn kind(&self) -> Kind {
         match self {
-            Call::Start(_) => 0,
-            Call::Word { .. } => 1,
-            Call::Verdict { .. } => 2,
-            Call::ReadSet(_) => 3,
-            Call::ReadMessage => 4,
+            Call::Start(_) => Kind::Start,
+            Call::Word { .. } => Kind::Word,
+            Call::Subframe { .. } => Kind::Subframe,
+            Call::Verdict { .. } => Kind::Verdict,
+            Call::ReadSet(_) => Kind::ReadSet,
+            Call::ReadMessage => Kind::ReadMessage,
         }
     }
 
     /// The satellite that the call concerns.
     fn prn(&self) -> Option<u8> {
         match self {
-            Call::Word { prn, .. } | Call::ReadSet(prn) => Some(*prn),
+            Call::Word { prn, .. } | Call::Subframe { prn, .. } | Call::ReadSet(prn) => Some(*prn),
             _ => None,
         }
     }
 }
 
-/// A core, a second receiver, and what the core's regions must hold.
+/// What both answered: the number, for a sub-frame the HKROOT half's; the MACK half's, else 0; and the
+/// outcomes of the tags judged.
+#[derive(Clone, Debug, Default, PartialEq, Eq)]
+pub struct Answer {
+    pub number: u32,
+    pub mack: u32,
+    pub outcomes: Vec<u8>,
+}
+
+impl From<u32> for Answer {
+    fn from(number: u32) -> Answer {
+        Answer {
+            number,
+            ..Answer::default()
+        }
+    }
+}
+
+/// A core, a second receiver, what the core's regions must hold, and both records areas.
 #[derive(Clone)]
 pub struct Twin {
     pub core: Core,
     pub receiver: Receiver,
     pub want: Regions,
+    area: Records,
+    want_area: Records,
 }
 
 /// What a call that gives no read answers.
@@ -69,15 +101,15 @@ pub fn garbage(rng: &mut Rng) -> Regions {
     rng.fill(&mut r.words);
     rng.fill(&mut r.blocks);
     rng.fill(&mut r.headers);
-    rng.fill(&mut r.keys);
+    rng.fill(&mut r.pubkeys);
     rng.fill(&mut r.offer);
     rng.fill(&mut r.chain);
-    rng.fill(&mut r.key);
+    rng.fill(&mut r.heldkey);
     rng.fill(&mut r.waiting);
     rng.fill(&mut r.sets);
     r.clocks.fill_with(|| rng.number() as u32);
     r.stamps.fill_with(|| rng.number() as u32);
-    r.marks.fill_with(|| rng.number() as u16);
+    r.present.fill_with(|| rng.number() as u16);
     r.since.fill_with(|| rng.number() as u32);
     r.numbers.fill_with(|| rng.number());
     r.arrivals.fill_with(|| rng.number() as u32);
@@ -85,26 +117,29 @@ pub fn garbage(rng: &mut Rng) -> Regions {
 }
 
 impl Twin {
-    /// Not started; any bytes in the core.
+    /// Not started; any bytes in the core and in the record areas.
     pub fn new(rng: &mut Rng) -> Twin {
-        let want = garbage(rng);
+        let (want, area) = (garbage(rng), rng.array());
         let mut core = Core::new();
         *core.regions_mut() = want.clone();
         Twin {
             core,
             receiver: Receiver::new(),
             want,
+            area,
+            want_area: area,
         }
     }
 
-    /// A call into both. Compares the answer, every byte of every region, and what both reads give
-    /// then; `prn` is the satellite that is read where the call names none. Gives the answer.
+    /// A call into both. Compares the answers, the tag records, every byte of every region and of the
+    /// record area, and what both reads give then; `prn` is the satellite that is read where the call
+    /// names none.
     ///
     /// Before a start the second receiver answers no call but a start; the core's answers are then
     /// those of its contents, and only starts are called.
-    pub fn call(&mut self, call: &Call, prn: u8) -> Result<u32, String> {
+    pub fn call(&mut self, call: &Call, prn: u8) -> Result<Answer, String> {
         let answer = self.answers(call)?;
-        if answer == 0 && call.kind() == 0 {
+        if answer.number == 0 && call.kind() == Kind::Start {
             self.want = Regions::zeroed();
         }
         self.compare()?;
@@ -117,7 +152,7 @@ impl Twin {
     }
 
     /// What both answer.
-    fn answers(&mut self, call: &Call) -> Result<u32, String> {
+    fn answers(&mut self, call: &Call) -> Result<Answer, String> {
         let (core, receiver) = (&mut self.core, &mut self.receiver);
         let (got, right) = match call {
             Call::Start(s) => (
@@ -137,6 +172,7 @@ impl Twin {
                 number(core.word(*prn, Gst::from_bits(*time), word)),
                 receiver.word(*prn, *time, word),
             ),
+            Call::Subframe { prn, time, fields } => return self.subframe(*prn, *time, fields),
             Call::Verdict {
                 good,
                 key_id,
@@ -153,19 +189,56 @@ impl Twin {
                 },
                 receiver.verdict(*good, *key_id, message, signature),
             ),
-            Call::ReadSet(prn) => return self.read_set(*prn),
-            Call::ReadMessage => return self.read_message(),
+            Call::ReadSet(prn) => return self.read_set(*prn).map(Answer::from),
+            Call::ReadMessage => return self.read_message().map(Answer::from),
         };
         same("answer", &got, &u32::from(right))?;
-        Ok(got)
+        Ok(got.into())
     }
 
-    /// Every byte of every region.
+    /// A sub-frame: both halves, the records as they are and as `Core` hands them out.
+    fn subframe(&mut self, prn: u8, time: u32, fields: &[u8; 75]) -> Result<Answer, String> {
+        let block = Block::of(fields, time, &self.receiver);
+        let gst = Gst::from_bits(time);
+        let got = self.core.subframe(prn, gst, fields, &mut self.area);
+        let (hkroot, mack) = (number(got.hkroot), number(got.mack));
+        let tags: Vec<TagRecord> = got.tags.collect();
+        let right = self
+            .receiver
+            .subframe(prn, time, fields, &mut self.want_area);
+        let halves = (u32::from(right.hkroot), u32::from(right.mack));
+        same("halves", &(hkroot, mack), &halves)?;
+        same("count of records", &tags.len(), &right.records)?;
+        let records = self.want_area.chunks_exact(12).take(right.records);
+        for (tag, record) in tags.iter().zip(records.clone()) {
+            same("record", &&bytes(tag)[..], &record)?;
+        }
+        if !(1..=5).contains(&hkroot) {
+            block.write(&mut self.want);
+        }
+        Ok(Answer {
+            number: hkroot,
+            mack,
+            outcomes: records.map(|record| record[0]).collect(),
+        })
+    }
+
+    /// Every byte of every region and of the record area.
     pub fn compare(&mut self) -> Result<(), String> {
         if self.receiver.is_started() {
             write_known(&self.receiver, &mut self.want);
         }
-        difference(self.core.regions(), &self.want).map_or(Ok(()), Err)
+        if let Some(difference) = difference(self.core.regions(), &self.want) {
+            return Err(difference);
+        }
+        let mut pairs = self.area.iter().zip(&self.want_area);
+        match pairs.position(|(a, b)| a != b) {
+            None => Ok(()),
+            Some(at) => {
+                let (a, b) = (self.area[at], self.want_area[at]);
+                Err(format!("area[{at}] is {a}, not {b}"))
+            }
+        }
     }
 
     /// The read by `Core`, and the one below it, which leaves what it is lent where it refuses.
@@ -221,27 +294,34 @@ impl Twin {
         Ok(got)
     }
 
-    /// Sub-frames of one time for the second receiver alone, by PRN; the core then gets the regions
-    /// that its state stands for. What that state does not know stays, or is any bytes where
-    /// `filler` is given.
-    pub fn subframes(&mut self, time: u32, fields: &[(u8, [u8; 75])], filler: Option<&mut Rng>) {
-        let mut area = [0; RECORDS_LEN];
-        for (prn, field) in fields {
-            self.receiver.subframe(*prn, time, field, &mut area);
-        }
-        if let Some(rng) = filler {
-            self.want = garbage(rng);
-        }
-        self.settle();
-    }
-
-    /// Gives the core the regions that the second receiver's state stands for.
-    fn settle(&mut self) {
+    /// Any bytes wherever the second receiver knows of none: in the core's regions, and in the record
+    /// area.
+    pub fn refill(&mut self, rng: &mut Rng) {
+        self.want = garbage(rng);
         if self.receiver.is_started() {
             write_known(&self.receiver, &mut self.want);
         }
         self.core.regions_mut().clone_from(&self.want);
+        self.area = rng.array();
+        self.want_area = self.area;
     }
+}
+
+/// The 12 bytes of a record (01, "A tag record has 12 bytes").
+fn bytes(tag: &TagRecord) -> [u8; 12] {
+    let mut bytes = [0; 12];
+    let head = [
+        tag.outcome.number(),
+        tag.sender,
+        tag.prn,
+        tag.adkd,
+        tag.block,
+        tag.position,
+    ];
+    bytes[..6].copy_from_slice(&head);
+    bytes[6..8].copy_from_slice(&tag.iodnav.to_be_bytes());
+    bytes[8..].copy_from_slice(&tag.time.bits().to_be_bytes());
+    bytes
 }
 
 fn same<T: PartialEq + std::fmt::Debug>(what: &str, got: &T, right: &T) -> Result<(), String> {

@@ -3,11 +3,11 @@
 use crate::chain::{Chain, Params};
 use crate::dsm::{self, Tree};
 use crate::mack::{Info, Layout, Marks, Sending, FLEXIBLE};
+use crate::navdata::NavSet;
 use crate::replay::{self, Read, Run, Start, Verdict};
 use crate::rng::Rng;
 use crate::subframe::{self, Hkroot, Mack};
 use crate::time::Gst;
-use crate::words::NavSet;
 use std::rc::Rc;
 
 /// NMA status "Operational" (000, table 2).

@@ -5,11 +5,11 @@ use crate::bits;
 use crate::chain::{Chain, Params};
 use crate::dsm;
 use crate::mack::{Info, Layout, FLEXIBLE};
+use crate::navdata::NavSet;
 use crate::replay::{self, Run, Verdict, RECORD};
 use crate::rng::Rng;
 use crate::subframe::{self, Hkroot, Mack};
 use crate::time::Gst;
-use crate::words::NavSet;
 use std::rc::Rc;
 
 /// Weeks and hours at which the first chain begins.

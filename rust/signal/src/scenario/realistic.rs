@@ -4,9 +4,9 @@ use super::bench::*;
 use crate::chain::{Chain, Params};
 use crate::dsm;
 use crate::mack::{Info, FLEXIBLE};
+use crate::navdata::NavSet;
 use crate::replay::{self, Read, Run};
 use crate::time::Gst;
-use crate::words::NavSet;
 use std::rc::Rc;
 
 /// Half a minute of all satellites seen: their fields, then their words.

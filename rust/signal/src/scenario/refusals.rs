@@ -9,10 +9,10 @@ use crate::bits;
 use crate::chain::{Chain, Params};
 use crate::dsm::{self, Tree};
 use crate::mack::Info;
+use crate::navdata::{NavSet, Word};
 use crate::replay::{self, Run, Start, Verdict};
 use crate::subframe::{Hkroot, Mack};
 use crate::time::Gst;
-use crate::words::{NavSet, Word};
 use std::rc::Rc;
 
 /// A number of 01's table and what brings it about.

@@ -5,8 +5,8 @@ use crate::bits;
 use crate::chain::{Chain, Params};
 use crate::dsm;
 use crate::mack::{Info, Layout, FLEXIBLE};
+use crate::navdata::NavSet;
 use crate::replay::{self, Read, Run};
-use crate::words::NavSet;
 use std::rc::Rc;
 
 /// One block of KS 96 and MS 40: six fields. Satellites 1 to 4 have their words.

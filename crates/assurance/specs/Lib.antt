@@ -1,0 +1,2 @@
+-- What is claimed of the exported calls.
+pub mod Run

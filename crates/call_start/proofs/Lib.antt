@@ -1,2 +1,0 @@
--- Laws of the start.
-mod Answers

@@ -1,2 +1,0 @@
--- Laws of the call's checks.
-mod Checks

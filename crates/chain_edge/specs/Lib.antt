@@ -1,2 +1,0 @@
--- What the contract of `chain_edge` cites.
-pub mod Walk

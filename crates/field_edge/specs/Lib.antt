@@ -1,2 +1,0 @@
--- What the contracts of `field_edge` cite.
-pub mod Edge

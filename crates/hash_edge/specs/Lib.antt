@@ -1,2 +1,0 @@
--- What the contracts of `hash_edge` cite.
-pub mod Edge

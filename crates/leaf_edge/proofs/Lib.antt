@@ -1,2 +1,0 @@
--- The answer of `gather` as one number.
-mod Told

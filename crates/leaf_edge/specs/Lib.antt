@@ -1,2 +1,0 @@
--- What the contracts of `leaf_edge` cite.
-pub mod Edge

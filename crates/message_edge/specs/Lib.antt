@@ -1,2 +1,0 @@
--- What the contracts of `message_edge` cite.
-pub mod Edge

@@ -1,0 +1,196 @@
+-- The HKROOT half: blocks, public keys and what waits are by the history again; words, chain, held key, tags and sets stay.
+use Prim.Native.Nat.{ℕ, _+_}
+use mathlib.Core.Path.{_≡_, refl, sym, _∙_, ap}
+use mathlib.Core.Logic.{_≢_, ⊎-elim}
+use mathlib.Core.Bool.{true, false}
+use mathlib.Core.List.{List, _∷_}
+use mathlib.Core.Option.{some}
+use native.Mathlib.Omega.{arith}
+use lib.Dec.{eqb, leb}
+use lib.ListN.{length, set, length-set}
+use lib.Seq.{getD-set-other, ext-getD}
+use borrow.Author.Tests.{leb-false, eqb-true, eqb-false}
+use Rattle.laws.specs.Lists.{part}
+use Rattle.laws.specs.Refusal.{firstOf}
+use Rattle.laws.proofs.Refusal.{clear, by-test}
+use Rattle.laws.proofs.Splice.{either, length-part, getD-part}
+use Rattle.rules.specs.Calls.{Start, Subframe, HkrootDone, hkrootHalf, storeDone, krootDone, pkrDone}
+use Rattle.rules.specs.Gather.{hkrootOf, dsmIdOf, headerOf, withBlock, complete, stored, gathered, Gathered, gatherChecks}
+use Rattle.rules.specs.Kroot.{offerId, inForce, parametersBad}
+use Rattle.rules.specs.Log.{Entry, Log, hkrootIn}
+use Rattle.rules.specs.Pkr.{Renewed, pkrJudged}
+use Rattle.rules.specs.State.{State, Store, nsOf, macltOf, treeRoot, configLength, blocksLength, dsmIds, pubkeysLength}
+use Rattle.rules.proofs.Bounds.{dsm-id-bound, offer-id-bound}
+use Rattle.rules.proofs.Choices.{by-number}
+use Rattle.rules.proofs.Gathering
+use Rattle.rules.proofs.Gathering.{DsmCame, dsm-came, length-hkroot}
+use Rattle.rules.proofs.Invariant.{BlocksAre, KeysAre, OfferHeld}
+use Rattle.rules.proofs.KeysProved.{pkr-known, pkr-held, kroot-held}
+use Rattle.rules.proofs.Later.{blocks-later, keys-later}
+use Rattle.rules.proofs.Refused.{pkr-refused}
+
+-- ---- the store, and the DSM that is taken out
+
+-- what is so of the store and the DSM after a block; `code` is the number that the half is answered
+record StoreIs (id code : ℕ) (l : Log) (g : Gathered) : Type 0 where
+  -- no DSM was taken out
+  waits : length (g .dsm) ≡ 0 → g .code ≡ code → BlocksAre (g .store) l
+  -- a DSM was taken out, whatever its number
+  out : length (g .dsm) ≢ 0 → BlocksAre (g .store) l
+  -- and its blocks all came, where its number is 0
+  came : length (g .dsm) ≢ 0 → code ≡ 0 → DsmCame (g .dsm) id l
+
+module _ (st : Store) (t : ℕ) (x : Entry) (sub : Subframe) (l : Log)
+    (blocks-size : length (st .blocks) ≡ blocksLength) (marks-size : length (st .present) ≡ dsmIds) (half-is : x .reply .code ≡ 0 → hkrootIn x ≡ some sub) (v : BlocksAre st l) where
+  abbrev hk : List ℕ
+  hk = hkrootOf (sub .bytes) 15
+
+  hk-size : length (hkrootOf (sub .bytes) 15) ≡ 15
+  hk-size = length-hkroot (sub .bytes) 15
+
+  stored-is : Gathering.Fit st t hk blocks-size marks-size hk-size → StoreIs (dsmIdOf hk) (x .reply .code) (x ∷ l) (stored (withBlock st t (dsmIdOf hk) hk) (dsmIdOf hk))
+  unfolding stored Gathering.new
+  stored-is f =
+      by-test (StoreIs (dsmIdOf hk) (x .reply .code) (x ∷ l)) (complete (withBlock st t (dsmIdOf hk) hk) (dsmIdOf hk))
+      (λ full. record {
+        waits = λ _ _. Gathering.out-blocks st t hk blocks-size marks-size hk-size f l v x;
+        out = λ _. Gathering.out-blocks st t hk blocks-size marks-size hk-size f l v x;
+        came = λ _ ok. dsm-came _ (dsmIdOf hk) (x ∷ l) (Gathering.new-size st t hk blocks-size marks-size hk-size) (dsm-id-bound hk) (stored-blocks ok) full;
+      })
+      (λ _. record { waits = λ _ ok. stored-blocks (sym ok); out = λ n. absurd (n refl); came = λ n. absurd (n refl) })
+    where
+      stored-blocks : x .reply .code ≡ 0 → BlocksAre (withBlock st t (dsmIdOf hk) hk) (x ∷ l)
+      stored-blocks ok = Gathering.new-blocks st t hk blocks-size marks-size hk-size f l v x sub (half-is ok) refl
+
+  gathered-is : StoreIs (dsmIdOf hk) (x .reply .code) (x ∷ l) (gathered st t hk)
+  unfolding gathered
+  gathered-is =
+      by-number (StoreIs (dsmIdOf hk) (x .reply .code) (x ∷ l)) (firstOf (gatherChecks st t (dsmIdOf hk) hk))
+      (λ e. (
+      let c = clear (gatherChecks st t (dsmIdOf hk) hk) tt e in
+      stored-is (record { counted = c .0; not-high = c .1 .0 })
+      ))
+      (λ _. record { waits = λ _ _. blocks-later v; out = λ n. absurd (n refl); came = λ n. absurd (n refl) })
+
+-- ---- settings: the mark of a stopped core leaves the others
+
+stopped-root : (c : List ℕ) → length c ≡ configLength → treeRoot (set c 62 1) ≡ treeRoot c
+unfolding treeRoot
+stopped-root c h =
+    let p : length (part (set c 62 1) 30 32) ≡ 32 = length-part (set c 62 1) 30 32 (omega (arith, length-set c 62 1)) in
+    let q : length (part c 30 32) ≡ 32 = length-part c 30 32 (omega arith) in
+    ext-getD 0 _ _ (p ∙ sym q)
+    (λ i k.
+    getD-part (set c 62 1) 30 32 i (omega arith)
+    ∙ getD-set-other c 62 (30 + i) 1 0 (λ e. absurd (omega (arith, e, k, p)))
+    ∙ sym (getD-part c 30 32 i (omega arith)))
+
+stopped-ns : (c : List ℕ) → nsOf (set c 62 1) ≡ nsOf c
+unfolding nsOf
+stopped-ns c = let e = getD-set-other c 62 0 1 0 (λ z. absurd (omega (arith, z))) in rw e refl
+
+stopped-force : (c chain : List ℕ) → inForce (set c 62 1) chain ≡ inForce c chain
+unfolding inForce parametersBad macltOf
+stopped-force c chain = let e = getD-set-other c 62 1 1 0 (λ z. absurd (omega (arith, z))) in rw e refl
+
+-- ---- the half
+
+-- what the half leaves of a state
+pub record HkrootIs (o : Start) (s : State) (l : Log) (s' : State) : Type 0 where
+  pub ns : nsOf (s' .config) ≡ nsOf (s .config)
+  pub root : treeRoot (s' .config) ≡ treeRoot (s .config)
+  pub in-force : (chain : List ℕ) → inForce (s' .config) chain ≡ inForce (s .config) chain
+  pub nav : s' .nav ≡ s .nav
+  pub blocks : BlocksAre (s' .store) l
+  pub pubkeys : KeysAre o (s' .pubkeys) l
+  pub offer : OfferHeld (s' .pubkeys) (s' .offer)
+  pub chain : s' .chain ≡ s .chain
+  pub tesla : s' .tesla ≡ s .tesla
+  pub auth : s' .auth ≡ s .auth
+
+module _ (o : Start) (s : State) (x : Entry) (sub : Subframe) (l : Log) (half-is : x .reply .code ≡ 0 → hkrootIn x ≡ some sub)
+    (config-size : length (s .config) ≡ configLength) (blocks-size : length (s .store .blocks) ≡ blocksLength) (marks-size : length (s .store .present) ≡ dsmIds) (keys-size : length (s .pubkeys) ≡ pubkeysLength)
+    (blocks : BlocksAre (s .store) l) (keys : KeysAre o (s .pubkeys) l) (root : treeRoot (s .config) ≡ o .root) (offer : OfferHeld (s .pubkeys) (s .offer)) where
+  abbrev dsmId : ℕ
+  dsmId = dsmIdOf (hkrootOf (sub .bytes) 15)
+
+  abbrev Done : HkrootDone → Type 0
+  Done a = a .code ≡ x .reply .code → HkrootIs o s (x ∷ l) (a .state)
+
+  abbrev Taken : Gathered → Type 0
+  Taken g = StoreIs dsmId (x .reply .code) (x ∷ l) g
+
+  store-done : (g : Gathered) → Taken g → length (g .dsm) ≡ 0 → Done (storeDone s g)
+  unfolding storeDone
+  store-done g v z ok =
+      record {
+        ns = refl;
+        root = refl;
+        in-force = λ chain. refl;
+        nav = refl;
+        blocks = v .waits z ok;
+        pubkeys = keys-later keys;
+        offer = offer;
+        chain = refl;
+        tesla = refl;
+        auth = refl;
+      }
+
+  kroot-done : (g : Gathered) → Taken g → length (g .dsm) ≢ 0 → Done (krootDone s (g .store) (headerOf (hkrootOf (sub .bytes) 15)) (g .dsm))
+  unfolding krootDone
+  kroot-done g v n ok =
+      record {
+        ns = refl;
+        root = refl;
+        in-force = λ chain. refl;
+        nav = refl;
+        blocks = v .out n;
+        pubkeys = keys-later keys;
+        offer = kroot-held (s .pubkeys) (s .config) (s .offer) (headerOf (hkrootOf (sub .bytes) 15)) (g .dsm) offer;
+        chain = refl;
+        tesla = refl;
+        auth = refl;
+      }
+
+  abbrev judged : List ℕ → Renewed
+  judged d = pkrJudged (s .pubkeys) (treeRoot (s .config)) d
+
+  pkr-keys : (g : Gathered) → Taken g → length (g .dsm) ≢ 0 → leb dsmId 11 ≡ false → (judged (g .dsm)) .code ≡ x .reply .code → KeysAre o ((judged (g .dsm)) .pubkeys) (x ∷ l)
+  pkr-keys g v n high ok =
+      ⊎-elim
+      (λ e. (
+      let z = eqb-true (x .reply .code) 0 e in
+      let h = leb-false dsmId 11 high in
+      rw root (pkr-known o (s .pubkeys) (g .dsm) dsmId x l keys-size keys (omega arith) (v .came n z) (ap (λ (r : List ℕ). (pkrJudged (s .pubkeys) r (g .dsm)) .code) (sym root) ∙ ok ∙ z))
+      ))
+      (λ e. (
+      let k = pkr-refused (s .pubkeys) (treeRoot (s .config)) (g .dsm) (λ y. eqb-false (x .reply .code) 0 e (sym ok ∙ y)) in
+      rw (k .0) (keys-later keys)
+      ))
+      (either (eqb (x .reply .code) 0))
+
+  pkr-done : (g : Gathered) → Taken g → length (g .dsm) ≢ 0 → leb dsmId 11 ≡ false → Done (pkrDone s (g .store) (g .dsm))
+  unfolding pkrDone
+  pkr-done g v n high ok =
+      record {
+        ns = by-test (λ (c : List ℕ). nsOf c ≡ nsOf (s .config)) ((judged (g .dsm)) .stops) (λ _. stopped-ns (s .config)) (λ _. refl);
+        root = by-test (λ (c : List ℕ). treeRoot c ≡ treeRoot (s .config)) ((judged (g .dsm)) .stops) (λ _. stopped-root (s .config) config-size) (λ _. refl);
+        in-force = λ chain. by-test (λ (c : List ℕ). inForce c chain ≡ inForce (s .config) chain) ((judged (g .dsm)) .stops) (λ _. stopped-force (s .config) chain) (λ _. refl);
+        nav = refl;
+        blocks = v .out n;
+        pubkeys = pkr-keys g v n high ok;
+        offer = λ w. pkr-held (s .pubkeys) (treeRoot (s .config)) (g .dsm) (offerId (s .offer)) keys-size (offer-id-bound (s .offer)) (offer w);
+        chain = refl;
+        tesla = refl;
+        auth = refl;
+      }
+
+  pub hkroot-is : (t : ℕ) → Done (hkrootHalf s t (hkrootOf (sub .bytes) 15))
+  unfolding hkrootHalf
+  hkroot-is t =
+      let g = gathered (s .store) t (hkrootOf (sub .bytes) 15) in
+      let v : Taken (gathered (s .store) t (hkrootOf (sub .bytes) 15)) = gathered-is (s .store) t x sub l blocks-size marks-size half-is blocks in
+      by-test Done (eqb (length (g .dsm)) 0) (λ e. store-done g v (eqb-true (length (g .dsm)) 0 e))
+      (λ e.
+      by-test Done (leb dsmId 11) (λ _. kroot-done g v (eqb-false (length (g .dsm)) 0 e))
+      (λ high. pkr-done g v (eqb-false (length (g .dsm)) 0 e) high))

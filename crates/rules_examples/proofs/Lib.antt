@@ -1,0 +1,3 @@
+-- Worked runs.
+pub mod SlowTagRun
+pub mod SlowTagFour

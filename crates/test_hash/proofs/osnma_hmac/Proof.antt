@@ -1,0 +1,50 @@
+-- `test_hash::osnma_hmac` meets its contract: each refusal, and the result.
+-- Assumes nothing.
+use mathlib.Core.Path.{_≡_}
+use lib.ListN.{length}
+use denote.Ref.{now}
+use borrow.Author.Tests.{eq-eqb, ne-eqb, le-leb, lt-leb}
+use Rattle.test_hash.specs.Calls.{hmacCall}
+use Rattle.test_hash.proofs.Results.{written}
+use borrow.Author.Needs.{needs}
+use native.Mathlib.Omega.{arith}
+use Rattle.test_hash.proofs.osnma_hmac.Statement.{statement}
+use Rattle.test_hash.proofs.osnma_hmac.Tie as tie
+
+returns : tie.Need-returns
+unfolding hmacCall
+returns c =
+    let g = c .before .before .before .before .args in
+    simp (ne-eqb (length (now (g .out))) 32 (search needs))
+
+returns-2 : tie.Need-returns-2
+unfolding hmacCall
+returns-2 c =
+    let g = c .before .before .before .before .before .args in
+    simp (eq-eqb (length (now (g .out))) 32 (omega arith), le-leb (2305843009213693952) (length (now (g .key))) (omega arith))
+
+returns-3 : tie.Need-returns-3
+unfolding hmacCall
+returns-3 c =
+    let g = c .before .before .before .before .before .before .args in
+    simp (eq-eqb (length (now (g .out))) 32 (omega arith), lt-leb (2305843009213693952) (length (now (g .key))) (omega arith), le-leb (2305843009213693888) (length (now (g .m))) (omega arith))
+
+returns-4 : tie.Need-returns-4
+unfolding hmacCall
+returns-4 c =
+    let g = c .before .before .before .before .before .before .before .before .before .before .before .before .args in
+    let d = c .before .before .before .before .before in
+    let n : length (d .hmac .result) ≡ 32 = search needs in
+    let r = written 32 (now (g .out)) (d .hmac .result) _ _ (omega arith) n (d .hmac .ensures) (c .before .before .copy-at .ensures) in
+    simp (eq-eqb (length (now (g .out))) 32 (omega arith), lt-leb (2305843009213693952) (length (now (g .key))) (omega arith), lt-leb (2305843009213693888) (length (now (g .m))) (omega arith), r)
+
+pub osnma-hmac-spec : {M : Type 1} → statement M
+osnma-hmac-spec =
+    tie.close
+    (tie.spec
+    returns
+    returns-2
+    (λ c. search needs)
+    returns-3
+    (λ c κs. search needs) (λ c. search needs) (λ c κs. search needs) (λ c. search needs)
+    returns-4)

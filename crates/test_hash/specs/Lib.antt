@@ -1,0 +1,2 @@
+-- What the contracts of `test_hash` cite.
+pub mod Calls

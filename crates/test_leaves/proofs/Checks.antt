@@ -1,0 +1,89 @@
+-- The first check that fails gives 1 and leaves the key; where none does, the numbers are in range.
+-- Assumes nothing.
+use mathlib.Core.Path.{_≡_, sym, _∙_}
+use mathlib.Core.Bool.{Bool, true, false, cond, not}
+use mathlib.Core.Logic.{⊎-elim}
+use mathlib.Core.List.{List}
+use Prim.Native.Nat.{ℕ, _+_, _-_, _^_, _≤_, _<_}
+use native.Mathlib.Omega.{arith}
+use lib.Dec.{leb}
+use lib.ListN.{take}
+use borrow.Author.Tests.{leb-true, lt-leb, le-leb}
+use Rattle.laws.specs.Lists.{splice}
+use Rattle.laws.specs.Refusal.{firstOf}
+use Rattle.laws.proofs.Splice.{below?}
+use Rattle.laws.proofs.Tests.{and-left, and-right}
+use Rattle.rules.specs.Bits.{within}
+use Rattle.rules.specs.Chain as S
+use Rattle.rules.specs.declared.Chain.{Chain}
+use Rattle.chain.specs.Sound.{Walks}
+use Rattle.test_leaves.specs.Numbers.{chainOf}
+use Rattle.test_leaves.specs.Walk.{gave, walkChecks, osnmaWalk}
+
+fails : (a : Bool) (n : ℕ) → a ≡ false → cond (not a) 1 n ≡ 1
+fails a n e = rw e
+
+passes : (a : Bool) (n : ℕ) → a ≡ true → cond (not a) 1 n ≡ n
+passes a n e = rw e
+
+pub refused : (c : Chain) (n m : ℕ) (key : List ℕ) → firstOf (walkChecks (c .ns) (c .nmack) (c .root) (c .width) n m) ≡ 1 → gave 1 key ≡ osnmaWalk c n m key
+unfolding osnmaWalk
+refused c n m key e = rw e
+
+between : (low high x : ℕ) → within low high x ≡ true → (low ≤ x) × (x ≤ high)
+between low high x e = (leb-true low x (and-left (leb low x) (leb x high) e), leb-true x high (and-right (leb low x) (leb x high) e))
+
+-- a sum compared without being made
+pub without-sum : (n m : ℕ) → m ≤ 2 ^ 34 → leb n (2 ^ 34 - m) ≡ leb (m + n) (2 ^ 34)
+without-sum n m h =
+    ⊎-elim
+    (λ l. lt-leb n (2 ^ 34 - m) (omega arith) ∙ sym (lt-leb (m + n) (2 ^ 34) (omega arith)))
+    (λ l. le-leb n (2 ^ 34 - m) (omega arith) ∙ sym (le-leb (m + n) (2 ^ 34) (omega arith)))
+    (below? (2 ^ 34) (m + n))
+
+module _ (ns nmack root width n m : ℕ) where
+  pub bad-ns : within 1 36 ns ≡ false → firstOf (walkChecks ns nmack root width n m) ≡ 1
+  unfolding walkChecks
+  bad-ns e = fails (within 1 36 ns) _ e
+
+  module _ (a : within 1 36 ns ≡ true) where
+    pub bad-nmack : within 1 3 nmack ≡ false → firstOf (walkChecks ns nmack root width n m) ≡ 1
+    unfolding walkChecks
+    bad-nmack e = passes (within 1 36 ns) _ a ∙ fails (within 1 3 nmack) _ e
+
+    module _ (b : within 1 3 nmack ≡ true) where
+      pub bad-width : within 12 32 width ≡ false → firstOf (walkChecks ns nmack root width n m) ≡ 1
+      unfolding walkChecks
+      bad-width e = passes (within 1 36 ns) _ a ∙ passes (within 1 3 nmack) _ b ∙ fails (within 12 32 width) _ e
+
+      module _ (d : within 12 32 width ≡ true) where
+        left : ℕ
+        left = cond (leb (2 ^ 33) root) 1 (cond (not (leb (m + n) (2 ^ 34))) 1 0)
+
+        ranged : firstOf (walkChecks ns nmack root width n m) ≡ left
+        unfolding walkChecks left
+        ranged = passes (within 1 36 ns) _ a ∙ passes (within 1 3 nmack) _ b ∙ passes (within 12 32 width) _ d
+
+        pub bad-root : leb (2 ^ 33) root ≡ true → firstOf (walkChecks ns nmack root width n m) ≡ 1
+        unfolding left
+        bad-root e = ranged ∙ rw e
+
+        module _ (r : root < 2 ^ 33) where
+          pub bad-slots : leb (m + n) (2 ^ 34) ≡ false → firstOf (walkChecks ns nmack root width n m) ≡ 1
+          unfolding left
+          bad-slots e = ranged ∙ rw (lt-leb (2 ^ 33) root r, e)
+
+          pub walks : (alpha : List ℕ) → Walks (chainOf ns nmack root alpha width 0 0)
+          walks alpha =
+              let x = between 1 36 ns a in
+              let y = between 1 3 nmack b in
+              let z = between 12 32 width d in
+              record { ns-low = x .0; ns-high = x .1; nmack-low = y .0; nmack-high = y .1; root-high = r; width-low = z .0; width-high = z .1 }
+
+          pub accepted : leb (m + n) (2 ^ 34) ≡ true → (alpha key out : List ℕ)
+              → out ≡ splice key 0 (S.walk (chainOf ns nmack root alpha width 0 0) n m (take width key))
+              → gave 0 out ≡ osnmaWalk (chainOf ns nmack root alpha width 0 0) n m key
+          unfolding osnmaWalk left
+          accepted e alpha key out p =
+              let code : firstOf (walkChecks ns nmack root width n m) ≡ 0 = ranged ∙ rw (lt-leb (2 ^ 33) root r, e) in
+              rw (code, p)

@@ -1,0 +1,11 @@
+-- `test_leaves::of_mack_keys::leaf_keys_code` meets its contract.
+-- Assumes nothing.
+use borrow.Author.Needs.{needs}
+use Rattle.test_leaves.proofs.of_mack_keys.leaf_keys_code.Statement.{statement}
+use Rattle.test_leaves.proofs.of_mack_keys.leaf_keys_code.Tie as tie
+
+returns : tie.Need-returns
+returns c = (c .keys-proved .ensures .0 .code-is, c .keys-proved .ensures .0 .key-is)
+
+pub leaf-keys-code-spec : {M : Type 1} → statement M
+leaf-keys-code-spec = tie.close (tie.spec (λ c κs. search needs) returns)

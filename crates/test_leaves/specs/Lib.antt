@@ -1,0 +1,3 @@
+-- What the contracts of `test_leaves` cite.
+pub mod Numbers
+pub mod Walk

@@ -1,0 +1,132 @@
+// The key chain (crates/chain). The walk is total, so that the benchmark can call it with any numbers.
+use rules::Chain;
+ghost use mathlib.Core.Path.{_≡_};
+ghost use mathlib.Core.Bool.{cond};
+ghost use Prim.Native.Nat.{_+_, _^_, _≤_};
+ghost use lib.Dec.{leb};
+ghost use lib.ListN.{take};
+ghost use Rattle.laws.specs.Lists.{splice};
+ghost use Rattle.rules.specs.Bits.{within};
+ghost use Rattle.rules.specs.Chain.{held, keyOfSlot, keyFits};
+ghost use Rattle.chain.specs.Sound.{Walks};
+ghost use Rattle.test_leaves.specs.Numbers.{chainOf};
+ghost use Rattle.test_leaves.specs.Walk.{gave, osnmaWalk};
+
+// The key of slot m + n becomes the key of slot m: n steps. 0, or 1 where a number is out of range, and the key is then as it was.
+// `alpha` is read; of the 32 bytes of `key` the first `width` are the key, the others stay.
+#[no_mangle]
+pub extern "C" fn osnma_walk(
+    ns: u64,
+    nmack: u64,
+    root: u64,
+    alpha: &[u8; 6],
+    width: usize,
+    n: u64,
+    m: u64,
+    key: &mut [u8; 32],
+) -> u32
+    ensures { λ r. ⌜ gave r (now (key .exit)) ≡ osnmaWalk (chainOf ns nmack root (now (alpha .entry)) width 0 0) n m (now (key .entry)) ⌝ }
+{
+    if !in_range(1, 36, ns) {
+        return 1;
+    }
+    if !in_range(1, 3, nmack) {
+        return 1;
+    }
+    if !in_range(12, 32, width as u64) {
+        return 1;
+    }
+    if 8589934592 <= root {
+        return 1;
+    }
+    if !slots_fit(n, m) {
+        return 1;
+    }
+    let a = *alpha;
+    let c = Chain {
+        ns: ns,
+        nmack: nmack,
+        root: root,
+        alpha: a,
+        width: width,
+        ms: 0,
+        fields: 0,
+    };
+    chain::walk(c, n, m, key);
+    0
+}
+
+// Whether x lies from low to high.
+fn in_range(low: u64, high: u64, x: u64) -> bool
+    ensures { λ r. ⌜ r ≡ within low high x ⌝ }
+{
+    low <= x && x <= high
+}
+
+// Whether n steps from slot m are among the slots of a chain.
+fn slots_fit(n: u64, m: u64) -> bool
+    ensures { λ r. ⌜ r ≡ leb (m + n) (2 ^ 34) ⌝ }
+{
+    if 17179869184 < m {
+        return false;
+    }
+    n <= 17179869184 - m
+}
+
+#[no_mangle]
+pub extern "C" fn leaf_key_fits(
+    ns: u64,
+    nmack: u64,
+    root: u64,
+    alpha: &[u8; 6],
+    width: usize,
+    slot: u64,
+    known: &[u8; 32],
+    sent: u64,
+    key: &[u8; 32],
+) -> u32
+    requires { ⌜ Walks (chainOf ns nmack root (now alpha) width 0 0) × ((slot ≤ 2 ^ 34) × (sent ≤ 2 ^ 34)) ⌝ }
+    ensures { λ r. ⌜ r ≡ cond (keyFits (chainOf ns nmack root (now (alpha .entry)) width 0 0) (held slot (take width (now (known .entry)))) sent (take width (now (key .entry)))) 1 0 ⌝ }
+{
+    let a = *alpha;
+    let c = Chain {
+        ns: ns,
+        nmack: nmack,
+        root: root,
+        alpha: a,
+        width: width,
+        ms: 0,
+        fields: 0,
+    };
+    let k = *known;
+    let s = *key;
+    bools::number(chain::key_fits(c, slot, k, sent, s))
+}
+
+// The key of slot m, from the key that is held of slot `slot`.
+#[no_mangle]
+pub extern "C" fn leaf_key_of_slot(
+    ns: u64,
+    nmack: u64,
+    root: u64,
+    alpha: &[u8; 6],
+    width: usize,
+    slot: u64,
+    m: u64,
+    key: &mut [u8; 32],
+)
+    requires { ⌜ Walks (chainOf ns nmack root (now alpha) width 0 0) × (slot ≤ 2 ^ 34) ⌝ }
+    ensures { λ _. ⌜ now (key .exit) ≡ splice (now (key .entry)) 0 (keyOfSlot (chainOf ns nmack root (now (alpha .entry)) width 0 0) (held slot (take width (now (key .entry)))) m) ⌝ }
+{
+    let a = *alpha;
+    let c = Chain {
+        ns: ns,
+        nmack: nmack,
+        root: root,
+        alpha: a,
+        width: width,
+        ms: 0,
+        fields: 0,
+    };
+    chain::key_of_slot(c, slot, m, key);
+}

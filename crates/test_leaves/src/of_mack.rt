@@ -1,0 +1,47 @@
+// The fields of a MACK section.
+use rules::Chain;
+ghost use mathlib.Core.Path.{_≡_};
+ghost use Prim.Native.Nat.{_*_, _≤_, _<_};
+ghost use lib.ListN.{length};
+ghost use Rattle.rules.specs.Mack.{fieldTag, fieldInfo, macseqOf};
+ghost use Rattle.tags.specs.Layout.{Laid};
+ghost use Rattle.test_leaves.specs.Numbers.{laidOut};
+
+// A chain of which only the layout of its sections is read.
+pub fn laid_out(nmack: u64, ms: u64, fields: u64) -> Chain
+    ensures { λ r. ⌜ r ≡ laidOut nmack ms fields ⌝ }
+{
+    Chain {
+        ns: 0,
+        nmack: nmack,
+        root: 0,
+        alpha: [0, 0, 0, 0, 0, 0],
+        width: 0,
+        ms: ms,
+        fields: fields,
+    }
+}
+
+#[no_mangle]
+pub extern "C" fn leaf_field_tag(nmack: u64, ms: u64, fields: u64, mack: &[u8], j: usize) -> u64
+    requires { ⌜ Laid (laidOut nmack ms fields) × ((j < nmack * fields) × (length (now mack) ≡ 60)) ⌝ }
+    ensures { λ r. ⌜ r ≡ fieldTag (laidOut nmack ms fields) (now (mack .entry)) j ⌝ }
+{
+    tags::field_tag(laid_out(nmack, ms, fields), mack, j)
+}
+
+#[no_mangle]
+pub extern "C" fn leaf_field_info(nmack: u64, ms: u64, fields: u64, mack: &[u8], j: usize) -> u16
+    requires { ⌜ Laid (laidOut nmack ms fields) × ((j < nmack * fields) × (length (now mack) ≡ 60)) ⌝ }
+    ensures { λ r. ⌜ r ≡ fieldInfo (laidOut nmack ms fields) (now (mack .entry)) j ⌝ }
+{
+    tags::field_info(laid_out(nmack, ms, fields), mack, j)
+}
+
+#[no_mangle]
+pub extern "C" fn leaf_macseq_of(ms: u64, mack: &[u8]) -> u64
+    requires { ⌜ (ms ≤ 40) × (length (now mack) ≡ 60) ⌝ }
+    ensures { λ r. ⌜ r ≡ macseqOf (laidOut 0 ms 0) (now (mack .entry)) ⌝ }
+{
+    tags::macseq_of(laid_out(0, ms, 0), mack)
+}

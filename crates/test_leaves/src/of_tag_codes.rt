@@ -1,0 +1,82 @@
+// The codes of tags and of MACSEQ (crates/tag_codes). Each function makes the kept key and calls its leaf once.
+use rules::Chain;
+use rules::Tag;
+ghost use mathlib.Core.Path.{_≡_};
+ghost use mathlib.Core.Bool.{cond};
+ghost use Prim.Native.Nat.{ℕ, _*_, _^_, _≤_, _<_};
+ghost use lib.Dec.{eqb};
+ghost use lib.ListN.{length};
+ghost use Rattle.rules.specs.Mack.{macseqOf};
+ghost use Rattle.rules.specs.Tags.{macBits, firstMessage, tagMessage, macseqMessage};
+ghost use Rattle.tags.specs.Layout.{Laid, section};
+ghost use Rattle.test_leaves.specs.Numbers.{laidOut, tagOf};
+
+// The first n bits of the code of a message under a key.
+#[no_mangle]
+pub extern "C" fn leaf_mac_bits(n: usize, key: &[u8], message: &[u8]) -> u64
+    requires { ⌜ ((n ≤ 56) × (length (now message) ≤ 76)) × (length (now key) < 2 ^ 61) ⌝ }
+    ensures { λ r. ⌜ r ≡ macBits n (now (key .entry)) (now (message .entry)) ⌝ }
+{
+    let kept = hmac::hmac_key(key);
+    tag_codes::mac_bits(n, kept, message)
+}
+
+// Whether a tag of ms bits matches a set under a key: 1 where it does. `first` is 1 for tag0, whose message has no PRN_N.
+#[no_mangle]
+pub extern "C" fn leaf_tag_matches(
+    ms: u64,
+    key: &[u8],
+    first: u32,
+    sender: u8,
+    prn: u8,
+    position: u8,
+    time: u32,
+    status: u8,
+    bits: u64,
+    set: &[u8],
+) -> u32
+    requires { ⌜ ((ms ≤ 40) × (length (now set) ≡ 69)) × (length (now key) < 2 ^ 61) ⌝ }
+    ensures { λ r. ⌜ r ≡ cond (eqb (macBits ms (now (key .entry)) (cond (eqb first 1) (firstMessage (tagOf sender prn 0 1 position time status bits) (now (set .entry))) (tagMessage (tagOf sender prn 0 1 position time status bits) (now (set .entry))))) bits) 1 0 ⌝ }
+{
+    let t = Tag {
+        sender: sender,
+        prn: prn,
+        adkd: 0,
+        block: 1,
+        position: position,
+        time: time,
+        status: status,
+        bits: bits,
+    };
+    let kept = hmac::hmac_key(key);
+    bools::number(tag_codes::tag_matches(ms, kept, first == 1, t, set))
+}
+
+// Whether MACSEQ fits under a key: 1 where it does. The message has no status in it.
+#[no_mangle]
+pub extern "C" fn leaf_macseq_fits(
+    config: &[u8],
+    nmack: u64,
+    ms: u64,
+    fields: u64,
+    prn: u8,
+    time: u32,
+    mack: &[u8],
+    key: &[u8],
+) -> u32
+    requires { ⌜ Laid (laidOut nmack ms fields) × ((length (now config) ≡ 63) × (length (now mack) ≡ 60)) ⌝ }
+    requires { ⌜ length (now key) < 2 ^ 61 ⌝ }
+    ensures { λ r. ⌜ ((status : ℕ) → r ≡ cond (eqb (macBits 12 (now (key .entry)) (macseqMessage (now (config .entry)) (laidOut nmack ms fields) (section prn time status (now (mack .entry))) (nmack * fields))) (macseqOf (laidOut nmack ms fields) (now (mack .entry)))) 1 0) ⌝ }
+{
+    let c = Chain {
+        ns: 0,
+        nmack: nmack,
+        root: 0,
+        alpha: [0, 0, 0, 0, 0, 0],
+        width: 0,
+        ms: ms,
+        fields: fields,
+    };
+    let kept = hmac::hmac_key(key);
+    bools::number(tag_codes::macseq_fits(config, c, prn, time, mack, kept))
+}

@@ -1,0 +1,175 @@
+//! The calls of the core beside the second receiver's.
+//!
+//! - `calls time SLICES`: a half minute of 36 satellites, a section of it with nothing due, and a section
+//!   after a gap of 1,000,000 slots with 256 tags due, beside the proved walk over the gap alone
+//! - `calls count WHO TURNS`: half minutes alone, to be counted by callgrind
+//! - `calls tags TURNS`: what these half minutes have: sections, and tags judged by their codes
+//! - `calls stack`: the bytes of a core and the deepest stack of each call
+//!
+//! The answers of both are compared before anything is measured.
+
+use crate::call_stacks::stacks;
+use crate::sky::{Answer, Gap, HalfMinutes, Who, ALL};
+use crate::time::{by_turns, timed, Work};
+use leaves::chain::Chain;
+use leaves::times::Slots;
+use std::hint::black_box;
+use std::time::Duration;
+
+pub const USAGE: &str = "calls time SLICES | count WHO TURNS | tags TURNS | stack";
+
+/// Half minutes that are compared, and that a slice takes: all of the run.
+const HALVES: u32 = 36;
+
+/// The answers to the half minutes' calls.
+fn answers(who: Who) -> Vec<Answer> {
+    let (mut half_minutes, mut answers) = (HalfMinutes::new(who), Vec::new());
+    for _ in 0..HALVES {
+        half_minutes.hear(|_, answer, _| answers.push(answer));
+    }
+    answers
+}
+
+/// Whether both answer alike, also after the gap.
+fn compare() -> Result<(), String> {
+    if answers(Who::Proved) != answers(Who::Second) {
+        return Err("the second receiver answers otherwise".into());
+    }
+    for (who, name) in ALL {
+        let Gap {
+            mut before,
+            section,
+        } = Gap::new(who);
+        let answer = before.call(&section);
+        if (answer.hkroot, answer.mack, answer.records) != (0, 0, 270) {
+            return Err(format!("after the gap: {answer:?} by {name}"));
+        }
+    }
+    Ok(())
+}
+
+/// Prints the rows of contenders whose slices are taken by turns.
+fn rows(row: &str, names: &[&str], slices: usize, mut works: Vec<Work<'_>>) {
+    for (name, told) in names.iter().zip(by_turns(slices, &mut works)) {
+        println!(
+            "| {row} | {name} | {:.2} | {:.3} | {:.3} |",
+            told.best * 1e6,
+            told.median,
+            told.best_ratio
+        );
+    }
+}
+
+fn half_minute(who: Who) -> Work<'static> {
+    let mut half_minutes = HalfMinutes::new(who);
+    Box::new(move || timed(|| half_minutes.hear_all(HALVES.into())) / HALVES)
+}
+
+/// Sections of the half minutes that judge their own tags alone.
+fn section(who: Who) -> Work<'static> {
+    let own = answers(who).into_iter().map(|answer| answer.records);
+    let own = own.filter(|&records| records > 0).min();
+    let mut half_minutes = HalfMinutes::new(who);
+    Box::new(move || {
+        let (mut all, mut count) = (Duration::ZERO, 0);
+        for _ in 0..HALVES {
+            half_minutes.hear(|call, answer, took| {
+                if call[0] == 3 && Some(answer.records) == own {
+                    all += took;
+                    count += 1;
+                }
+            });
+        }
+        all / count.max(1)
+    })
+}
+
+fn gap(who: Who) -> Work<'static> {
+    let Gap { before, section } = Gap::new(who);
+    Box::new(move || {
+        let mut heard = before.clone();
+        timed(|| {
+            black_box(heard.call(&section));
+        })
+    })
+}
+
+/// The proved walk from the key of the section after the gap down to the one held before.
+fn walk() -> Work<'static> {
+    let Gap {
+        mut before,
+        section,
+    } = Gap::new(Who::Second);
+    let held = |second: &second_receiver::Receiver| second.chain().expect("a chain").held_slot;
+    let low = held(&before.second);
+    before.call(&section);
+    let steps = held(&before.second) - low;
+    let chain = before.second.chain().expect("a chain").clone();
+    let leaf = Chain {
+        slots: Slots {
+            ns: chain.slots.ns.into(),
+            nmack: chain.slots.nmack.into(),
+            root: chain.slots.start,
+        },
+        alpha: chain.parameters.alpha,
+        width: chain.held.as_slice().len(),
+        ms: 10,
+    };
+    let mut key = [0; 32];
+    key[..leaf.width].copy_from_slice(chain.held.as_slice());
+    Box::new(move || {
+        let mut key = key;
+        timed(|| {
+            leaf.walk(black_box(steps), low, &mut key)
+                .expect("in range")
+        })
+    })
+}
+
+fn times(slices: usize) {
+    let names = ALL.map(|(_, name)| name);
+    println!("| Work | Contender | µs, best slice | proved / contender, median | proved / contender, best slices |");
+    println!("|---|---|---|---|---|");
+    let works = ALL.map(|(who, _)| half_minute(who)).into();
+    rows("half minute of 36 satellites", &names, slices, works);
+    let works = ALL.map(|(who, _)| section(who)).into();
+    rows("section, nothing due", &names, slices, works);
+    let works = vec![gap(Who::Proved), walk(), gap(Who::Second)];
+    let names = ["proved", "the walk alone", "second"];
+    rows("section, gap of 1,000,000, 256 due", &names, slices, works);
+}
+
+/// Sections that were answered 0, and tags that were judged by their codes.
+fn tags(turns: u64) {
+    let (mut half_minutes, mut sections, mut tags) = (HalfMinutes::new(Who::Second), 0, 0);
+    for _ in 0..turns {
+        half_minutes.hear(|call, answer, _| {
+            sections += u64::from(call[0] == 3 && answer.mack == 0);
+            tags += answer.judged;
+        });
+    }
+    println!("{sections} {tags}");
+}
+
+pub fn command(words: &[&str]) -> Option<Result<(), String>> {
+    match words {
+        ["time", slices] => {
+            let slices = slices.parse().ok()?;
+            Some(compare().map(|()| times(slices)))
+        }
+        ["count", who, turns] => {
+            let (who, _) = ALL.into_iter().find(|(_, name)| name == who)?;
+            HalfMinutes::new(who).hear_all(turns.parse().ok()?);
+            Some(Ok(()))
+        }
+        ["tags", turns] => {
+            tags(turns.parse().ok()?);
+            Some(Ok(()))
+        }
+        ["stack"] => {
+            stacks();
+            Some(Ok(()))
+        }
+        _ => None,
+    }
+}

@@ -1,0 +1,61 @@
+//! The codes of tags and MACSEQ (crates/tag_codes).
+
+use crate::mack::{Layout, Section};
+use crate::raw;
+use crate::tags::{Config, Tag};
+
+/// The longest key that the proved HMAC takes, and one byte more.
+const KEY_LIMIT: usize = 1 << 61;
+
+/// The first n bits of the code of a message under a key.
+pub fn mac_bits(n: usize, key: &[u8], message: &[u8]) -> Option<u64> {
+    // SAFETY: the slices are lent with their lengths; the ranges are as required.
+    (n <= 56 && message.len() <= 76 && key.len() < KEY_LIMIT).then(|| unsafe {
+        raw::leaf_mac_bits(n, key.as_ptr(), key.len(), message.as_ptr(), message.len())
+    })
+}
+
+/// Whether a tag of `ms` bits matches a set under a key; `first` for tag0, whose message has no PRN_N.
+pub fn tag_matches(ms: u64, key: &[u8], first: bool, tag: &Tag, set: &[u8; 69]) -> Option<bool> {
+    // SAFETY: as above.
+    (ms <= 40 && key.len() < KEY_LIMIT).then(|| unsafe {
+        raw::leaf_tag_matches(
+            ms,
+            key.as_ptr(),
+            key.len(),
+            first.into(),
+            tag.sender,
+            tag.prn,
+            tag.position,
+            tag.time,
+            tag.status,
+            tag.bits,
+            set.as_ptr(),
+            set.len(),
+        ) == 1
+    })
+}
+
+impl Layout {
+    /// Whether MACSEQ fits the section's flexible fields under a key.
+    pub fn macseq_fits(&self, config: &Config, section: &Section, key: &[u8]) -> Option<bool> {
+        let Layout { nmack, ms, fields } = *self;
+        let mack = &section.mack;
+        // SAFETY: as above.
+        (self.in_range() && key.len() < KEY_LIMIT).then(|| unsafe {
+            raw::leaf_macseq_fits(
+                config.as_ptr(),
+                config.len(),
+                nmack,
+                ms,
+                fields,
+                section.prn,
+                section.time,
+                mack.as_ptr(),
+                mack.len(),
+                key.as_ptr(),
+                key.len(),
+            ) == 1
+        })
+    }
+}

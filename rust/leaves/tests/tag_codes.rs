@@ -1,0 +1,78 @@
+//! The codes of tags and MACSEQ beside the second receiver.
+
+mod case;
+
+use case::{any_case, any_tag, any_time, layouts, of_leaf, region, with_macseq};
+use leaves::tag_codes::tag_matches;
+use portable_hash::HmacKey;
+use second_receiver::navdata::NavSet;
+use second_receiver::tags;
+use second_receiver::times::Gst;
+use signal::rng::Rng;
+
+#[test]
+fn macseq_fits_alike() {
+    let mut rng = Rng::new(572);
+    let layouts = layouts();
+    let mut fits = 0;
+    for _ in 0..10_000 {
+        let (layout, time) = (*rng.pick(&layouts), any_time(&mut rng));
+        let mut case = any_case(&mut rng, layout, time);
+        let key = rng.bytes(layout.key_bits / 8);
+        if !rng.once_in(8) {
+            with_macseq(&mut rng, &mut case, &key);
+        }
+        // Sometimes another field's MAC-Info, after MACSEQ is made.
+        if rng.once_in(4) {
+            let at = rng.below(case.fields.len() as u64) as usize;
+            case.fields[at].info ^= 1 << rng.below(16);
+        }
+        let section = case.section();
+        let marks = case.marks.at(time);
+        let right = case
+            .proved(&section)
+            .macseq_holds(marks, &HmacKey::new(&key));
+        let config = region(&mut rng, 36, &case.marks);
+        let ours = case.of_leaf(&mut rng);
+        let given = of_leaf(&layout).macseq_fits(&config, &ours, &key);
+        assert_eq!(given, Some(right));
+        fits += u32::from(right);
+    }
+    assert!((4_000..8_000).contains(&fits), "{fits} fit");
+}
+
+// Tags of every width, judged beside the second receiver: the right bits, and with one bit of them changed.
+#[test]
+fn tags_match_as_the_second_receiver_says() {
+    let mut rng = Rng::new(0x7A65);
+    for round in 0..400 {
+        let mut set = [0u8; 69];
+        set.iter_mut().for_each(|b| *b = rng.number() as u8);
+        set[68] &= 0xF8;
+        let key: Vec<u8> = (0..rng.range(12, 32)).map(|_| rng.number() as u8).collect();
+        let ms = [10, 12, 14, 16, 18, 20, 24, 28, 32, 40][round % 10];
+        let mut tag = any_tag(&mut rng);
+        tag.adkd = 11;
+        let theirs = |bits| tags::Tag {
+            sender: tag.sender,
+            prn: tag.prn,
+            adkd: tag.adkd,
+            block: tag.block,
+            position: tag.position,
+            time: Gst(tag.time),
+            status: tag.status,
+            bits,
+        };
+        let kept = HmacKey::new(&key);
+        let mac = kept.mac(&theirs(0).message(&NavSet(set)));
+        let right = mac[..5].iter().fold(0u64, |n, b| n << 8 | u64::from(*b)) >> (40 - ms);
+        for bits in [right, right ^ 1 << rng.below(ms)] {
+            tag.bits = bits;
+            let want = theirs(bits).matches(&NavSet(set), &kept, ms as usize);
+            let first = (tag.block, tag.position) == (1, 1);
+            let got = tag_matches(ms, &key, first, &tag, &set);
+            assert_eq!(got, Some(want));
+            assert_eq!(want, bits == right);
+        }
+    }
+}
