@@ -1,6 +1,7 @@
 //! A recorded half hour: what was heard, what the tags said, and which set of each satellite was
 //! authentic before, while and after a repeater's older words came in.
 
+use crate::proved;
 use second_receiver::navdata::SET_LEN;
 use second_receiver::numbers::ACCEPTED;
 use second_receiver::replay::{replay, write_reads};
@@ -98,12 +99,28 @@ fn read(receiver: &Receiver, prn: u8) -> Result<Set, String> {
     }
 }
 
-/// The receiver after the first records of a run, and its answers.
+/// The second receiver after the first records of a run, and the proved core's answers: every line
+/// and every authentic set of the two must be equal.
 fn after(run: &Run, records: usize) -> Result<(Receiver, String), String> {
     let mut answers = Vec::new();
     let input = &run.bytes[..records * RECORD];
     let receiver = replay(input, &mut answers).map_err(|e| e.to_string())?;
-    Ok((receiver, String::from_utf8_lossy(&answers).into_owned()))
+    let (core, lines) = proved::replayed(input)?;
+    require(lines.as_bytes() == answers, || {
+        "the proved core and the second receiver print different lines".into()
+    })?;
+    for prn in 1..=36 {
+        let mut bytes = [0; SET_LEN];
+        let other = receiver.read_set(prn, &mut bytes);
+        let same = match core.read_set(prn) {
+            Ok(set) => {
+                other.number == ACCEPTED && set.bytes == bytes && set.time.bits() == other.time
+            }
+            Err(refusal) => u32::from(other.number) == refusal.number(),
+        };
+        require(same, || format!("the two read different sets of E{prn:02}"))?;
+    }
+    Ok((receiver, lines))
 }
 
 fn require(condition: bool, otherwise: impl FnOnce() -> String) -> Result<(), String> {

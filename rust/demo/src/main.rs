@@ -1,9 +1,10 @@
 //! What `./demo` shows: the proved library at published values, then half an hour of a signal with
-//! a repeater in it, heard by the second receiver. Fails if anything differs.
+//! a repeater in it, heard by the proved core and by the second receiver. Fails if anything differs.
 
 #![forbid(unsafe_code)]
 
 mod half_hour;
+mod proved;
 mod published;
 
 use signal::scenario::{find, SEED};
@@ -26,8 +27,8 @@ fn published_values() -> bool {
 }
 
 fn recorded_half_hour() -> bool {
-    println!("2. Half an hour beside a repeater, heard by the second receiver");
-    println!("   (plain Rust, not proved; the proved core's sub-frame call is not there yet)");
+    println!("2. Half an hour beside a repeater, heard by the proved core (libosnma.a)");
+    println!("   (the second receiver, plain Rust, hears it too: every line and set is equal)");
     println!();
     let story = find("fitter")
         .ok_or("no scenario `fitter`".to_string())
