@@ -1,2 +1,0 @@
--- what the contracts of the replay library cite
-pub mod Written
