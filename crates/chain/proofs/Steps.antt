@@ -1,7 +1,7 @@
 -- A step in a framed block is a step of the chain, a block is framed by its writes, and steps one after the other are a walk.
 -- Assumes nothing.
 use mathlib.Core.Path.{_≡_, refl, sym, ap, _∙_}
-use mathlib.Core.Bool.{Bool}
+use mathlib.Core.Bool.{Bool, true}
 use mathlib.Core.Logic.{⊎-elim}
 use mathlib.Core.List.{List, _∷_, _++_, append-assoc, append-nil}
 use Prim.Native.Nat.{ℕ, zero, suc, _+_, _-_, _*_, _/_, _%_, _^_, _≤_, _<_}
@@ -19,7 +19,8 @@ use Rattle.sha256.specs.Sha256 as H
 use Rattle.sha256.proofs.Continued.{one-block, length-sha256}
 use Rattle.rules.specs.Chain as S
 use Rattle.rules.specs.declared.Chain.{Chain}
-use Rattle.chain.specs.Sound.{Framed}
+use Rattle.laws.proofs.Same.{same-true}
+use Rattle.chain.specs.Sound.{Framed, Met}
 
 -- ---- lengths
 
@@ -61,6 +62,51 @@ unfolding S.walk
 walk-add c a zero m k = rw (add-zero a)
 walk-add c a (suc b) m k =
     rw (add-suc a b, add-assoc m a b) (walk-add c a b m (S.keyStep c (m + (a + b)) k))
+
+-- a walk goes on from the key of a slot on its way
+pub walk-on : (c : Chain) (h : S.Held) (at m : ℕ) → m ≤ at → at ≤ h .slot → S.keyOfSlot c (S.held at (S.keyOfSlot c h at)) m ≡ S.keyOfSlot c h m
+unfolding S.keyOfSlot
+walk-on c h at m p q =
+    let e : at - m + (h .slot - at) ≡ h .slot - m = omega arith in
+    let f : m + (at - m) ≡ at = omega arith in
+    sym (rw (← e) (walk-add c (at - m) (h .slot - at) m (h .key) ∙ ap (λ (i : ℕ). S.walk c (at - m) m (S.walk c (h .slot - at) i (h .key))) f))
+
+-- a key of a higher slot, walked down to a slot on its way, fits where the key itself does
+pub fits-on-the-way : (c : Chain) (h : S.Held) (slot stop : ℕ) (k : List ℕ) → stop ≤ slot → (h .slot < slot → h .slot ≤ stop) → (slot ≤ h .slot → stop ≡ slot)
+    → S.keyFits c h stop (S.keyOfSlot c (S.held slot k) stop) ≡ S.keyFits c h slot k
+unfolding S.keyFits S.keyOfSlot
+fits-on-the-way c h slot stop k l p q =
+    ⊎-elim
+    (λ a.
+    let on : S.walk c (stop - h .slot) (h .slot) (S.walk c (slot - stop) stop k) ≡ S.walk c (slot - h .slot) (h .slot) k = walk-on c (S.held slot k) stop (h .slot) (p a) l in
+    ⊎-elim
+    (λ b. rw (lt-ltb (h .slot) stop b, lt-ltb (h .slot) slot a, on))
+    (λ b.
+    let e : stop ≡ h .slot = omega (arith, p a) in
+    let n : h .slot - stop ≡ 0 = omega arith in
+    rw (le-ltb (h .slot) stop b, lt-ltb (h .slot) slot a, walk-none c (h .slot - stop) stop (h .key) n, e))
+    (below? (h .slot) stop))
+    (λ a.
+    let n : slot - stop ≡ 0 = omega (arith, q a) in
+    rw (walk-none c (slot - stop) stop k n, q a))
+    (below? (h .slot) slot)
+
+-- the held key is met at its own slot
+pub met-here : (c : Chain) (slot : ℕ) (key : List ℕ) → Met c (S.held slot (take (c .width) key)) slot key
+unfolding S.keyOfSlot
+met-here c slot key =
+    let n : slot - slot ≡ 0 = omega arith in
+    record { not-above = omega arith; key-is = sym (walk-none c (slot - slot) slot (take (c .width) key) n) }
+
+-- a key that was met below the held slot is met from a higher key that hashes down to the held one
+pub met-from-above : (c : Chain) (h : S.Held) (slot at : ℕ) (k key : List ℕ) → h .slot < slot → S.keyFits c h slot k ≡ true → Met c h at key → Met c (S.held slot k) at key
+unfolding S.keyFits S.keyOfSlot
+met-from-above c h slot at k key l f m =
+    let down : S.walk c (slot - h .slot) (h .slot) k ≡ h .key = same-true (S.walk c (slot - h .slot) (h .slot) k) (h .key) (rw (lt-ltb (h .slot) slot l) at f) in
+    record {
+      not-above = omega (arith, m .not-above);
+      key-is = m .key-is ∙ ap (λ (x : List ℕ). S.walk c (h .slot - at) at x) (sym down) ∙ walk-on c (S.held slot k) (h .slot) at (m .not-above) (omega arith);
+    }
 
 -- ---- a step in a framed block: the time, then the hash value's first bytes
 module _ (c : Chain) (w : c .width ≤ 32) (a : length (c .alpha) ≡ 6) where
@@ -191,6 +237,14 @@ pub walked-length : (c : Chain) (n m : ℕ) (key out : List ℕ) → c .width �
 walked-length c n m key out h e p =
     let l = length-walk c n m (take (c .width) key) h (length-take-le (c .width) key (omega arith)) in
     ap length p ∙ length-splice key 0 (S.walk c n m (take (c .width) key)) (omega arith) ∙ e
+
+-- the key's bytes of a key that was walked down to slot m
+pub walked-key : (c : Chain) (slot m : ℕ) (key out : List ℕ) → c .width ≤ 32 → length key ≡ 32 → out ≡ splice key 0 (S.keyOfSlot c (S.held slot (take (c .width) key)) m)
+    → take (c .width) out ≡ S.keyOfSlot c (S.held slot (take (c .width) key)) m
+unfolding S.keyOfSlot
+walked-key c slot m key out w n e =
+    ap (take (c .width)) e
+    ∙ front-splice key (S.walk c (slot - m) m (take (c .width) key)) (c .width) (length-walk c (slot - m) m (take (c .width) key) w (length-take-le (c .width) key (omega arith)))
 
 -- at or above the held slot the held key stays
 pub key-kept : (c : Chain) (h m : ℕ) (key : List ℕ) → h ≤ m → key ≡ splice key 0 (S.keyOfSlot c (S.held h (take (c .width) key)) m)

@@ -4,8 +4,9 @@
 use Prim.Native.Nat.{ℕ, _+_, _*_, _^_, _≤_, _<_}
 use mathlib.Core.Path.{_≡_}
 use mathlib.Core.List.{List, _++_}
-use lib.ListN.{drop}
+use lib.ListN.{take, drop}
 use Rattle.sha256.specs.Sha256.{tail}
+use Rattle.rules.specs.Chain.{Held, keyOfSlot}
 use Rattle.rules.specs.Kroot.{blockBits, fieldsFor}
 use Rattle.rules.specs.declared.Chain.{Chain}
 
@@ -30,3 +31,8 @@ pub record Sound (c : Chain) : Type 0 where
 -- is α and the padding of SHA-256.
 abbrev pub Framed : Chain → List ℕ → Type 0
 Framed c b = drop (c .width + 4) b ≡ c .alpha ++ tail (c .width + 10)
+
+-- A key that was met on the way down from the held one: the first bytes are the key of slot `at`, which is not above the held slot.
+pub record Met (c : Chain) (h : Held) (at : ℕ) (key : List ℕ) : Type 0 where
+  pub not-above : at ≤ h .slot
+  pub key-is : take (c .width) key ≡ keyOfSlot c h at

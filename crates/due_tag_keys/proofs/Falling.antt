@@ -18,8 +18,8 @@ use Rattle.rules.specs.Times as T
 use Rattle.rules.specs.Tags.{entryAt, entryTag, entrySet, isDue, tagKey, tagMatches, tagMessage, macBits}
 use Rattle.rules.specs.declared.Chain.{Chain}
 use Rattle.rules.specs.declared.Tag.{Tag}
-use Rattle.chain.proofs.Steps.{walk-none, walk-add, length-walk, front-splice}
-use Rattle.due_tag_keys.specs.Outcomes.{entrySlot, matchOutcome, dueOutcome, Slots, Outcomes, JudgedAt, JudgedAbove}
+use Rattle.chain.proofs.Steps.{walk-none, walk-on, walked-key, walked-length}
+use Rattle.due_tag_keys.specs.Outcomes.{entrySlot, matchOutcome, dueOutcome, Outcomes, JudgedAt, JudgedAbove}
 
 -- ---- a list that is filled place by place
 
@@ -40,9 +40,8 @@ behind-kept l m i v p k h = getD-set-other l i k v 0 (λ z. absurd (omega arith)
 -- ---- slots
 
 -- the best of one slot more
-pub best-one : (slots : List ℕ) (k below best r : ℕ) → ((j : ℕ) → j < k → getD slots j 0 < below → getD slots j 0 ≤ best) → best ≤ r
-    → (getD slots k 0 < below → getD slots k 0 ≤ r) → (j : ℕ) → j < k + 1 → getD slots j 0 < below → getD slots j 0 ≤ r
-best-one slots k below best r p q s j h b =
+pub best-one : (f : ℕ → ℕ) (k below best r : ℕ) → ((j : ℕ) → j < k → f j < below → f j ≤ best) → best ≤ r → (f k < below → f k ≤ r) → (j : ℕ) → j < k + 1 → f j < below → f j ≤ r
+best-one f k below best r p q s j h b =
     ⊎-elim
     (λ a. let z = p j a b in omega arith)
     (λ a. rw a (s (rw (← a) b)))
@@ -70,45 +69,21 @@ matches-is c h e set t r p q u = u ∙ rw (p, q)
 
 -- ---- a walk goes on
 
-pub walk-on : (c : Chain) (h : S.Held) (at m : ℕ) → m ≤ at → at ≤ h .slot → S.keyOfSlot c (S.held at (S.keyOfSlot c h at)) m ≡ S.keyOfSlot c h m
-unfolding S.keyOfSlot
-walk-on c h at m p q =
-    let e : at - m + (h .slot - at) ≡ h .slot - m = omega arith in
-    let f : m + (at - m) ≡ at = omega arith in
-    sym (rw (← e) (walk-add c (at - m) (h .slot - at) m (h .key) ∙ ap (λ (i : ℕ). S.walk c (at - m) m (S.walk c (h .slot - at) i (h .key))) f))
-
-walk-long : (c : Chain) (h : S.Held) (m : ℕ) → c .width ≤ 32 → length (h .key) ≡ c .width → length (S.keyOfSlot c h m) ≡ c .width
-unfolding S.keyOfSlot
-walk-long c h m w e = length-walk c (h .slot - m) m (h .key) w e
-
 -- the key after a walk from slot `at` to slot m
 pub key-after : (c : Chain) (h : S.Held) (at m : ℕ) (key out : List ℕ) → c .width ≤ 32 → length key ≡ 32 → m ≤ at → at ≤ h .slot
     → take (c .width) key ≡ S.keyOfSlot c h at → out ≡ splice key 0 (S.keyOfSlot c (S.held at (take (c .width) key)) m)
     → take (c .width) out ≡ S.keyOfSlot c h m
 key-after c h at m key out w n p q e o =
-    ap (take (c .width)) o
-    ∙ front-splice key (S.keyOfSlot c (S.held at (take (c .width) key)) m) (c .width) (walk-long c (S.held at (take (c .width) key)) m w (length-take-le (c .width) key (omega arith)))
+    walked-key c at m key out w n o
     ∙ ap (λ (k : List ℕ). S.keyOfSlot c (S.held at k) m) e
     ∙ walk-on c h at m p q
 
 pub key-long : (c : Chain) (at m : ℕ) (key out : List ℕ) → c .width ≤ 32 → length key ≡ 32
     → out ≡ splice key 0 (S.keyOfSlot c (S.held at (take (c .width) key)) m) → length out ≡ 32
-key-long c at m key out w n o =
-    let l = walk-long c (S.held at (take (c .width) key)) m w (length-take-le (c .width) key (omega arith)) in
-    ap length o ∙ length-splice key 0 (S.keyOfSlot c (S.held at (take (c .width) key)) m) (omega arith) ∙ n
-
--- no step from the held key
-pub key-held : (c : Chain) (slot : ℕ) (key : List ℕ) → key ≡ S.keyOfSlot c (S.held slot key) slot
 unfolding S.keyOfSlot
-key-held c slot key = sym (walk-none c (slot - slot) slot key (omega arith))
+key-long c at m key out w n o = walked-length c (at - m) m key out w n o
 
 -- ---- tags above a slot
-
--- what is said of the noted slots holds of the entries' own
-pub by-slots : (c : Chain) (waiting slots : List ℕ) (n below r : ℕ) → Slots c waiting n slots
-    → ((k : ℕ) → k < n → getD slots k 0 < below → getD slots k 0 ≤ r)
-    → (k : ℕ) → k < n → entrySlot c (entryAt waiting k) < below → entrySlot c (entryAt waiting k) ≤ r
-by-slots c waiting slots n below r s p k q = rw (← (s k q)) (p k q)
 
 module _ (c : Chain) (h : S.Held) (waiting : List ℕ) (n : ℕ) where
   -- no tag yet: none of the slots up to the held one is above m

@@ -21,10 +21,6 @@ matchOutcome c h e = cond (tagMatches c h false (entryTag e) (entrySet e)) 1 2
 unfoldable pub dueOutcome : Chain → Held → List ℕ → ℕ
 dueOutcome c h e = cond (isDue c h (entryTag e)) (matchOutcome c h e) 0
 
--- the slots of the first n entries
-abbrev pub Slots : Chain → List ℕ → ℕ → List ℕ → Type 0
-Slots c waiting n slots = (k : ℕ) → k < n → getD slots k 0 ≡ entrySlot c (entryAt waiting k)
-
 -- the outcomes of the first n entries
 abbrev pub Outcomes : Chain → Held → List ℕ → ℕ → List ℕ → Type 0
 Outcomes c h waiting n outcomes = (k : ℕ) → k < n → getD outcomes k 0 ≡ dueOutcome c h (entryAt waiting k)

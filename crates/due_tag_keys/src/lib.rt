@@ -1,18 +1,26 @@
 // What becomes of the waiting tags that are due (01, "MACK": "A waiting tag is due once the held slot reaches its key's slot").
-// The keys of due tags are taken on one way down the chain, in falling slot order: each step of the chain from the held slot is done at
-// most once, however many tags are due. `outcomes` is the public call; it gives one outcome for each entry.
+// The keys of due tags are taken on one way down the chain, in falling slot order: each step of the chain is done at most once, however many
+// tags are due. The way begins at the held key, or below it at a key that was met while the held one was proved.
+// Public calls:
+//   outcomes       one outcome for each entry
+//   slot_to_keep   the slot whose key is worth keeping while a key is proved
 use hmac::HmacKey;
 use rules::Chain;
 ghost use mathlib.Core.Path.{_≡_};
 ghost use mathlib.Core.Bool.{cond};
 ghost use Prim.Native.Nat.{ℕ, _+_, _*_, _^_, _≤_, _<_};
 ghost use lib.Dec.{eqb};
-ghost use lib.ListN.{length, take, getD};
+ghost use lib.ListN.{length, take};
 ghost use Rattle.hmac.specs.Hmac.{keyOf};
 ghost use Rattle.rules.specs.Chain.{Held, held, keyOfSlot};
 ghost use Rattle.rules.specs.Tags.{entryAt};
-ghost use Rattle.chain.specs.Sound.{Walks};
-ghost use Rattle.due_tag_keys.specs.Outcomes.{entrySlot, matchOutcome, Slots, Outcomes, JudgedAt};
+ghost use Rattle.rules.specs.State.{waitingLength};
+ghost use Rattle.rules.specs.declared.Chain.{Chain};
+ghost use Rattle.chain.specs.Sound.{Walks, Met};
+ghost use Rattle.due_tag_keys.specs.Outcomes.{entrySlot, matchOutcome, Outcomes, JudgedAt};
+
+// Steps of a way that are sooner walked again than the waiting tags are looked through.
+const SHORT_WAY: u64 = 256;
 
 // ---- slots
 
@@ -23,19 +31,6 @@ fn entry_slot(c: Chain, waiting: &[u8], k: usize) -> u64
 {
     let t = waiting_tags::entry_tag(waiting, k);
     chain::key_slot(c, t.time, t.block, t.adkd)
-}
-
-// The slots of the first n entries.
-fn note_slots(c: Chain, waiting: &[u8], n: usize, slots: &mut [u64; 256])
-    requires { ⌜ Walks c × ((length (now waiting) ≡ 21504) × (n ≤ 256)) ⌝ }
-    requires { ⌜ length (now slots) ≡ 256 ⌝ }
-    ensures { λ _. ⌜ Slots c (now (waiting .entry)) n (now (slots .exit)) ⌝ }
-{
-    let mut k: usize = 0;
-    while k < n {
-        slots[k] = entry_slot(c, waiting, k);
-        k += 1;
-    }
 }
 
 // The higher of a slot and the best so far, if it is below the bound.
@@ -52,18 +47,29 @@ fn higher(best: u64, slot: u64, below: u64) -> u64
     slot
 }
 
-// The highest of the first n slots that is below the bound, or 0.
-fn next_below(slots: &[u64; 256], n: usize, below: u64) -> u64
-    requires { ⌜ (n ≤ 256) × (1 ≤ below) ⌝ }
-    ensures { λ r. ⌜ (r < below) × ((k : ℕ) → k < n → getD (now (slots .entry)) k 0 < below → getD (now (slots .entry)) k 0 ≤ r) ⌝ }
+// The highest slot of the first n entries that is below the bound, or 0.
+fn next_below(c: Chain, waiting: &[u8], n: usize, below: u64) -> u64
+    requires { ⌜ (Walks c × (1 ≤ below)) × ((length (now waiting) ≡ waitingLength) × (n ≤ 256)) ⌝ }
+    ensures { λ r. ⌜ (r < below) × ((k : ℕ) → k < n → entrySlot c (entryAt (now (waiting .entry)) k) < below → entrySlot c (entryAt (now (waiting .entry)) k) ≤ r) ⌝ }
 {
     let mut best: u64 = 0;
     let mut k: usize = 0;
     while k < n {
-        best = higher(best, slots[k], below);
+        best = higher(best, entry_slot(c, waiting, k), below);
         k += 1;
     }
     best
+}
+
+// The slot whose key is worth keeping on the way from a key of slot `last` down to the one of slot `slot`: the highest that a waiting tag needs,
+// where the way is long. Which it is changes no answer.
+pub fn slot_to_keep(c: Chain, slot: u64, last: u64, waiting: &[u8], n: usize) -> u64
+    requires { ⌜ (Walks c × ((slot < 2 ^ 34) × (last < 2 ^ 34))) × ((length (now waiting) ≡ waitingLength) × (n ≤ 256)) ⌝ }
+{
+    if last <= slot + SHORT_WAY {
+        return 0;
+    }
+    next_below(c, waiting, n, last + 1)
 }
 
 // ---- the tags of one slot
@@ -81,33 +87,25 @@ fn judge_entry(c: Chain, key: HmacKey, waiting: &[u8], k: usize) -> u8
 }
 
 // The outcome of entry k once the tags of slot m are judged: where its slot is another, the one it had.
-fn outcome_at(c: Chain, key: HmacKey, m: u64, waiting: &[u8], k: usize, slot: u64, old: u8) -> u8
-    requires { ⌜ (c .ms ≤ 40) × (k * 84 + 84 ≤ length (now waiting)) ⌝ }
-    ensures { λ r. ⌜ ((h : Held) → key ≡ keyOf (keyOfSlot c h m) → slot ≡ entrySlot c (entryAt (now (waiting .entry)) k) → r ≡ cond (eqb (entrySlot c (entryAt (now (waiting .entry)) k)) m) (matchOutcome c h (entryAt (now (waiting .entry)) k)) old) ⌝ }
+fn outcome_at(c: Chain, key: HmacKey, m: u64, waiting: &[u8], k: usize, old: u8) -> u8
+    requires { ⌜ (Walks c × (c .ms ≤ 40)) × (k * 84 + 84 ≤ length (now waiting)) ⌝ }
+    ensures { λ r. ⌜ ((h : Held) → key ≡ keyOf (keyOfSlot c h m) → r ≡ cond (eqb (entrySlot c (entryAt (now (waiting .entry)) k)) m) (matchOutcome c h (entryAt (now (waiting .entry)) k)) old) ⌝ }
 {
-    if slot != m {
+    if entry_slot(c, waiting, k) != m {
         return old;
     }
     judge_entry(c, key, waiting, k)
 }
 
 // The outcomes of the tags of slot m among the first n entries.
-fn judge_slot(
-    c: Chain,
-    key: HmacKey,
-    m: u64,
-    waiting: &[u8],
-    n: usize,
-    slots: &[u64; 256],
-    outcomes: &mut [u8; 256],
-)
-    requires { ⌜ (c .ms ≤ 40) × ((length (now waiting) ≡ 21504) × (n ≤ 256)) ⌝ }
+fn judge_slot(c: Chain, key: HmacKey, m: u64, waiting: &[u8], n: usize, outcomes: &mut [u8; 256])
+    requires { ⌜ (Walks c × (c .ms ≤ 40)) × ((length (now waiting) ≡ waitingLength) × (n ≤ 256)) ⌝ }
     requires { ⌜ length (now outcomes) ≡ 256 ⌝ }
-    ensures { λ _. ⌜ (length (now (outcomes .exit)) ≡ 256) × ((h : Held) → key ≡ keyOf (keyOfSlot c h m) → Slots c (now (waiting .entry)) n (now (slots .entry)) → JudgedAt c h (now (waiting .entry)) n m (now (outcomes .entry)) (now (outcomes .exit))) ⌝ }
+    ensures { λ _. ⌜ (length (now (outcomes .exit)) ≡ 256) × ((h : Held) → key ≡ keyOf (keyOfSlot c h m) → JudgedAt c h (now (waiting .entry)) n m (now (outcomes .entry)) (now (outcomes .exit))) ⌝ }
 {
     let mut k: usize = 0;
     while k < n {
-        outcomes[k] = outcome_at(c, key, m, waiting, k, slots[k], outcomes[k]);
+        outcomes[k] = outcome_at(c, key, m, waiting, k, outcomes[k]);
         k += 1;
     }
 }
@@ -130,33 +128,53 @@ fn judge_down(
     key: &mut [u8; 32],
     waiting: &[u8],
     n: usize,
-    slots: &[u64; 256],
     outcomes: &mut [u8; 256],
 )
-    requires { ⌜ (Walks c × (c .ms ≤ 40)) × (((length (now waiting) ≡ 21504) × (n ≤ 256)) × ((m ≤ at) × (at ≤ 2 ^ 34))) ⌝ }
+    requires { ⌜ (Walks c × (c .ms ≤ 40)) × (((length (now waiting) ≡ waitingLength) × (n ≤ 256)) × ((m ≤ at) × (at ≤ 2 ^ 34))) ⌝ }
     requires { ⌜ (length (now key) ≡ 32) × (length (now outcomes) ≡ 256) ⌝ }
-    ensures { λ _. ⌜ ((length (now (key .exit)) ≡ 32) × (length (now (outcomes .exit)) ≡ 256)) × ((h : Held) → at ≤ h .slot → take (c .width) (now (key .entry)) ≡ keyOfSlot c h at → Slots c (now (waiting .entry)) n (now (slots .entry)) → (take (c .width) (now (key .exit)) ≡ keyOfSlot c h m) × JudgedAt c h (now (waiting .entry)) n m (now (outcomes .entry)) (now (outcomes .exit))) ⌝ }
+    ensures { λ _. ⌜ ((length (now (key .exit)) ≡ 32) × (length (now (outcomes .exit)) ≡ 256)) × ((h : Held) → at ≤ h .slot → take (c .width) (now (key .entry)) ≡ keyOfSlot c h at → (take (c .width) (now (key .exit)) ≡ keyOfSlot c h m) × JudgedAt c h (now (waiting .entry)) n m (now (outcomes .entry)) (now (outcomes .exit))) ⌝ }
 {
     chain::key_of_slot(c, at, m, key);
     let hashed = kept_key(key, c.width);
-    judge_slot(c, hashed, m, waiting, n, slots, outcomes);
+    judge_slot(c, hashed, m, waiting, n, outcomes);
 }
 
-// The outcomes of the first n entries, from the held key: 0 where a tag is not due.
-pub fn outcomes(c: Chain, slot: u64, known: [u8; 32], waiting: &[u8], n: usize) -> [u8; 256]
-    requires { ⌜ (Walks c × (c .ms ≤ 40)) × (((length (now waiting) ≡ 21504) × (n ≤ 256)) × (slot < 2 ^ 34)) ⌝ }
+// Where the way down to slot m begins: at the key that was met, of slot `near`, unless m is above it; else at the held key. The key there goes to
+// `key`, which holds the held one; its slot is given.
+fn begin(slot: u64, near: u64, met: [u8; 32], m: u64, key: &mut [u8; 32]) -> u64
+    requires { ⌜ (m ≤ slot) × (length (now key) ≡ 32) ⌝ }
+    ensures { λ r. ⌜ ((m ≤ r) × (length (now (key .exit)) ≡ 32)) × ((c : Chain) (h : Held) → Met c h slot (now (key .entry)) → Met c h near met → Met c h r (now (key .exit))) ⌝ }
+{
+    if near < m {
+        return slot;
+    }
+    *key = met;
+    near
+}
+
+// The outcomes of the first n entries, from the held key: 0 where a tag is not due. `met` is the key of slot `near` on the way down from the held
+// key.
+pub fn outcomes(
+    c: Chain,
+    slot: u64,
+    known: [u8; 32],
+    near: u64,
+    met: [u8; 32],
+    waiting: &[u8],
+    n: usize,
+) -> [u8; 256]
+    requires { ⌜ (Walks c × (c .ms ≤ 40)) × (((length (now waiting) ≡ waitingLength) × (n ≤ 256)) × (slot < 2 ^ 34)) ⌝ }
+    requires { ⌜ Met c (held slot (take (c .width) known)) near met ⌝ }
     ensures { λ r. ⌜ Outcomes c (held slot (take (c .width) known)) (now (waiting .entry)) n r ⌝ }
 {
     let mut key = known;
-    let mut slots = [0u64; 256];
     let mut judged = [0u8; 256];
-    note_slots(c, waiting, n, &mut slots);
-    let mut at = slot;
-    let mut m = next_below(&slots, n, slot + 1);
+    let mut m = next_below(c, waiting, n, slot + 1);
+    let mut at = begin(slot, near, met, m, &mut key);
     while 0 < m {
-        judge_down(c, at, m, &mut key, waiting, n, &slots, &mut judged);
+        judge_down(c, at, m, &mut key, waiting, n, &mut judged);
         at = m;
-        m = next_below(&slots, n, m);
+        m = next_below(c, waiting, n, m);
     }
     judged
 }

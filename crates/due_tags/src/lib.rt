@@ -11,7 +11,7 @@ ghost use Prim.Native.Nat.{_+_, _-_, _*_, _^_, _≤_, _<_};
 ghost use lib.ListN.{length, take};
 ghost use Rattle.rules.specs.Chain.{held};
 ghost use Rattle.rules.specs.Tags.{entryAt, entryTag, entrySet, told, duesJudged};
-ghost use Rattle.chain.specs.Sound.{Sound};
+ghost use Rattle.chain.specs.Sound.{Sound, Met};
 ghost use Rattle.tag_records.specs.Told.{start, Tells, Leaves, Counts};
 ghost use Rattle.due_tags.specs.Swept.{sweptOne, swept};
 
@@ -83,12 +83,14 @@ pub fn sweep(
     kept
 }
 
-// The first n waiting tags at a held key of this slot, in arrival order. The entries that stay close up at the front of `waiting`, the
+// The first n waiting tags at a held key of this slot, in arrival order; `met` is the key of slot `near` on the way down from it. The entries that stay close up at the front of `waiting`, the
 // records come one after the other at the front of `area`, and the bytes past both stay. Gives how many stay; each other has a record.
 pub fn judge_due(
     c: Chain,
     slot: u64,
     known: [u8; 32],
+    near: u64,
+    met: [u8; 32],
     waiting: &mut [u8],
     n: usize,
     sets: &mut [u8],
@@ -96,9 +98,9 @@ pub fn judge_due(
     area: &mut [u8],
 ) -> usize
     requires { ⌜ ((length (now sets) ≡ 2484) × (length (now arrivals) ≡ 36)) × ((length (now waiting) ≡ 21504) × (length (now area) ≡ 3240)) ⌝ }
-    requires { ⌜ Sound c × ((slot < 2 ^ 34) × (n ≤ 256)) ⌝ }
+    requires { ⌜ (Sound c × ((slot < 2 ^ 34) × (n ≤ 256))) × Met c (held slot (take (c .width) known)) near met ⌝ }
     ensures { λ r. ⌜ Leaves (duesJudged c (held slot (take (c .width) known)) (now (waiting .entry)) n (start 0 (now (sets .entry)) (now (arrivals .entry)))) 0 0 (now (waiting .entry)) (now (area .entry)) (now (waiting .exit)) (now (sets .exit)) (now (arrivals .exit)) (now (area .exit)) r × Counts (duesJudged c (held slot (take (c .width) known)) (now (waiting .entry)) n (start 0 (now (sets .entry)) (now (arrivals .entry)))) n r ⌝ }
 {
-    let outcomes = due_tag_keys::outcomes(c, slot, known, waiting, n);
+    let outcomes = due_tag_keys::outcomes(c, slot, known, near, met, waiting, n);
     sweep(&outcomes, waiting, n, sets, arrivals, area)
 }

@@ -2,14 +2,12 @@
 // block, through the reader of `mack_reader`. What is read is its definition in rules/specs/Mack.antt; one proof serves every width.
 // Public calls:
 //   next_field, read_field   a field: the one at which the cursor stands, and by its number
-//   next_key                 a block's key and spare bits
+//   section_start, next_key  the cursor at the first block; a block's key and spare bits
 //   macseq_of                MACSEQ
-//   block_bits               bits of a block
 use rules::Chain;
 ghost use mathlib.Core.Path.{_≡_};
 ghost use Prim.Native.Nat.{_+_, _*_, _≤_, _<_};
 ghost use lib.ListN.{length};
-ghost use Rattle.rules.specs.Kroot.{blockBits};
 ghost use Rattle.rules.specs.Mack as S;
 ghost use Rattle.mack.specs.Layout.{FieldsFit, KeysFit, restBits};
 ghost use Rattle.mack.specs.Read.{fieldTaken, fieldRead, blockRead};
@@ -91,6 +89,13 @@ pub fn macseq_of(c: Chain, m: &[u8]) -> u64
 
 // ---- keys
 
+// The cursor at the first block of a section.
+pub fn section_start() -> Cursor
+    ensures { λ r. ⌜ r .used ≡ 0 ⌝ }
+{
+    Cursor { used: 0 }
+}
+
 // The key and the spare bits of block b, at whose start the cursor stands.
 pub fn next_key(c: Chain, m: &[u8], k: Cursor, b: u64) -> Block
     requires { ⌜ KeysFit c × ((k .used ≡ S.blockAt c b) × (((1 ≤ b) × (b ≤ c .nmack)) × (length (now m) ≡ 60))) ⌝ }
@@ -115,7 +120,7 @@ fn field_place(c: Chain, j: usize) -> usize
     requires { ⌜ FieldsFit c × (j < c .nmack * c .fields) ⌝ }
     ensures { λ r. ⌜ r ≡ S.fieldAt c j ⌝ }
 {
-    let block = block_bits(c.nmack) as usize;
+    let block = bitfields::block_bits(c.nmack) as usize;
     let fields = c.fields as usize;
     let wide = c.ms as usize + 16;
     (j / fields) * block + (j % fields) * wide
@@ -126,19 +131,6 @@ fn rest_bits(c: Chain) -> usize
     requires { ⌜ FieldsFit c ⌝ }
     ensures { λ r. ⌜ r ≡ restBits c ⌝ }
 {
-    let block = block_bits(c.nmack);
+    let block = bitfields::block_bits(c.nmack);
     (block - c.fields * (c.ms + 16)) as usize
-}
-
-// Bits of a block: 60/NMACK bytes.
-pub fn block_bits(nmack: u64) -> u64
-    ensures { λ r. ⌜ r ≡ blockBits nmack ⌝ }
-{
-    if nmack == 3 {
-        return 160;
-    }
-    if nmack == 2 {
-        return 240;
-    }
-    480
 }

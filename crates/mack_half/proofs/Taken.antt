@@ -21,7 +21,7 @@ use Rattle.rules.specs.declared.Chain.{Chain}
 use Rattle.authentic_sets.specs.Regions.{auth}
 use Rattle.chain.proofs.Steps.{front-splice}
 use Rattle.mack_keys.specs.Keys.{Hands}
-use Rattle.mack_keys.proofs.Judged.{proved-long}
+use Rattle.mack_keys.proofs.Judged.{length-proved}
 use Rattle.navdata.specs.Pieces.{nav}
 use Rattle.tag_records.specs.Told.{start, Leaves}
 use Rattle.tags.specs.Layout.{section}
@@ -77,7 +77,7 @@ module _ (s : State) (c : Chain) (config words stamps chain numbers heldkey wait
 
     module _ (code slot′ : ℕ) (key′ : List ℕ) (hands : Hands p code slot′ key key′) where
       proved-width : length (p .held .key) ≡ c .width
-      proved-width = proved-long c t prn mack (held slot (take (c .width) key)) (c .nmack) (rw key-front key-long)
+      proved-width = length-proved c t prn mack (held slot (take (c .width) key)) (c .nmack) (rw key-front key-long)
 
       -- what the code holds then is what was proved
       held-is : held slot′ (take (c .width) key′) ≡ p .held

@@ -2,6 +2,7 @@
 // its tags judged: those that waited and are due, then its own.
 //   mack_half      the half, over the regions that it touches
 //   judge_tags     the waiting tags that are due, then the section's own
+use mack_keys::Keys;
 use rules::Chain;
 ghost use mathlib.Core.Path.{_≡_};
 ghost use mathlib.Core.Bool.{true, false};
@@ -12,13 +13,15 @@ ghost use Rattle.rules.specs.Bits.{filled};
 ghost use Rattle.rules.specs.Calls.{sectionUnfit, mackHalf};
 ghost use Rattle.rules.specs.Chain.{held};
 ghost use Rattle.rules.specs.Kroot.{inForce, chainWith, chainContents};
-ghost use Rattle.rules.specs.State.{State, nsOf, configLength, chainLength, numbersLength, heldkeyLength};
+ghost use Rattle.rules.specs.Mack.{keysProved};
+ghost use Rattle.rules.specs.State.{State, nsOf, configLength, chainLength, numbersLength, heldkeyLength, waitingLength};
 ghost use Rattle.rules.specs.Tags.{ownsJudged, duesJudged};
 ghost use Rattle.authentic_sets.specs.Regions.{auth};
-ghost use Rattle.chain.specs.Sound.{Sound};
+ghost use Rattle.chain.specs.Sound.{Sound, Met};
 ghost use Rattle.navdata.specs.Pieces.{nav};
 ghost use Rattle.tag_records.specs.Told.{start, Leaves};
 ghost use Rattle.tags.specs.Layout.{Laid, section};
+ghost use Rattle.mack_keys.specs.Keys.{Hands};
 ghost use Rattle.mack_half.specs.Half.{tesla, judging, Gives};
 
 // ---- the chain and the held key
@@ -72,6 +75,28 @@ fn hold(numbers: &mut [u64], heldkey: &mut [u8], slot: u64, kept: usize, key: [u
     buffer::copy_at(heldkey, 0, &key);
 }
 
+// Checks the keys of a section of 60 bytes against the held key of this slot, in `key`, and keeps a key on the way in `met`: one of the first n
+// waiting tags' where the way is long.
+fn prove_keys(
+    c: Chain,
+    time: u32,
+    prn: u8,
+    mack: &[u8],
+    slot: u64,
+    waiting: &[u8],
+    n: usize,
+    key: &mut [u8; 32],
+    met: &mut [u8; 32],
+) -> Keys
+    requires { ⌜ Sound c × ((length (now mack) ≡ 60) × ((slot < 2 ^ 34) × (length (now key) ≡ 32))) ⌝ }
+    requires { ⌜ (length (now waiting) ≡ waitingLength) × (n ≤ 256) ⌝ }
+    ensures { λ r. ⌜ Hands (keysProved c time prn (now (mack .entry)) (held slot (take (c .width) (now (key .entry)))) (c .nmack)) (r .code) (r .slot) (now (key .entry)) (now (key .exit)) × ((r .slot < 2 ^ 34) × Met c (held (r .slot) (take (c .width) (now (key .exit)))) (r .met) (now (met .exit))) ⌝ }
+{
+    let last = chain::sent_slot(c, time, c.nmack, prn);
+    let via = due_tag_keys::slot_to_keep(c, slot, last, waiting, n);
+    mack_keys::keys_proved(c, time, prn, mack, slot, via, key, met)
+}
+
 // ---- tags
 
 // How many tags wait after a section, and how many records it wrote.
@@ -80,7 +105,7 @@ pub struct Judged {
     pub records: usize,
 }
 
-// The first n waiting tags that are due under the held key of this slot, then the tags of a section of 60 bytes that satellite `prn` sent at
+// The first n waiting tags that are due under the held key of this slot (`met` is the key of slot `near` on the way down from it), then the tags of a section of 60 bytes that satellite `prn` sent at
 // `time`. Records stand one after the other at the front of `area`, and the tags that wait at the front of `waiting`; other bytes stay.
 fn judge_tags(
     config: &[u8],
@@ -89,6 +114,8 @@ fn judge_tags(
     c: Chain,
     slot: u64,
     key: [u8; 32],
+    near: u64,
+    met: [u8; 32],
     prn: u8,
     time: u32,
     status: u8,
@@ -101,10 +128,10 @@ fn judge_tags(
 ) -> Judged
     requires { ⌜ ((length (now config) ≡ 63) × (length (now words) ≡ 2880)) × ((length (now stamps) ≡ 180) × (length (now mack) ≡ 60)) ⌝ }
     requires { ⌜ ((length (now sets) ≡ 2484) × (length (now arrivals) ≡ 36)) × ((length (now waiting) ≡ 21504) × (length (now area) ≡ 3240)) ⌝ }
-    requires { ⌜ (Sound c × Laid c) × ((slot < 2 ^ 34) × (n ≤ 256)) ⌝ }
+    requires { ⌜ ((Sound c × Laid c) × ((slot < 2 ^ 34) × (n ≤ 256))) × Met c (held slot (take (c .width) key)) near met ⌝ }
     ensures { λ r. ⌜ Leaves (ownsJudged (now (config .entry)) (nav (now (words .entry)) (now (stamps .entry))) c (held slot (take (c .width) key)) (section prn time status (now (mack .entry))) (c .nmack * c .fields) (duesJudged c (held slot (take (c .width) key)) (now (waiting .entry)) n (start 0 (now (sets .entry)) (now (arrivals .entry))))) 0 0 (now (waiting .entry)) (now (area .entry)) (now (waiting .exit)) (now (sets .exit)) (now (arrivals .exit)) (now (area .exit)) (r .kept) × ((length ((ownsJudged (now (config .entry)) (nav (now (words .entry)) (now (stamps .entry))) c (held slot (take (c .width) key)) (section prn time status (now (mack .entry))) (c .nmack * c .fields) (duesJudged c (held slot (take (c .width) key)) (now (waiting .entry)) n (start 0 (now (sets .entry)) (now (arrivals .entry))))) .records) ≡ r .records * 12) × (r .records ≤ 270)) ⌝ }
 {
-    let stay = due_tags::judge_due(c, slot, key, waiting, n, sets, arrivals, area);
+    let stay = due_tags::judge_due(c, slot, key, near, met, waiting, n, sets, arrivals, area);
     let told = n - stay;
     let fields = (c.nmack * c.fields) as usize;
     let kept = section_tags::judge_own(
@@ -165,7 +192,8 @@ fn judge_section(
     let slot = regions::held_slot(numbers);
     let n = regions::waiting_count(numbers);
     let mut key = held_key(heldkey, c.width);
-    let p = mack_keys::keys_proved(c, time, prn, mack, slot, &mut key);
+    let mut met = [0u8; 32];
+    let p = prove_keys(c, time, prn, mack, slot, waiting, n, &mut key, &mut met);
     if p.code != 0 {
         return Mack {
             code: p.code,
@@ -179,6 +207,8 @@ fn judge_section(
         c,
         p.slot,
         key,
+        p.met,
+        met,
         prn,
         time,
         gather::status_of(header),

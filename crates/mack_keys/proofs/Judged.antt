@@ -8,16 +8,17 @@ use native.Mathlib.Omega.{arith}
 use native.Mathlib.Numerals.{add-one}
 use lib.Dec.{ltb, eqb}
 use lib.ListN.{length, take, drop, replicate}
-use lib.Seq.{drop-at}
+use lib.Seq.{drop-at, length-take-le}
 use borrow.Author.Tests.{lt-ltb, le-ltb, ne-eqb}
 use Rattle.laws.specs.Lists.{part, splice}
 use Rattle.laws.specs.Refusal.{firstOf, unless, neb}
 use Rattle.laws.proofs.Refusal.{by-test, unless-refused}
 use Rattle.bitfields.proofs.Fields.{length-bytesAt}
-use Rattle.rules.specs.Chain.{Held, held, keyFits, higher, sentSlot}
+use Rattle.rules.specs.Chain.{Held, held, keyFits, keyOfSlot, higher, sentSlot}
 use Rattle.rules.specs.Mack as S
 use Rattle.rules.specs.declared.Chain.{Chain}
-use Rattle.chain.proofs.Steps.{front-splice, splice-front}
+use Rattle.chain.specs.Sound.{Met}
+use Rattle.chain.proofs.Steps.{front-splice, splice-front, walked-key, fits-on-the-way}
 use Rattle.mack_keys.specs.Keys.{Hands}
 
 -- ---- one block
@@ -93,6 +94,27 @@ module _ (c : Chain) (g prn first high b slot : ℕ) (m key : List ℕ) (s : slo
               slot-is = rw (near, u, v, w) s;
               key-is = rw (near, u, v, w) (r ∙ ap (splice key 0) (sent-key c m sent b k));
             }
+
+-- ---- the key that is kept on the way
+
+module _ (c : Chain) (high slot stop : ℕ) (known sent here : List ℕ) (w : c .width ≤ 32) (n : length sent ≡ 32)
+    (walked : here ≡ splice sent 0 (keyOfSlot c (held slot (take (c .width) sent)) stop)) (l : stop ≤ slot) where
+  -- the sent key fits where the key of the stop does
+  pub fits-by-stop : (f : Bool) → (high < slot → high ≤ stop) → (slot ≤ high → stop ≡ slot) → f ≡ keyFits c (held high (take (c .width) known)) stop (take (c .width) here)
+      → f ≡ keyFits c (held high (take (c .width) known)) slot (take (c .width) sent)
+  fits-by-stop f p q e =
+      e
+      ∙ ap (keyFits c (held high (take (c .width) known)) stop) (walked-key c slot stop sent here w n walked)
+      ∙ fits-on-the-way c (held high (take (c .width) known)) slot stop (take (c .width) sent) l p q
+
+  -- from the sent key, now the highest, both the key of the stop and the key that was kept before are met
+  pub met-at-stop : Met c (held slot (take (c .width) sent)) stop here
+  met-at-stop = record { not-above = l; key-is = walked-key c slot stop sent here w n walked }
+
+-- the sent key's bytes are now the held key's
+pub now-held : (c : Chain) (sent key out : List ℕ) → c .width ≤ 32 → length sent ≡ 32 → out ≡ splice key 0 (part sent 0 (c .width)) → take (c .width) out ≡ take (c .width) sent
+unfolding part
+now-held c sent key out w n e = ap (take (c .width)) e ∙ front-splice key (take (c .width) sent) (c .width) (length-take-le (c .width) sent (omega arith))
 
 -- ---- the blocks in order
 
@@ -174,25 +196,3 @@ pub all-blocks : (c : Chain) (g prn b n code slot : ℕ) (m key₀ key : List �
 all-blocks c g prn b n code slot m key₀ key h l k p =
     let e : n ≡ b = omega arith in
     rw e p
-
--- ---- the key that is proved has the chain's width
-
--- what holds where nothing was refused and where something was holds of the choice
-by-number : {A : Type 0} (P : A → Type 0) (n : ℕ) {x y : A} → P x → P y → P (unless n x y)
-by-number P zero f g = f
-by-number P (suc n) f g = g
-
-block-long : (c : Chain) (g prn first : ℕ) (m : List ℕ) (h : Held) (b : ℕ) → length (h .key) ≡ c .width → length ((S.blockProved c g prn first m h b) .held .key) ≡ c .width
-unfolding S.blockProved higher
-block-long c g prn first m h b e =
-    by-number (λ (k : Held). length (k .key) ≡ c .width) (firstOf (S.blockChecks c g prn first m h b))
-    (by-test (λ (k : Held). length (k .key) ≡ c .width) (ltb (h .slot) (sentSlot c g b prn)) (λ _. length-key c m b) λ _. e)
-    e
-
-pub proved-long : (c : Chain) (g prn : ℕ) (m : List ℕ) (h : Held) (n : ℕ) → length (h .key) ≡ c .width → length ((S.keysProved c g prn m h n) .held .key) ≡ c .width
-unfolding S.keysProved
-proved-long c g prn m h zero e = e
-proved-long c g prn m h (suc b) e =
-    by-number (λ (p : S.Proved). length (p .held .key) ≡ c .width) ((S.keysProved c g prn m h b) .code)
-    (block-long c g prn (h .slot) m ((S.keysProved c g prn m h b) .held) (suc b) (proved-long c g prn m h b e))
-    (proved-long c g prn m h b e)

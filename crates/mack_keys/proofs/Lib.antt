@@ -1,3 +1,3 @@
--- Laws of a section's layout and of its keys, for this crate's proofs and its callers'.
+-- Laws of a section's keys, for this crate's proofs and its callers'.
 pub mod Places
 pub mod Judged

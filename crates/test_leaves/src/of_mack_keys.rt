@@ -23,6 +23,7 @@ pub extern "C" fn leaf_keys_code(
     prn: u8,
     m: &[u8],
     slot: u64,
+    via: u64,
     key: &mut [u8; 32],
 ) -> u32
     requires { ⌜ Sound (chainOf ns nmack root (now alpha) width ms fields) × ((length (now m) ≡ 60) × ((slot < 2 ^ 34) × (length (now key) ≡ 32))) ⌝ }
@@ -38,7 +39,8 @@ pub extern "C" fn leaf_keys_code(
         ms: ms,
         fields: fields,
     };
-    let p = mack_keys::keys_proved(c, g, prn, m, slot, key);
+    let mut met = [0u8; 32];
+    let p = mack_keys::keys_proved(c, g, prn, m, slot, via, key, &mut met);
     p.code
 }
 
@@ -56,6 +58,7 @@ pub extern "C" fn leaf_keys_slot(
     prn: u8,
     m: &[u8],
     slot: u64,
+    via: u64,
     key: &mut [u8; 32],
 ) -> u64
     requires { ⌜ Sound (chainOf ns nmack root (now alpha) width ms fields) × ((length (now m) ≡ 60) × ((slot < 2 ^ 34) × (length (now key) ≡ 32))) ⌝ }
@@ -71,6 +74,7 @@ pub extern "C" fn leaf_keys_slot(
         ms: ms,
         fields: fields,
     };
-    let p = mack_keys::keys_proved(c, g, prn, m, slot, key);
+    let mut met = [0u8; 32];
+    let p = mack_keys::keys_proved(c, g, prn, m, slot, via, key, &mut met);
     p.slot
 }

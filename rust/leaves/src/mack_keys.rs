@@ -6,13 +6,15 @@ use crate::times::Slots;
 
 impl Chain {
     /// The keys of a section that `prn` sent at `g`, against the key that is held of slot `slot`: 0, 12
-    /// or 13, and the slot of the highest key proved, which is then in `key`.
+    /// or 13, and the slot of the highest key proved, which is then in `key`. The key of slot `via` is
+    /// kept on the way; which slot that is changes nothing here.
     pub fn keys_proved(
         &self,
         g: u32,
         prn: u8,
         section: &[u8; 60],
         slot: u64,
+        via: u64,
         key: &mut [u8; 32],
     ) -> Option<(u32, u64)> {
         let Slots { ns, nmack, root } = self.slots;
@@ -27,10 +29,10 @@ impl Chain {
         let (code, high) = unsafe {
             (
                 raw::leaf_keys_code(
-                    ns, nmack, root, alpha, width, ms, fields, g, prn, m, m_len, slot, key,
+                    ns, nmack, root, alpha, width, ms, fields, g, prn, m, m_len, slot, via, key,
                 ),
                 raw::leaf_keys_slot(
-                    ns, nmack, root, alpha, width, ms, fields, g, prn, m, m_len, slot, &mut again,
+                    ns, nmack, root, alpha, width, ms, fields, g, prn, m, m_len, slot, 0, &mut again,
                 ),
             )
         };

@@ -225,6 +225,7 @@ extern "C" {
         m: *const u8,
         m_count: usize,
         slot: u64,
+        via: u64,
         key: *mut [u8; 32],
     ) -> u32;
     pub fn leaf_keys_slot(
@@ -240,6 +241,7 @@ extern "C" {
         m: *const u8,
         m_count: usize,
         slot: u64,
+        via: u64,
         key: *mut [u8; 32],
     ) -> u64;
 

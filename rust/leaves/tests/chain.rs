@@ -237,7 +237,8 @@ fn keys_of_sections_are_judged_alike() {
         let proved = up_to_failure(&before, read, prn, time);
         let rest = rng.array::<32>();
         let mut key = whole(&before.held, &rest);
-        let given = leaf.keys_proved(time.0, prn, &bytes, before.held_slot, &mut key);
+        let via = rng.below(top_slot + 3);
+        let given = leaf.keys_proved(time.0, prn, &bytes, before.held_slot, via, &mut key);
         assert_eq!(given, Some((right.into(), proved.held_slot)));
         assert_eq!(key, whole(&proved.held, &rest));
         counts[usize::from(right)] += 1;

@@ -2,29 +2,31 @@
 -- Assumes nothing.
 use Prim.Native.Nat.{ℕ, _-_, _≤_, _<_}
 use native.Mathlib.Omega.{arith}
-use lib.ListN.{getD}
 use denote.Ref.{now}
+use Rattle.rules.specs.Tags.{entryAt}
+use Rattle.due_tag_keys.specs.Outcomes.{entrySlot}
 use Rattle.due_tag_keys.proofs.Falling.{best-one}
 use borrow.Author.Needs.{needs}
 use Rattle.due_tag_keys.proofs.next_below.Statement.{statement}
 use Rattle.due_tag_keys.proofs.next_below.Tie as tie
 
 abbrev Inv-loop : tie.InvT-loop
-Inv-loop slots n below best₀ k₀ best k =
-    (k ≤ n) × ((best < below) × ((j : ℕ) → j < k → getD slots j 0 < below → getD slots j 0 ≤ best))
+Inv-loop c waiting n below best₀ k₀ best k =
+    (k ≤ n) × ((best < below) × ((j : ℕ) → j < k → entrySlot c (entryAt waiting j) < below → entrySlot c (entryAt waiting j) ≤ best))
 
 abbrev μ-loop : tie.MeasureT-loop
-μ-loop slots n below best₀ k₀ best k = n - k
+μ-loop c waiting n below best₀ k₀ best k = n - k
 
 loop-holds : tie.Need-loop-holds Inv-loop μ-loop
 loop-holds c = (omega arith, (omega arith, λ j h. absurd (omega arith)))
 
 loop-again : tie.Need-loop-again Inv-loop μ-loop
 loop-again c =
-    let l = c .before .before .before .loop in
-    let g = c .before .before .before .before .args in
+    let e = c .before in
+    let l = e .before .before .loop in
+    let g = e .before .before .before .before .args in
     let r = c .higher .ensures in
-    (omega arith, (r .0, best-one (now (g .slots)) (l .k) (g .below) (l .best) (c .higher .result) (l .inv .1 .1) (r .1 .0) (r .1 .1)))
+    (omega arith, (r .0, best-one (λ (j : ℕ). entrySlot (g .c) (entryAt (now (g .waiting)) j)) (l .k) (g .below) (l .best) (c .higher .result) (l .inv .1 .1) (r .1 .0) (rw (← (e .entry-slot .ensures)) (r .1 .1))))
 
 returns : tie.Need-returns Inv-loop μ-loop
 returns c =
@@ -37,6 +39,6 @@ next-below-spec =
     (tie.spec
     Inv-loop
     μ-loop
-    loop-holds (λ c. search needs) (λ c. search needs) (λ c κs. search needs) (λ c. search needs) (λ c. search needs)
+    loop-holds (λ c κs. search needs) (λ c κs. search needs) (λ c. search needs) (λ c. search needs)
     loop-again
     returns)

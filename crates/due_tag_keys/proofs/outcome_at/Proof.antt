@@ -10,13 +10,15 @@ use Rattle.due_tag_keys.proofs.outcome_at.Statement.{statement}
 use Rattle.due_tag_keys.proofs.outcome_at.Tie as tie
 
 returns : tie.Need-returns
-returns c h e s = rw (← s, ne-eqb _ _ (c .if1 .taken))
+returns c h e = rw (← (c .before .entry-slot .ensures), ne-eqb _ _ (c .if1 .taken))
 
 returns-2 : tie.Need-returns-2
-returns-2 c h e s =
-    let g = c .before .before .before .args in
-    let q : g .slot ≡ g .m = c .before .if1 .left in
-    rw (← s, eq-eqb _ _ q) (c .judge-entry .ensures h (e ∙ ap (λ (i : ℕ). keyOf (keyOfSlot (g .c) h i)) (sym q ∙ s)))
+returns-2 c h e =
+    let i = c .before in
+    let x = i .before in
+    let g = x .before .before .args in
+    let q : x .entry-slot .result ≡ g .m = i .if1 .left in
+    rw (← (x .entry-slot .ensures), eq-eqb _ _ q) (c .judge-entry .ensures h (e ∙ ap (λ (i : ℕ). keyOf (keyOfSlot (g .c) h i)) (sym q ∙ x .entry-slot .ensures)))
 
 pub outcome-at-spec : {M : Type 1} → statement M
-outcome-at-spec = tie.close (tie.spec returns (λ c κs. search needs) returns-2)
+outcome-at-spec = tie.close (tie.spec (λ c κs. search needs) returns (λ c κs. search needs) returns-2)

@@ -17,8 +17,8 @@ abbrev entered : tie.After-chain-of → tie.Start
 entered c = c .before .before .before .before .before .before .before .before .before .before .before .before
 
 -- where the chain was read, from where the keys were proved
-abbrev read : tie.After-keys-proved → tie.After-chain-of
-read k = k .before .before .before .before .before .before .before .before
+abbrev read : tie.After-prove-keys → tie.After-chain-of
+read k = k .before .before .before .before .before .before .before .before .before .before
 
 fits : (c : tie.After-chain-of) → Sound (c .chain-of .result) × Laid (c .chain-of .result)
 fits c = c .chain-of .ensures .1 ((entered c) .pre .1 .1 .1 .1)
@@ -28,10 +28,11 @@ held-key-requires c κs =
     let k = c .before .before .before .before .before in
     ((entered k) .pre .1 .1 .1 .0, (fits k) .0 .walks .width-high)
 
-keys-proved-requires : tie.Need-keys-proved-requires
-keys-proved-requires c κs =
-    let k = c .before .before .before .before .before .before .before in
-    ((fits k) .0, ((entered k) .pre .0 .1 .1, (c .before .before .before .before .before .held-slot .ensures .1, search needs)))
+prove-keys-requires : tie.Need-prove-keys-requires
+prove-keys-requires c κs =
+    let w = c .before .before .before .before .before in
+    let k = w .before .before .before .before in
+    (((fits k) .0, ((entered k) .pre .0 .1 .1, (w .before .before .held-slot .ensures .1, search needs))), ((entered k) .pre .1 .0 .1 .0, w .waiting-count .ensures .1))
 
 returns : tie.Need-returns
 returns c =
@@ -39,12 +40,12 @@ returns c =
     let r = read k in
     let a = entered r in
     let g = a .args in
-    let n = k .before .before .before .before in (
+    let n = k .before .before .before .before .before .before in (
       λ s ec en eh et ea f.
           keys-by s (r .chain-of .result) (now (g .config)) (now (g .words)) (now (g .stamps)) (now (g .chain)) (now (g .numbers)) (now (g .heldkey)) (now (g .waiting)) (now (g .sets)) (now (g .arrivals))
-          (k .before .before .held-key .result) (now (g .mack)) (n .before .before .held-slot .result) (n .waiting-count .result) (g .prn) (g .time)
-          ec en eh et ea (r .chain-of .ensures .0) (n .before .before .held-slot .ensures .0) (n .waiting-count .ensures .0) (k .before .before .held-key .ensures) ((fits r) .0 .walks .width-high) (a .pre .1 .1 .1 .0)
-          (g .header) (now (g .area)) f _ (c .if1 .taken) (k .keys-proved .ensures .0 .code-is),
+          (k .before .before .before .before .held-key .result) (now (g .mack)) (n .before .before .held-slot .result) (n .waiting-count .result) (g .prn) (g .time)
+          ec en eh et ea (r .chain-of .ensures .0) (n .before .before .held-slot .ensures .0) (n .waiting-count .ensures .0) (k .before .before .before .before .held-key .ensures) ((fits r) .0 .walks .width-high) (a .pre .1 .1 .1 .0)
+          (g .header) (now (g .area)) f _ (c .if1 .taken) (k .prove-keys .ensures .0 .code-is),
       omega arith,
     )
 
@@ -53,7 +54,7 @@ judge-tags-requires c κs =
     let k = c .before .before .before .before .before .before .before in
     let r = read k in
     let q = (entered r) .pre in
-    (q .0, (q .1 .0, (fits r, (k .keys-proved .ensures .1, k .before .before .before .before .waiting-count .ensures .1))))
+    (q .0, (q .1 .0, ((fits r, (k .prove-keys .ensures .1 .0, k .before .before .before .before .before .before .waiting-count .ensures .1)), k .prove-keys .ensures .1 .1)))
 
 hold-requires : tie.Need-hold-requires
 hold-requires c κs =
@@ -70,12 +71,12 @@ returns-2 c =
     let r = read k in
     let a = entered r in
     let g = a .args in
-    let n = k .before .before .before .before in (
+    let n = k .before .before .before .before .before .before in (
       λ s ec en eh et ea f.
           taken-by s (r .chain-of .result) (now (g .config)) (now (g .words)) (now (g .stamps)) (now (g .chain)) (now (g .numbers)) (now (g .heldkey)) (now (g .waiting)) (now (g .sets)) (now (g .arrivals))
-          (k .before .before .held-key .result) (now (g .mack)) (n .before .before .held-slot .result) (n .waiting-count .result) (g .prn) (g .time)
-          ec en eh et ea (r .chain-of .ensures .0) (n .before .before .held-slot .ensures .0) (n .waiting-count .ensures .0) (k .before .before .held-key .ensures) ((fits r) .0 .walks .width-high) (a .pre .1 .1 .1 .0)
-          (g .header) (now (g .area)) f _ _ _ (k .keys-proved .ensures .0)
+          (k .before .before .before .before .held-key .result) (now (g .mack)) (n .before .before .held-slot .result) (n .waiting-count .result) (g .prn) (g .time)
+          ec en eh et ea (r .chain-of .ensures .0) (n .before .before .held-slot .ensures .0) (n .waiting-count .ensures .0) (k .before .before .before .before .held-key .ensures) ((fits r) .0 .walks .width-high) (a .pre .1 .1 .1 .0)
+          (g .header) (now (g .area)) f _ _ _ (k .prove-keys .ensures .0)
           (st .status-of .result) (j .judge-tags .result .records) (j .judge-tags .result .kept) _ _ _ _ _ _ (st .before .if1 .left) (st .status-of .ensures)
           (j .judge-tags .ensures .0) (j .judge-tags .ensures .1 .0) (h .hold .ensures .0) (h .hold .ensures .1),
       j .judge-tags .ensures .1 .1,
@@ -86,7 +87,7 @@ judge-section-spec =
     tie.close
     (tie.spec (λ c κs. search needs) (λ c κs. search needs) (λ c κs. search needs)
     held-key-requires
-    keys-proved-requires (λ c. search needs) (λ c. search needs)
+    prove-keys-requires (λ c. search needs) (λ c. search needs) (λ c. search needs)
     returns (λ c κs. search needs)
     judge-tags-requires
     hold-requires (λ c. search needs) (λ c. search needs) (λ c. search needs) (λ c. search needs) (λ c. search needs) (λ c. search needs)

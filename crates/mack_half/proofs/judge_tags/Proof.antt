@@ -26,7 +26,7 @@ judged c = c .before .before .before .before .before .before .before .before
 judge-due-requires : tie.Need-judge-due-requires
 judge-due-requires c κs =
     let a = c .before .before .before .before .before .before .before .before .before .before .before .before in
-    (a .pre .1 .0, (a .pre .1 .1 .0 .0, a .pre .1 .1 .1))
+    (a .pre .1 .0, ((a .pre .1 .1 .0 .0 .0, a .pre .1 .1 .0 .1), a .pre .1 .1 .1))
 
 few : (d : tie.After-judge-due) → d .judge-due .result ≤ (entered d) .args .n
 few d = d .judge-due .ensures .1 .few
@@ -35,19 +35,19 @@ sub-told : tie.Need-sub-told
 sub-told c = omega (arith, few (judged c))
 
 mul-fields : tie.Need-mul-fields
-mul-fields c = omega (arith, (entered (judged (c .before))) .pre .1 .1 .0 .1 .few)
+mul-fields c = omega (arith, (entered (judged (c .before))) .pre .1 .1 .0 .0 .1 .few)
 
 judge-own-requires : tie.Need-judge-own-requires
 judge-own-requires c κs =
     let d = judged (c .before .before .before .before .before) in
     let q = (entered d) .pre in
-    let l = q .1 .1 .0 .1 .few in
-    (q .0, (search needs, ((q .1 .1 .0 .0 .walks, q .1 .1 .0 .1), (q .1 .1 .1 .0, (omega (arith, few d), omega (arith, few d, l))))))
+    let l = q .1 .1 .0 .0 .1 .few in
+    (q .0, (search needs, ((q .1 .1 .0 .0 .0 .walks, q .1 .1 .0 .0 .1), (q .1 .1 .0 .1 .0, (omega (arith, few d), omega (arith, few d, l))))))
 
-add-t37 : tie.Need-add-t37
-add-t37 c =
+add-t39 : tie.Need-add-t39
+add-t39 c =
     let d = judged (c .before .before .before .before .before .before .before .before .before .before .before .before .before .before) in
-    omega (arith, few d, (entered d) .pre .1 .1 .0 .1 .few, (entered d) .pre .1 .1 .1 .1)
+    omega (arith, few d, (entered d) .pre .1 .1 .0 .0 .1 .few, (entered d) .pre .1 .1 .0 .1 .1)
 
 returns : tie.Need-returns
 returns c =
@@ -59,11 +59,11 @@ returns c =
     let w = duesJudged (g .c) h (now (g .waiting)) (g .n) (start 0 (now (g .sets)) (now (g .arrivals))) in
     let r = both-leave (now (g .config)) (nav (now (g .words)) (now (g .stamps))) (g .c) h (section (g .prn) (g .time) (g .status) (now (g .mack)))
     (now (g .waiting)) (now (g .area))
-    (d .judge-due .last .1 .1 .1 .0) (d .judge-due .last .1 .1 .1 .1 .1 .0) (d .judge-due .last .1 .1 .1 .1 .1 .1 .0) (d .judge-due .last .1 .1 .1 .1 .1 .1 .1 .0)
+    (d .judge-due .last .1 .1 .1 .1 .1 .0) (d .judge-due .last .1 .1 .1 .1 .1 .1 .1 .0) (d .judge-due .last .1 .1 .1 .1 .1 .1 .1 .1 .0) (d .judge-due .last .1 .1 .1 .1 .1 .1 .1 .1 .1 .0)
     _ _ _ _ (g .n) (g .c .nmack * g .c .fields) (d .judge-due .result) (o .judge-own .result) w
-    (a .pre .1 .0 .1 .0) (a .pre .1 .0 .1 .1) (omega (arith, few d, a .pre .1 .1 .0 .1 .few))
+    (a .pre .1 .0 .1 .0) (a .pre .1 .0 .1 .1) (omega (arith, few d, a .pre .1 .1 .0 .0 .1 .few))
     (d .judge-due .ensures .0) (d .judge-due .ensures .1) (o .judge-own .ensures .0) (o .judge-own .ensures .1) in
-    (r .0, (r .1 .1, omega (arith, few d, a .pre .1 .1 .0 .1 .few, a .pre .1 .1 .1 .1)))
+    (r .0, (r .1 .1, omega (arith, few d, a .pre .1 .1 .0 .0 .1 .few, a .pre .1 .1 .0 .1 .1)))
 
 pub judge-tags-spec : {M : Type 1} → statement M
 judge-tags-spec =
@@ -73,5 +73,5 @@ judge-tags-spec =
     sub-told
     mul-fields
     judge-own-requires
-    add-t37 (λ c. search needs) (λ c. search needs) (λ c. search needs) (λ c. search needs)
+    add-t39 (λ c. search needs) (λ c. search needs) (λ c. search needs) (λ c. search needs)
     returns)

@@ -8,11 +8,11 @@ use Rattle.mack_keys.proofs.next_block.Tie as tie
 
 returns : tie.Need-returns
 returns c =
-    let g = c .before .before .before .args in
-    (failed-before (g .c) (g .p .code) (g .p .slot) _ (now (g .key)) (c .if1 .taken), search needs)
+    let g = c .before .before .args in
+    (λ m p q. failed-before (g .c) (g .p .code) (g .p .slot) _ (now (g .key)) (c .if1 .taken), (search needs, λ x. x))
 
 returns-2 : tie.Need-returns-2
-returns-2 c = rw (c .before .before .if1 .left) (c .block-proved .ensures)
+returns-2 c = rw (c .before .before .before .if1 .left) (c .block-proved .ensures)
 
 pub next-block-spec : {M : Type 1} → statement M
 next-block-spec = tie.close (tie.spec returns (λ c κs. search needs) returns-2)
