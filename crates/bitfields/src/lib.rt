@@ -7,7 +7,7 @@
 //   wide, low, index                     a number in a wider type
 ghost use mathlib.Core.Path.{_≡_};
 ghost use Prim.Native.Nat.{_+_, _*_, _≤_, _<_, _^_};
-ghost use lib.ListN.{length, getD};
+ghost use lib.ListN.{length};
 ghost use Rattle.laws.specs.Lists.{splice};
 ghost use Rattle.rules.specs.Bits.{bits, bytesAt};
 ghost use Rattle.rules.specs.Kroot.{blockBits};

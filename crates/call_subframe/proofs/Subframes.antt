@@ -1,17 +1,16 @@
 -- The sub-frame call by its cases: refused in both halves, 75 zero bytes, an emergency message, or both halves done.
 -- Assumes nothing.
-use mathlib.Core.Path.{_≡_, refl, sym, ap, _∙_}
-use mathlib.Core.Bool.{Bool, true, false, cond, not, _&&_, _||_}
-use mathlib.Core.List.{List, []}
-use Prim.Native.Nat.{ℕ, zero, suc, _*_, _/_, _<_, _≤_}
+use mathlib.Core.Path.{_≡_, refl}
+use mathlib.Core.Bool.{true, false, _&&_, _||_}
+use mathlib.Core.List.{List}
+use Prim.Native.Nat.{ℕ, zero, suc, _*_, _/_}
 use native.Mathlib.Omega.{arith}
 use lib.Dec.{leb, ltb, eqb}
 use lib.ListN.{length, set, replicate}
 use borrow.Author.Tests.{ne-eqb}
 use Rattle.laws.specs.Lists.{splice, same}
-use Rattle.laws.specs.Refusal.{firstOf, unless}
-use Rattle.laws.proofs.Splice.{splice-nil}
-use Rattle.rules.specs.Calls.{Subframe, SubframeTold, HkrootDone, MackDone, subframeChecks, noted, hkrootHalf, mackHalf, halvesDone, subframeCall}
+use Rattle.laws.specs.Refusal.{firstOf}
+use Rattle.rules.specs.Calls.{Subframe, SubframeTold, MackDone, subframeChecks, noted, hkrootHalf, mackHalf, halvesDone, subframeCall}
 use Rattle.rules.specs.Gather.{hkrootOf, mackOf, headerOf}
 use Rattle.rules.specs.State.{State, shaped, stopped, lastSubframe, lastSubframeOf, prnValid, withClocks}
 use Rattle.rules.specs.Times.{stampOf, timeValid}

@@ -6,7 +6,7 @@ ghost use mathlib.Core.Bool.{cond, not, _&&_};
 ghost use mathlib.Core.List.{List};
 ghost use Prim.Native.Nat.{ℕ, _+_, _-_, _*_, _/_, _^_, _≤_, _<_};
 ghost use lib.Dec.{leb, ltb, eqb};
-ghost use lib.ListN.{length, getD};
+ghost use lib.ListN.{length};
 ghost use Rattle.laws.specs.Lists.{part, same};
 ghost use Rattle.laws.specs.Refusal.{neb};
 ghost use Rattle.rules.specs.Times.{secondsOf};

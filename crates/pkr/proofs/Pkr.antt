@@ -13,11 +13,12 @@ use Rattle.laws.specs.Lists.{part}
 use Rattle.laws.specs.Refusal.{neb}
 use Rattle.laws.proofs.Refusal.{neb-false}
 use Rattle.laws.proofs.Tests.{neither}
-use Rattle.bitfields.proofs.Fields.{bits-lt, bits-in-byte}
+use Rattle.bitfields.proofs.Fields.{bits-in-byte}
 use Rattle.kroot.proofs.Parameters.{low-bits, least-fits}
 use Rattle.rules.specs.PublicKeys as K
 use Rattle.rules.specs.Kroot.{leastBlocks}
 use Rattle.rules.specs.Pkr as S
+use Rattle.rules.proofs.Bounds.{bits-lt}
 
 -- ---- the new key's type and ID
 
@@ -32,10 +33,6 @@ id-is d = sym (low-bits d 129 4 4 refl)
 pub type-bound : (d : List ℕ) → S.newTypeOf d < 16
 unfolding S.newTypeOf
 type-bound d = bits-lt d 1032 4
-
-pub id-bound : (d : List ℕ) → S.newIdOf d < 16
-unfolding S.newIdOf
-id-bound d = bits-lt d 1036 4
 
 -- ---- sizes
 

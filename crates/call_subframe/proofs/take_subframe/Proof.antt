@@ -6,10 +6,9 @@ use lib.Dec.{eqb}
 use lib.ListN.{length}
 use borrow.Author.Tests.{eq-eqb}
 use denote.Ref.{now}
-use Rattle.regions.specs.Lengths.{Lengths}
-use Rattle.regions.proofs.Shapes.{lengths}
 use Rattle.rules.specs.Calls.{Subframe}
 use Rattle.rules.specs.State.{State, state, shaped}
+use Rattle.rules.proofs.Lengths.{Sized, sized}
 use Rattle.call_subframe.specs.Told.{subframe}
 use Rattle.call_subframe.proofs.Subframes.{refused, zero-bytes, accepted}
 use borrow.Author.Needs.{needs}
@@ -26,8 +25,8 @@ brought c = subframe (c .args .prn) (c .args .time) (now (c .args .bytes))
 abbrev entered : tie.After-subframe-refusal → tie.Start
 entered c = c .before .before .before .before .before .before .before .before .before .before .before .before .before .before .before .before .before .before .before .before .before
 
-long : (c : tie.Start) → Lengths (before c)
-long c = lengths (before c) (c .pre .0)
+long : (c : tie.Start) → Sized (before c)
+long c = sized (before c) (c .pre .0)
 
 fit : (c : tie.Start) → (shaped (before c) && (eqb (length (now (c .args .area))) 3240 && eqb (length (now (c .args .bytes))) 75)) ≡ true
 fit c = rw (c .pre .0, eq-eqb (length (now (c .args .area))) 3240 (c .pre .1 .0), eq-eqb (length (now (c .args .bytes))) 75 (c .pre .1 .1))
