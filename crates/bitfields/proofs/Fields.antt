@@ -6,21 +6,16 @@ use mathlib.Core.List.{List, [], _∷_, _++_, append-assoc}
 use Prim.Native.Nat.{ℕ, zero, suc, _+_, _-_, _*_, _/_, _%_, _^_, _≤_, _<_}
 use native.Mathlib.Omega.{arith}
 use native.Mathlib.Numerals.{add-one}
-use native.Mathlib.Nat.{add-zero, add-suc, add-assoc, pow-suc, mod-one, mod-lt, lt-of-lt-of-le}
+use native.Mathlib.Nat.{add-zero, add-suc, add-assoc, pow-suc, mod-one, lt-of-lt-of-le}
 use lib.ListN.{length, getD, take, drop, set, length-append, length-drop, List·getD-append}
-use lib.Seq.{getD-at, set-at, drop-cons, ext-getD, length-take-le}
+use lib.Seq.{getD-at, set-at, drop-cons, length-take-le}
 use mathlib.Core.Logic.{⊎-elim}
 use lib.Pow.{pow-mono, high, low, shr-shr, mod-pow-add}
 use Rattle.laws.specs.Lists.{part, splice}
-use Rattle.laws.proofs.Splice.{getD-part, length-part, below?}
+use Rattle.laws.proofs.Splice.{getD-part, below?}
 use Rattle.rules.specs.Bits.{bit, bits, bytesAt}
 use Rattle.rules.proofs.Bounds.{bits-lt}
 use Rattle.rules.proofs.Parts.{length-bytesAt}
-
--- a bit is 0 or 1
-pub bit-lt : (s : List ℕ) (i : ℕ) → bit s i < 2
-unfolding bit
-bit-lt s i = mod-lt _ (omega arith)
 
 -- a field split in two
 pub bits-split : (s : List ℕ) (at n m : ℕ) → bits s at (n + m) ≡ bits s at n * 2 ^ m + bits s (at + n) m
@@ -118,15 +113,6 @@ unfolding bytesAt
 bytesAt-part s a n at zero h = refl
 bytesAt-part s a n at (suc m) h =
     rw (bytesAt-part s a n at m (omega arith), bits-part s a n (at + 8 * m) 8 (omega arith), add-assoc)
-
--- whole bytes are a part of the string
-pub bytesAt-whole : (s : List ℕ) (k n : ℕ) → k + n ≤ length s → ((i : ℕ) → getD s i 0 < 256) → bytesAt s (8 * k) n ≡ part s k n
-bytesAt-whole s k n h b =
-    ext-getD 0 _ _ (length-bytesAt s (8 * k) n ∙ sym (length-part s k n h))
-    (λ i p.
-    let q : i < n = omega (arith, length-bytesAt s (8 * k) n) in
-    let e : 8 * k + 8 * i ≡ 8 * (k + i) = omega arith in
-    getD-bytesAt s (8 * k) n i q ∙ rw e (bits-byte s (k + i) (b (k + i)) ∙ sym (getD-part s k n i q)))
 
 -- ---- what a loop stores
 

@@ -12,7 +12,7 @@ use Rattle.laws.specs.Lists.{splice, same}
 use Rattle.laws.specs.Refusal.{firstOf}
 use Rattle.rules.specs.Calls.{Subframe, SubframeTold, MackDone, subframeChecks, noted, hkrootHalf, mackHalf, halvesDone, subframeCall}
 use Rattle.rules.specs.Gather.{hkrootOf, mackOf, headerOf}
-use Rattle.rules.specs.State.{State, shaped, stopped, lastSubframe, lastSubframeOf, prnValid, withClocks}
+use Rattle.rules.specs.State.{State, shaped, stopped, lastSubframe, lastSubframeOf, prnValid, withClocks, areaLength}
 use Rattle.rules.specs.Times.{stampOf, timeValid}
 use Rattle.hkroot_half.specs.Done.{done}
 use Rattle.hkroot_half.specs.declared.Half.{Half}
@@ -64,11 +64,11 @@ module _ (s : State) (area : List ℕ) (x : Subframe) where
 -- ---- the checks by their cases
 
 -- a wrong length
-pub unshaped : (s : State) (area : List ℕ) (x : Subframe) → (shaped s && (eqb (length area) 3240 && eqb (length (x .bytes)) 75)) ≡ false → subframeTold 1 1 0 s area ≡ subframeCall s area x
+pub unshaped : (s : State) (area : List ℕ) (x : Subframe) → (shaped s && (eqb (length area) areaLength && eqb (length (x .bytes)) 75)) ≡ false → subframeTold 1 1 0 s area ≡ subframeCall s area x
 unfolding subframeChecks
 unshaped s area x e = refused s area x 1 (λ z. absurd (omega (arith, z))) (λ z. absurd (omega (arith, z))) (rw e)
 
-module _ (s : State) (area : List ℕ) (x : Subframe) (e : (shaped s && (eqb (length area) 3240 && eqb (length (x .bytes)) 75)) ≡ true) where
+module _ (s : State) (area : List ℕ) (x : Subframe) (e : (shaped s && (eqb (length area) areaLength && eqb (length (x .bytes)) 75)) ≡ true) where
   pub no-prn : prnValid (x .prn) ≡ false → 2 ≡ firstOf (subframeChecks s area x)
   unfolding subframeChecks
   no-prn p = rw (e, p)

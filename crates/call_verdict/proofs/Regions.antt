@@ -11,9 +11,10 @@ use Rattle.laws.proofs.Splice.{splice-whole, splice-append, length-part, splice
 use Rattle.rules.specs.Bits.{filled}
 use Rattle.rules.specs.Kroot.{noOffer, krootOf, keyWidth, ksOf}
 use Rattle.rules.proofs.Bounds.{key-width-bound}
+use Rattle.rules.specs.State.{offerLength}
 
 -- no message waits
-pub wiped : (offer : List ℕ) → length offer ≡ 179 → splice offer 0 (replicate 179 0) ≡ noOffer
+pub wiped : (offer : List ℕ) → length offer ≡ offerLength → splice offer 0 (replicate 179 0) ≡ noOffer
 unfolding noOffer
 wiped offer h = splice-whole offer (replicate 179 0) (length-replicate {A = ℕ} 179 0 ∙ sym h)
 

@@ -1,2 +1,2 @@
--- What the contracts of `due_keys` and of its callers cite.
+-- What the contracts of `due_tag_keys` and of its callers cite.
 pub mod Outcomes

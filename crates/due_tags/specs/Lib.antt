@@ -1,2 +1,2 @@
--- What the contracts of `due` and of its callers cite.
+-- What the contracts of `due_tags` and of its callers cite.
 pub mod Swept

@@ -12,6 +12,7 @@ use Rattle.laws.proofs.Splice.{splice-two, splice-append, splice-whole, length-
 use Rattle.rules.specs.Bits.{filled}
 use Rattle.rules.specs.PublicKeys.{keyHeld, keyType}
 use Rattle.rules.specs.Kroot as S
+use Rattle.rules.specs.State.{offerLength}
 
 module _ (pubkeys config offer : List ℕ) (header : ℕ) (d : List ℕ) where
   abbrev judged : S.Offer
@@ -37,7 +38,7 @@ module _ (pubkeys config offer : List ℕ) (header : ℕ) (d : List ℕ) where
     taken o n e = rw (held, good, eq-eqb (length d) (13 * S.krootBlocks (S.keyWidth (S.ksOf (S.contentsOf d))) (keyType pubkeys (S.pkidOf d))) n) (refl, e)
 
 -- what waits, written part by part
-module _ (offer : List ℕ) (id header w n : ℕ) (p s : List ℕ) (lo : length offer ≡ 179) (lp : length p ≡ 12 + w) (ls : length s ≡ n) (hw : w ≤ 32) (hn : n ≤ 132) where
+module _ (offer : List ℕ) (id header w n : ℕ) (p s : List ℕ) (lo : length offer ≡ offerLength) (lp : length p ≡ 12 + w) (ls : length s ≡ n) (hw : w ≤ 32) (hn : n ≤ 132) where
   abbrev head : List ℕ
   head = 1 ∷ id ∷ header ∷ []
 
@@ -56,7 +57,7 @@ module _ (offer : List ℕ) (id header w n : ℕ) (p s : List ℕ) (lo : length 
   length-m : length m ≡ 47
   length-m = simp (length-append, length-replicate) (omega arith)
 
-  length-whole : length whole ≡ 179
+  length-whole : length whole ≡ offerLength
   length-whole = simp (length-append, length-replicate) (omega arith)
 
   whole-is : whole ≡ S.offered id (filled 45 (header ∷ p)) (filled 132 s)

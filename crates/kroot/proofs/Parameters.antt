@@ -38,10 +38,6 @@ pub week-bound : (c : List ℕ) → S.rootWeekOf c < 4096
 unfolding S.rootWeekOf
 week-bound c = bits-lt c 28 12
 
-pub nmack-bound : (c : List ℕ) → S.nmackOf c < 4
-unfolding S.nmackOf
-nmack-bound c = bits-lt c 2 2
-
 -- six bytes of a list, one by one
 pub six : (c : List ℕ) (a : ℕ) → a + 6 ≤ length c
     → getD c a 0 ∷ getD c (a + 1) 0 ∷ getD c (a + 2) 0 ∷ getD c (a + 3) 0 ∷ getD c (a + 4) 0 ∷ getD c (a + 5) 0 ∷ [] ≡ part c a 6

@@ -1,2 +1,2 @@
--- What the contracts of `section` cite.
+-- What the contracts of `mack_keys` cite.
 pub mod Keys

@@ -18,7 +18,6 @@ use Rattle.kroot.proofs.Parameters.{low-bits, least-fits}
 use Rattle.rules.specs.PublicKeys as K
 use Rattle.rules.specs.Kroot.{leastBlocks}
 use Rattle.rules.specs.Pkr as S
-use Rattle.rules.proofs.Bounds.{bits-lt}
 
 -- ---- the new key's type and ID
 
@@ -29,10 +28,6 @@ type-is d = sym (bits-in-byte d 129 0 4 (omega arith))
 pub id-is : (d : List ℕ) → getD d 129 0 % 16 ≡ S.newIdOf d
 unfolding S.newIdOf
 id-is d = sym (low-bits d 129 4 4 refl)
-
-pub type-bound : (d : List ℕ) → S.newTypeOf d < 16
-unfolding S.newTypeOf
-type-bound d = bits-lt d 1032 4
 
 -- ---- sizes
 
