@@ -5,7 +5,7 @@ use mathlib.Core.Path.{_≡_, refl, sym, _∙_, ap}
 use mathlib.Core.List.{List, [], _∷_}
 use Rattle.rules.specs.Calls.{Start, Told, SubframeTold, SetRead, OfferRead, startCall}
 use Rattle.rules.specs.Claim.{FairHistory}
-use Rattle.rules.specs.Log.{Call, start, Reply, plain, nothing, Stepped, History, Ran, advanced, step, ran, ranFrom}
+use Rattle.rules.specs.Log.{Call, start, Reply, plain, nothing, Stepped, History, advanced, step, ran, ranFrom}
 use Rattle.rules.specs.State.{State}
 use Rattle.rules.proofs.Sound.{claim}
 use Rattle.assurance.specs.Run.{StartDid, WordDid, SubframeDid, VerdictDid, ReadSetDid, ReadOfferDid, Did, started, worded, subframed, judged, set-read, offer-read, Done, Run, historyOf, ExportedClaim, readSetBefore, readOfferBefore}

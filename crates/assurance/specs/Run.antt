@@ -9,11 +9,10 @@ use borrow.Fn.Kinds.{Dens, endedOf}
 use denote.Triple.Clauses.{AtExit}
 use denote.Ref.{now}
 use Rattle.laws.specs.Lists.{part}
-use Rattle.rules.specs.Calls.{Start, Word, Subframe}
+use Rattle.rules.specs.Calls.{Start}
 use Rattle.rules.specs.Claim.{FairHistory, Refused}
-use Rattle.rules.specs.Log.{Call, start, word, subframe, verdict, readSet, readOffer, Reply, plain, nothing, Stepped, History, advanced, step}
+use Rattle.rules.specs.Log.{Call, start, word, subframe, verdict, readSet, readOffer, Reply, plain, nothing, History, advanced, step}
 use Rattle.rules.specs.State.{State, state}
-use Rattle.rules.specs.Verdict.{Verdict}
 use Rattle.osnma.proofs.osnma_regions_start.Reads as start-reads
 use Rattle.osnma.proofs.osnma_regions_start.Kinds as start-kinds
 use Rattle.osnma.proofs.osnma_regions_word.Reads as word-reads

@@ -1,2 +1,2 @@
--- What the contracts of `authentic` cite.
+-- What the contracts of `authentic_sets` cite.
 pub mod Regions

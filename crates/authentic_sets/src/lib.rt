@@ -6,11 +6,12 @@ ghost use Prim.Native.Nat.{ℕ, _+_, _≤_, _<_};
 ghost use lib.ListN.{length};
 ghost use Rattle.rules.specs.Tags.{setsEntered, arrivalsEntered};
 ghost use Rattle.rules.specs.Calls.{authStamp, authSet};
+ghost use Rattle.rules.specs.State.{satellites, setsLength};
 ghost use Rattle.authentic_sets.specs.Regions.{auth};
 
 // "Outcome 1 replaces the satellite's authentic set unless that set's tag came later."
 pub fn enter_set(sets: &mut [u8], arrivals: &mut [u32], t: Tag, set: &[u8])
-    requires { ⌜ ((length (now sets) ≡ 2484) × (length (now arrivals) ≡ 36)) × (length (now set) ≡ 69) ⌝ }
+    requires { ⌜ ((length (now sets) ≡ setsLength) × (length (now arrivals) ≡ satellites)) × (length (now set) ≡ 69) ⌝ }
     requires { ⌜ ((1 ≤ t .prn) × (t .prn ≤ 36)) × (t .time < 4294967295) ⌝ }
     ensures { λ _. ⌜ (now (sets .exit) ≡ setsEntered (now (sets .entry)) (now (arrivals .entry)) t (now (set .entry))) × (now (arrivals .exit) ≡ arrivalsEntered (now (arrivals .entry)) t) ⌝ }
 {
@@ -26,7 +27,7 @@ pub fn enter_set(sets: &mut [u8], arrivals: &mut [u32], t: Tag, set: &[u8])
 
 // The stamp of a satellite's authentic set.
 pub fn stamp_of(arrivals: &[u32], prn: usize) -> u32
-    requires { ⌜ (length (now arrivals) ≡ 36) × ((1 ≤ prn) × (prn ≤ 36)) ⌝ }
+    requires { ⌜ (length (now arrivals) ≡ satellites) × ((1 ≤ prn) × (prn ≤ 36)) ⌝ }
     ensures { λ r. ⌜ ((sets : List ℕ) → r ≡ authStamp (auth sets (now (arrivals .entry))) prn) ⌝ }
 {
     arrivals[prn - 1]
@@ -34,7 +35,7 @@ pub fn stamp_of(arrivals: &[u32], prn: usize) -> u32
 
 // A satellite's authentic set, copied to `out`.
 pub fn copy_set(sets: &[u8], prn: usize, out: &mut [u8])
-    requires { ⌜ ((length (now sets) ≡ 2484) × (length (now out) ≡ 69)) × ((1 ≤ prn) × (prn ≤ 36)) ⌝ }
+    requires { ⌜ ((length (now sets) ≡ setsLength) × (length (now out) ≡ 69)) × ((1 ≤ prn) × (prn ≤ 36)) ⌝ }
     ensures { λ _. ⌜ ((arrivals : List ℕ) → now (out .exit) ≡ authSet (auth (now (sets .entry)) arrivals) prn) ⌝ }
 {
     buffer::copy_part(out, 0, sets, (prn - 1) * 69, 69);

@@ -6,25 +6,16 @@ use mathlib.Core.List.{List, [], _∷_, _++_, append-assoc}
 use Prim.Native.Nat.{ℕ, zero, suc, _+_, _-_, _*_, _/_, _%_, _^_, _≤_, _<_}
 use native.Mathlib.Omega.{arith}
 use native.Mathlib.Numerals.{add-one}
-use native.Mathlib.Nat.{add-zero, add-suc, add-assoc, pow-suc, mod-one, mod-lt, lt-of-lt-of-le}
+use native.Mathlib.Nat.{add-zero, add-suc, add-assoc, pow-suc, mod-one, lt-of-lt-of-le}
 use lib.ListN.{length, getD, take, drop, set, length-append, length-drop, List·getD-append}
-use lib.Seq.{getD-at, set-at, set-split, drop-cons, drop-drop, ext-getD, length-take-le}
+use lib.Seq.{getD-at, set-at, drop-cons, length-take-le}
 use mathlib.Core.Logic.{⊎-elim}
 use lib.Pow.{pow-mono, high, low, shr-shr, mod-pow-add}
 use Rattle.laws.specs.Lists.{part, splice}
-use Rattle.laws.proofs.Splice.{getD-part, length-part, splice-append, below?}
+use Rattle.laws.proofs.Splice.{getD-part, below?}
 use Rattle.rules.specs.Bits.{bit, bits, bytesAt}
-
--- a bit is 0 or 1
-pub bit-lt : (s : List ℕ) (i : ℕ) → bit s i < 2
-unfolding bit
-bit-lt s i = mod-lt _ (omega arith)
-
--- a field of n bits is below 2 ^ n
-pub bits-lt : (s : List ℕ) (at n : ℕ) → bits s at n < 2 ^ n
-unfolding bits
-bits-lt s at zero = omega arith
-bits-lt s at (suc n) = omega (arith, bits-lt s at n, bit-lt s (at + n), pow-suc 2 n)
+use Rattle.rules.proofs.Bounds.{bits-lt}
+use Rattle.rules.proofs.Parts.{length-bytesAt}
 
 -- a field split in two
 pub bits-split : (s : List ℕ) (at n m : ℕ) → bits s at (n + m) ≡ bits s at n * 2 ^ m + bits s (at + n) m
@@ -101,11 +92,6 @@ bits-part s a n at m h = bits-same (part s a n) s at (8 * a + at) m (λ i k. bit
 
 -- ---- bytes at any bit
 
-pub length-bytesAt : (s : List ℕ) (at n : ℕ) → length (bytesAt s at n) ≡ n
-unfolding bytesAt
-length-bytesAt s at zero = refl
-length-bytesAt s at (suc n) = rw (length-append, length-bytesAt s at n) (omega arith)
-
 pub getD-bytesAt : (s : List ℕ) (at n i : ℕ) → i < n → getD (bytesAt s at n) i 0 ≡ bits s (at + 8 * i) 8
 unfolding bytesAt
 getD-bytesAt s at zero i h = absurd (omega arith)
@@ -128,15 +114,6 @@ bytesAt-part s a n at zero h = refl
 bytesAt-part s a n at (suc m) h =
     rw (bytesAt-part s a n at m (omega arith), bits-part s a n (at + 8 * m) 8 (omega arith), add-assoc)
 
--- whole bytes are a part of the string
-pub bytesAt-whole : (s : List ℕ) (k n : ℕ) → k + n ≤ length s → ((i : ℕ) → getD s i 0 < 256) → bytesAt s (8 * k) n ≡ part s k n
-bytesAt-whole s k n h b =
-    ext-getD 0 _ _ (length-bytesAt s (8 * k) n ∙ sym (length-part s k n h))
-    (λ i p.
-    let q : i < n = omega (arith, length-bytesAt s (8 * k) n) in
-    let e : 8 * k + 8 * i ≡ 8 * (k + i) = omega arith in
-    getD-bytesAt s (8 * k) n i q ∙ rw e (bits-byte s (k + i) (b (k + i)) ∙ sym (getD-part s k n i q)))
-
 -- ---- what a loop stores
 
 -- one element more after what was spliced in
@@ -149,13 +126,3 @@ splice-push d a l v h =
     rw (c, ← append-assoc (take a d) l (getD (drop a d) (length l) 0 ∷ drop (suc (length l)) (drop a d)))
     (set-at (take a d ++ l) (getD (drop a d) (length l) 0) (drop (suc (length l)) (drop a d)) v (a + length l) n
     ∙ simp (append-assoc, length-append, add-one))
-
--- one element replaced
-pub splice-one : (d : List ℕ) (a v : ℕ) → a < length d → set d a v ≡ splice d a (v ∷ [])
-unfolding splice
-splice-one d a v h = rw (drop-drop 1 a d, add-one) (set-split d a v h)
-
--- a second part right after the first
-pub splice-next : (d : List ℕ) (a : ℕ) (l m : List ℕ) (n k : ℕ) → length l ≡ n → length m ≡ k → a + (n + k) ≤ length d
-    → splice (splice d a l) (a + n) m ≡ splice d a (l ++ m)
-splice-next d a l m n k e f h = rw (← e) (splice-append d a l m (omega arith))

@@ -11,6 +11,7 @@ use lib.Seq.{getD-at, drop-drop, drop-at}
 use Rattle.laws.specs.Lists.{part}
 use Rattle.laws.proofs.Splice.{below?}
 use Rattle.rules.specs.Bits.{bit, bits, bitList, bytesAt, octet, packed}
+use Rattle.rules.proofs.Parts.{length-packed}
 use Rattle.bitfields.proofs.Fields.{bit-part}
 
 pub length-bitList : (s : List ℕ) (at n : ℕ) → length (bitList s at n) ≡ n
@@ -42,11 +43,6 @@ bitList-part s a n at zero h = refl
 bitList-part s a n at (suc m) h = rw (bitList-part s a n at m (omega arith), bit-part s a n (at + m) (omega arith), add-assoc)
 
 -- ---- packed bits
-
-pub length-packed : (l : List ℕ) (n : ℕ) → length (packed l n) ≡ n
-unfolding packed
-length-packed l zero = refl
-length-packed l (suc n) = rw (length-append, length-packed l n) (omega arith)
 
 pub getD-packed : (l : List ℕ) (n i : ℕ) → i < n → getD (packed l n) i 0 ≡ octet (drop (8 * i) l)
 unfolding packed

@@ -1,13 +1,13 @@
 // Bit fields of byte strings (01: "high byte first; bit 0 is the most significant").
 // A field is read by whole bytes and then shifted and masked.
 // Public calls:
-//   bits_at, field_at, number, byte_at   a field as a number
-//   bytes_to, bytes_at                   bytes from any bit on
-//   block_bits                           bits of a MACK block
-//   wide, low, index                     a number in a wider type
+//   bits_at, field_at     a field as a number
+//   bytes_to, bytes_at    bytes from any bit on
+//   block_bits            bits of a MACK block
+//   wide, low, index      a number in a wider type
 ghost use mathlib.Core.Path.{_≡_};
 ghost use Prim.Native.Nat.{_+_, _*_, _≤_, _<_, _^_};
-ghost use lib.ListN.{length, getD};
+ghost use lib.ListN.{length};
 ghost use Rattle.laws.specs.Lists.{splice};
 ghost use Rattle.rules.specs.Bits.{bits, bytesAt};
 ghost use Rattle.rules.specs.Kroot.{blockBits};
@@ -33,7 +33,7 @@ pub fn field_at(s: &[u8], at: usize, n: usize) -> u8
 }
 
 // The number in the n bytes from place `first` on, at most 8.
-pub fn number(s: &[u8], first: usize, n: usize) -> u64
+fn number(s: &[u8], first: usize, n: usize) -> u64
     requires { ⌜ (first + n ≤ length (now s)) × (n ≤ 8) ⌝ }
     ensures { λ r. ⌜ r ≡ bits (now (s .entry)) (8 * first) (8 * n) ⌝ }
 {
@@ -47,7 +47,7 @@ pub fn number(s: &[u8], first: usize, n: usize) -> u64
 }
 
 // The byte from bit r of place k on.
-pub fn byte_at(s: &[u8], k: usize, r: usize) -> u8
+fn byte_at(s: &[u8], k: usize, r: usize) -> u8
     requires { ⌜ (8 * k + r + 8 ≤ 8 * length (now s)) × (r < 8) ⌝ }
     ensures { λ b. ⌜ b ≡ bits (now (s .entry)) (8 * k + r) 8 ⌝ }
 {

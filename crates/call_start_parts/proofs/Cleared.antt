@@ -9,8 +9,7 @@ use lib.ListN.{length, getD, take, replicate, set, length-append, length-replica
 use Rattle.authentic_sets.specs.Regions.{auth}
 use Rattle.gather.specs.Store.{store}
 use Rattle.laws.specs.Lists.{splice}
-use Rattle.laws.proofs.Splice.{length-splice, splice-more, splice-two, splice-append, splice-whole}
-use Rattle.public_keys.proofs.Keys.{splice-one}
+use Rattle.laws.proofs.Splice.{length-splice, splice-more, splice-two, splice-append, splice-whole, splice-one, two-set}
 use Rattle.navdata.specs.Pieces.{nav}
 use Rattle.regions.specs.Tesla.{tesla}
 use Rattle.rules.specs.Calls.{markValid, marksValid}
@@ -38,10 +37,6 @@ marks-more m i a b r p q e = rw (add-one i) (e ∙ rw (p, q))
 
 -- ---- settings
 
--- the first two elements of a list
-first-two : (d : List ℕ) (x y : ℕ) → 2 ≤ length d → set (set d 0 x) 1 y ≡ splice d 0 (x ∷ y ∷ [])
-first-two d x y h = splice-two d 0 x y h
-
 -- NS and MACLT, then the marks, then the root, then 0
 pub config-set : (d e f : List ℕ) (ns maclt : ℕ) (marks root : List ℕ) → length d ≡ configLength → length marks ≡ 28 → length root ≡ 32
     → e ≡ splice (set (set d 0 ns) 1 maclt) 2 marks
@@ -52,7 +47,7 @@ config-set d e f ns maclt marks root ld lm lr p q =
     let b : List ℕ = a ++ marks in
     let lb : length b ≡ 30 = length-append a marks ∙ omega arith in
     let lc : length (b ++ root) ≡ 62 = length-append b root ∙ omega arith in
-    let eb : e ≡ splice d 0 b = p ∙ ap (λ (l : List ℕ). splice l 2 marks) (first-two d ns maclt (omega arith)) ∙ splice-append d 0 a marks (omega arith) in
+    let eb : e ≡ splice d 0 b = p ∙ ap (λ (l : List ℕ). splice l 2 marks) (splice-two d 0 ns maclt (omega arith)) ∙ splice-append d 0 a marks (omega arith) in
     let zb : 0 + length b ≡ 30 = omega arith in
     let zc : 0 + length (b ++ root) ≡ 62 = omega arith in
     let ec : f ≡ splice d 0 (b ++ root) =
@@ -73,7 +68,7 @@ words-clear d e f g ld lf p q = rw (cleared d e wordsLength ld p, cleared f g st
 pub tags-clear : (n d e f g : List ℕ) → length n ≡ numbersLength → length d ≡ heldkeyLength → length f ≡ waitingLength → e ≡ splice d 0 (replicate heldkeyLength 0) → g ≡ splice f 0 (replicate waitingLength 0)
     → tesla (set (set n 0 0) 1 0) e g ≡ noTags
 tags-clear n d e f g ln ld lf p q =
-    rw (first-two n 0 0 (omega arith), splice-whole n (0 ∷ 0 ∷ []) (sym ln), cleared d e heldkeyLength ld p, cleared f g waitingLength lf q)
+    rw (two-set n 0 0 ln, cleared d e heldkeyLength ld p, cleared f g waitingLength lf q)
 
 pub blocks-clear : (b h m t : List ℕ) → b ≡ replicate blocksLength 0 → h ≡ replicate dsmIds 0 → m ≡ replicate dsmIds 0 → t ≡ replicate dsmIds 0 → store b h m t ≡ noBlocks
 blocks-clear b h m t eb eh em et = rw (eb, eh, em, et)

@@ -1,19 +1,18 @@
 -- The sub-frame call by its cases: refused in both halves, 75 zero bytes, an emergency message, or both halves done.
 -- Assumes nothing.
-use mathlib.Core.Path.{_≡_, refl, sym, ap, _∙_}
-use mathlib.Core.Bool.{Bool, true, false, cond, not, _&&_, _||_}
-use mathlib.Core.List.{List, []}
-use Prim.Native.Nat.{ℕ, zero, suc, _*_, _/_, _<_, _≤_}
+use mathlib.Core.Path.{_≡_, refl}
+use mathlib.Core.Bool.{true, false, _&&_, _||_}
+use mathlib.Core.List.{List}
+use Prim.Native.Nat.{ℕ, zero, suc, _*_, _/_}
 use native.Mathlib.Omega.{arith}
 use lib.Dec.{leb, ltb, eqb}
 use lib.ListN.{length, set, replicate}
 use borrow.Author.Tests.{ne-eqb}
 use Rattle.laws.specs.Lists.{splice, same}
-use Rattle.laws.specs.Refusal.{firstOf, unless}
-use Rattle.laws.proofs.Splice.{splice-nil}
-use Rattle.rules.specs.Calls.{Subframe, SubframeTold, HkrootDone, MackDone, subframeChecks, noted, hkrootHalf, mackHalf, halvesDone, subframeCall}
+use Rattle.laws.specs.Refusal.{firstOf}
+use Rattle.rules.specs.Calls.{Subframe, SubframeTold, MackDone, subframeChecks, noted, hkrootHalf, mackHalf, halvesDone, subframeCall}
 use Rattle.rules.specs.Gather.{hkrootOf, mackOf, headerOf}
-use Rattle.rules.specs.State.{State, shaped, stopped, lastSubframe, lastSubframeOf, prnValid, withClocks}
+use Rattle.rules.specs.State.{State, shaped, stopped, lastSubframe, lastSubframeOf, prnValid, withClocks, areaLength}
 use Rattle.rules.specs.Times.{stampOf, timeValid}
 use Rattle.hkroot_half.specs.Done.{done}
 use Rattle.hkroot_half.specs.declared.Half.{Half}
@@ -65,11 +64,11 @@ module _ (s : State) (area : List ℕ) (x : Subframe) where
 -- ---- the checks by their cases
 
 -- a wrong length
-pub unshaped : (s : State) (area : List ℕ) (x : Subframe) → (shaped s && (eqb (length area) 3240 && eqb (length (x .bytes)) 75)) ≡ false → subframeTold 1 1 0 s area ≡ subframeCall s area x
+pub unshaped : (s : State) (area : List ℕ) (x : Subframe) → (shaped s && (eqb (length area) areaLength && eqb (length (x .bytes)) 75)) ≡ false → subframeTold 1 1 0 s area ≡ subframeCall s area x
 unfolding subframeChecks
 unshaped s area x e = refused s area x 1 (λ z. absurd (omega (arith, z))) (λ z. absurd (omega (arith, z))) (rw e)
 
-module _ (s : State) (area : List ℕ) (x : Subframe) (e : (shaped s && (eqb (length area) 3240 && eqb (length (x .bytes)) 75)) ≡ true) where
+module _ (s : State) (area : List ℕ) (x : Subframe) (e : (shaped s && (eqb (length area) areaLength && eqb (length (x .bytes)) 75)) ≡ true) where
   pub no-prn : prnValid (x .prn) ≡ false → 2 ≡ firstOf (subframeChecks s area x)
   unfolding subframeChecks
   no-prn p = rw (e, p)

@@ -6,12 +6,12 @@ ghost use mathlib.Core.Bool.{true, _&&_, _||_};
 ghost use mathlib.Core.List.{List};
 ghost use Prim.Native.Nat.{ℕ, _≤_, _<_};
 ghost use lib.Dec.{eqb, ltb, leb};
-ghost use lib.ListN.{length, set, replicate};
+ghost use lib.ListN.{length, replicate};
 ghost use Rattle.laws.specs.Lists.{same};
 ghost use Rattle.laws.specs.Refusal.{firstOf};
 ghost use Rattle.gather.specs.Store.{Lent};
 ghost use Rattle.rules.specs.Calls.{subframeChecks, halvesDone, subframeCall};
-ghost use Rattle.rules.specs.State.{State, state, shaped, lastSubframe, lastSubframeOf, configLength, clocksLength};
+ghost use Rattle.rules.specs.State.{State, state, shaped, lastSubframe, lastSubframeOf, configLength, clocksLength, areaLength, chainLength, heldkeyLength, numbersLength, offerLength, pubkeysLength, satellites, setsLength, stampsLength, waitingLength, wordsLength};
 ghost use Rattle.rules.specs.Times.{stampOf};
 ghost use Rattle.call_subframe.specs.Told.{subframeTold, subframe};
 
@@ -45,7 +45,7 @@ fn all_zero(bytes: &[u8]) -> bool
 // The number that refuses a sub-frame whose lengths are right: 2, 4, 3, 5, or 0.
 fn subframe_refusal(config: &[u8], clocks: &[u32], prn: u8, time: u32, bytes: &[u8]) -> u32
     requires { ⌜ (length (now config) ≡ configLength) × (length (now clocks) ≡ clocksLength) ⌝ }
-    ensures { λ r. ⌜ ((s : State) (area : List ℕ) → s .config ≡ now (config .entry) → s .clocks ≡ now (clocks .entry) → (shaped s && (eqb (length area) 3240 && eqb (length (now (bytes .entry))) 75)) ≡ true → r ≡ firstOf (subframeChecks s area (subframe prn time (now (bytes .entry))))) × ((r ≡ 0 → ((1 ≤ prn) × (prn ≤ 36)) × (time < 4294967295)) × (r ≡ 5 → ((1 ≤ prn) × (prn ≤ 36)) × (time < 4294967295))) ⌝ }
+    ensures { λ r. ⌜ ((s : State) (area : List ℕ) → s .config ≡ now (config .entry) → s .clocks ≡ now (clocks .entry) → (shaped s && (eqb (length area) areaLength && eqb (length (now (bytes .entry))) 75)) ≡ true → r ≡ firstOf (subframeChecks s area (subframe prn time (now (bytes .entry))))) × ((r ≡ 0 → ((1 ≤ prn) × (prn ≤ 36)) × (time < 4294967295)) × (r ≡ 5 → ((1 ≤ prn) × (prn ≤ 36)) × (time < 4294967295))) ⌝ }
 {
     if !regions::prn_valid(prn) {
         return 2;
@@ -63,15 +63,6 @@ fn subframe_refusal(config: &[u8], clocks: &[u32], prn: u8, time: u32, bytes: &[
         return 5;
     }
     0
-}
-
-// The time is noted: the last sub-frame of all, and of its satellite.
-fn note(clocks: &mut [u32], prn: u8, time: u32)
-    requires { ⌜ (length (now clocks) ≡ clocksLength) × ((prn ≤ 36) × (time < 4294967295)) ⌝ }
-    ensures { λ _. ⌜ now (clocks .exit) ≡ set (set (now (clocks .entry)) 0 (stampOf time)) prn (stampOf time) ⌝ }
-{
-    clocks[0] = time + 1;
-    clocks[prn as usize] = time + 1;
 }
 
 // ---- both halves
@@ -98,9 +89,9 @@ fn both_halves(
     time: u32,
     bytes: &[u8],
 ) -> Halves
-    requires { ⌜ Lent (now blocks) (now headers) (now present) (now since) × ((length (now config) ≡ 63) × ((length (now pubkeys) ≡ 1088) × (length (now offer) ≡ 179))) ⌝ }
-    requires { ⌜ ((length (now words) ≡ 2880) × (length (now stamps) ≡ 180)) × ((length (now chain) ≡ 45) × ((length (now numbers) ≡ 2) × (length (now heldkey) ≡ 32))) ⌝ }
-    requires { ⌜ ((length (now sets) ≡ 2484) × (length (now arrivals) ≡ 36)) × ((length (now waiting) ≡ 21504) × (length (now area) ≡ 3240)) ⌝ }
+    requires { ⌜ Lent (now blocks) (now headers) (now present) (now since) × ((length (now config) ≡ configLength) × ((length (now pubkeys) ≡ pubkeysLength) × (length (now offer) ≡ offerLength))) ⌝ }
+    requires { ⌜ ((length (now words) ≡ wordsLength) × (length (now stamps) ≡ stampsLength)) × ((length (now chain) ≡ chainLength) × ((length (now numbers) ≡ numbersLength) × (length (now heldkey) ≡ heldkeyLength))) ⌝ }
+    requires { ⌜ ((length (now sets) ≡ setsLength) × (length (now arrivals) ≡ satellites)) × ((length (now waiting) ≡ waitingLength) × (length (now area) ≡ areaLength)) ⌝ }
     requires { ⌜ length (now bytes) ≡ 75 ⌝ }
     ensures { λ r. ⌜ ((clocks : List ℕ) → subframeTold (r .hkroot) (r .mack) (r .count) (state (now (config .exit)) clocks (now (words .entry)) (now (stamps .entry)) (now (blocks .exit)) (now (headers .exit)) (now (present .exit)) (now (since .exit)) (now (pubkeys .exit)) (now (offer .exit)) (now (chain .entry)) (now (numbers .exit)) (now (heldkey .exit)) (now (waiting .exit)) (now (sets .exit)) (now (arrivals .exit))) (now (area .exit)) ≡ halvesDone (state (now (config .entry)) clocks (now (words .entry)) (now (stamps .entry)) (now (blocks .entry)) (now (headers .entry)) (now (present .entry)) (now (since .entry)) (now (pubkeys .entry)) (now (offer .entry)) (now (chain .entry)) (now (numbers .entry)) (now (heldkey .entry)) (now (waiting .entry)) (now (sets .entry)) (now (arrivals .entry))) (now (area .entry)) (subframe prn time (now (bytes .entry)))) ⌝ }
 {
@@ -170,12 +161,12 @@ pub fn take_subframe(
     time: u32,
     bytes: &[u8],
 ) -> Halves
-    requires { ⌜ (shaped (state (now config) (now clocks) (now words) (now stamps) (now blocks) (now headers) (now present) (now since) (now pubkeys) (now offer) (now chain) (now numbers) (now heldkey) (now waiting) (now sets) (now arrivals)) ≡ true) × ((length (now area) ≡ 3240) × (length (now bytes) ≡ 75)) ⌝ }
+    requires { ⌜ (shaped (state (now config) (now clocks) (now words) (now stamps) (now blocks) (now headers) (now present) (now since) (now pubkeys) (now offer) (now chain) (now numbers) (now heldkey) (now waiting) (now sets) (now arrivals)) ≡ true) × ((length (now area) ≡ areaLength) × (length (now bytes) ≡ 75)) ⌝ }
     ensures { λ r. ⌜ subframeTold (r .hkroot) (r .mack) (r .count) (state (now (config .exit)) (now (clocks .exit)) (now (words .entry)) (now (stamps .entry)) (now (blocks .exit)) (now (headers .exit)) (now (present .exit)) (now (since .exit)) (now (pubkeys .exit)) (now (offer .exit)) (now (chain .entry)) (now (numbers .exit)) (now (heldkey .exit)) (now (waiting .exit)) (now (sets .exit)) (now (arrivals .exit))) (now (area .exit)) ≡ subframeCall (state (now (config .entry)) (now (clocks .entry)) (now (words .entry)) (now (stamps .entry)) (now (blocks .entry)) (now (headers .entry)) (now (present .entry)) (now (since .entry)) (now (pubkeys .entry)) (now (offer .entry)) (now (chain .entry)) (now (numbers .entry)) (now (heldkey .entry)) (now (waiting .entry)) (now (sets .entry)) (now (arrivals .entry))) (now (area .entry)) (subframe prn time (now (bytes .entry))) ⌝ }
 {
     let code = subframe_refusal(config, clocks, prn, time, bytes);
     if code == 5 {
-        note(clocks, prn, time);
+        regions::note_subframe(clocks, prn, time);
         return Halves {
             hkroot: 5,
             mack: 5,
@@ -189,7 +180,7 @@ pub fn take_subframe(
             count: 0,
         };
     }
-    note(clocks, prn, time);
+    regions::note_subframe(clocks, prn, time);
     both_halves(
         config,
         words,

@@ -1,20 +1,20 @@
 -- Regions that a verdict writes whole: the message that waits, the chain, the numbers, the held key.
 -- Assumes nothing.
 use mathlib.Core.Path.{_≡_, sym, ap, _∙_}
-use mathlib.Core.List.{List, [], _∷_, _++_}
+use mathlib.Core.List.{List, _∷_, _++_}
 use Prim.Native.Nat.{ℕ, _-_, _≤_}
 use native.Mathlib.Nat.{zero-add}
 use native.Mathlib.Omega.{arith}
 use lib.ListN.{length, set, replicate, length-append, length-replicate}
 use Rattle.laws.specs.Lists.{part, splice}
-use Rattle.laws.proofs.Splice.{splice-two, splice-whole, splice-append, length-part}
-use Rattle.public_keys.proofs.Keys.{splice-cons}
-use Rattle.kroot.proofs.Parameters.{width-bound}
+use Rattle.laws.proofs.Splice.{splice-whole, splice-append, length-part, splice-cons}
 use Rattle.rules.specs.Bits.{filled}
 use Rattle.rules.specs.Kroot.{noOffer, krootOf, keyWidth, ksOf}
+use Rattle.rules.proofs.Bounds.{key-width-bound}
+use Rattle.rules.specs.State.{offerLength}
 
 -- no message waits
-pub wiped : (offer : List ℕ) → length offer ≡ 179 → splice offer 0 (replicate 179 0) ≡ noOffer
+pub wiped : (offer : List ℕ) → length offer ≡ offerLength → splice offer 0 (replicate 179 0) ≡ noOffer
 unfolding noOffer
 wiped offer h = splice-whole offer (replicate 179 0) (length-replicate {A = ℕ} 179 0 ∙ sym h)
 
@@ -22,15 +22,12 @@ wiped offer h = splice-whole offer (replicate 179 0) (length-replicate {A = ℕ}
 pub put : (chain c : List ℕ) → length chain ≡ 45 → length c ≡ 44 → splice (set chain 0 1) 1 c ≡ 1 ∷ c
 put chain c h k = splice-cons chain 0 1 c (omega arith) ∙ splice-whole chain (1 ∷ c) (omega arith)
 
-pub two-numbers : (numbers : List ℕ) (n : ℕ) → length numbers ≡ 2 → set (set numbers 0 0) 1 n ≡ 0 ∷ n ∷ []
-two-numbers numbers n h = splice-two numbers 0 0 n (omega arith) ∙ splice-whole numbers (0 ∷ n ∷ []) (omega arith)
-
 -- the root key in 32 bytes, written in two steps
 pub root-written : (heldkey c : List ℕ) (w : ℕ) → length heldkey ≡ 32 → length c ≡ 44 → w ≡ keyWidth (ksOf c)
     → splice (splice heldkey 0 (part c 12 w)) w (replicate (32 - w) 0) ≡ filled 32 (krootOf c)
 unfolding krootOf filled
 root-written heldkey c w h k e =
-    let b : w ≤ 32 = omega (arith, width-bound (ksOf c)) in
+    let b : w ≤ 32 = omega (arith, key-width-bound (ksOf c)) in
     let p : List ℕ = part c 12 w in
     let z : List ℕ = replicate (32 - w) 0 in
     let lp : length p ≡ w = length-part c 12 w (omega arith) in

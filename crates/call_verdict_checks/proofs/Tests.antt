@@ -16,6 +16,7 @@ use Rattle.rules.specs.Gather.{statusOf, cidOf}
 use Rattle.rules.specs.Kroot.{cidkrOf, rootSecondsOf, chainContents, inForce, everForced}
 use Rattle.rules.specs.State.{State}
 use Rattle.rules.specs.Verdict as S
+use Rattle.rules.proofs.Bounds.{status-bound}
 
 -- status 1 or 2, where it is neither 0 nor 3
 within-low : (n : ℕ) → n ≡ 0 → within 1 2 n ≡ false
@@ -26,10 +27,6 @@ within-high n e = rw e
 
 within-two : (n : ℕ) → n < 4 → (n ≡ 0 → ⊥) → (n ≡ 3 → ⊥) → within 1 2 n ≡ true
 within-two n h a b = rw (le-leb 1 n (omega arith), le-leb n 2 (omega arith))
-
-status-bound : (h : ℕ) → h < 256 → statusOf h < 4
-unfolding statusOf
-status-bound h k = omega arith
 
 -- ---- row 11
 
@@ -45,7 +42,7 @@ module _ (s : State) (h : ℕ) (c : List ℕ) where
   pub status-put : (k : ℕ) → h < 256 → (statusOf h ≡ 0 → ⊥) → (statusOf h ≡ 3 → ⊥) → k ≡ cidOf h → neb (cidkrOf c) k ≡ S.statusUnfit s h c
   unfolding S.statusUnfit
   status-put k l a b f =
-      rw (f, ne-eqb (statusOf h) 0 a, ne-eqb (statusOf h) 3 b, within-two (statusOf h) (status-bound h l) a b)
+      rw (f, ne-eqb (statusOf h) 0 a, ne-eqb (statusOf h) 3 b, within-two (statusOf h) (status-bound h) a b)
       (sym (or-false (neb (cidkrOf c) (cidOf h))))
 
   -- ---- row 9: "verdict that would put a root in force"
@@ -57,7 +54,7 @@ module _ (s : State) (h : ℕ) (c : List ℕ) where
   root-drop e = rw (within-high (statusOf h) e)
 
   pub root-put : (b : Bool) → h < 256 → (statusOf h ≡ 0 → ⊥) → (statusOf h ≡ 3 → ⊥) → b ≡ S.rootUnfit s c → b ≡ within 1 2 (statusOf h) && S.rootUnfit s c
-  root-put b l a e f = f ∙ sym (rw (within-two (statusOf h) (status-bound h l) a e))
+  root-put b l a e f = f ∙ sym (rw (within-two (statusOf h) (status-bound h) a e))
 
 -- ---- the contents and the CID in force, and the root
 

@@ -2,8 +2,8 @@
 // in rules/specs/Verdict.antt gives, for every state with the lent regions. `c` are the contents of a message (its bytes after the
 // NMA header).
 // Public calls:
-//   same_contents, cid_in_force   the contents and the CID in force
-//   vouch_refusal                 the number of a verdict past 1, 2 and 4: 14, 15, 11, 9 or 0
+//   same_contents   whether the contents are those in force
+//   vouch_refusal   the number of a verdict past 1, 2 and 4: 14, 15, 11, 9 or 0
 ghost use mathlib.Core.Path.{_≡_};
 ghost use mathlib.Core.Bool.{_&&_};
 ghost use Prim.Native.Nat.{_≤_};
@@ -26,7 +26,7 @@ pub fn same_contents(config: &[u8], chain: &[u8], c: &[u8]) -> bool
 }
 
 // Whether the chain in force has this CID.
-pub fn cid_in_force(config: &[u8], chain: &[u8], cid: u8) -> bool
+fn cid_in_force(config: &[u8], chain: &[u8], cid: u8) -> bool
     requires { ⌜ (length (now config) ≡ configLength) × (length (now chain) ≡ chainLength) ⌝ }
     ensures { λ r. ⌜ ((s : State) → s .config ≡ now (config .entry) → s .chain ≡ now (chain .entry) → r ≡ S.cidInForce s cid) ⌝ }
 {

@@ -11,7 +11,6 @@ use borrow.Author.Tests.{ltb-false, eqb-false}
 use Rattle.laws.specs.Refusal.{neb}
 use Rattle.laws.proofs.Table.{table-range}
 use Rattle.laws.proofs.Tests.{neither}
-use Rattle.bitfields.proofs.Fields.{bits-lt}
 use Rattle.times.proofs.Times.{seconds-bound, delay-bound, hour-bound}
 use Rattle.rules.specs.Bits.{bits}
 use Rattle.rules.specs.Times as T
@@ -19,6 +18,7 @@ use Rattle.rules.specs.Chain as S
 use Rattle.rules.specs.Kroot as K
 use Rattle.rules.specs.State.{macltOf}
 use Rattle.rules.specs.declared.Chain.{Chain}
+use Rattle.rules.proofs.Bounds.{bits-lt}
 use Rattle.chain.specs.Sound.{Walks, Sound}
 
 -- ---- slots

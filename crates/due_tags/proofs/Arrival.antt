@@ -11,8 +11,9 @@ use Rattle.laws.specs.Lists.{splice}
 use Rattle.laws.proofs.Splice.{splice-append, splice-nil}
 use Rattle.rules.specs.Tags.{Work, told, kept, recordIssue, entryAt, entryTag, entrySet}
 use Rattle.rules.specs.declared.Tag.{Tag}
-use Rattle.tag_records.proofs.Told.{length-record}
-use Rattle.waiting_tags.proofs.Entries.{untouched, length-entry}
+use Rattle.rules.proofs.Entries.{length-entry}
+use Rattle.rules.proofs.TagRecords.{length-record}
+use Rattle.waiting_tags.proofs.Entries.{untouched}
 use Rattle.tag_records.specs.Told.{start, Tells, Leaves, Counts}
 use Rattle.due_tags.specs.Swept.{sweptOne, swept}
 

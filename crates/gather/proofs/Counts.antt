@@ -1,39 +1,17 @@
--- Counts of blocks, marks and ages.
+-- Marks and ages.
 -- Assumes nothing.
-use mathlib.Core.Path.{_≡_, refl, sym, ap, _∙_}
-use mathlib.Core.Bool.{Bool, true, false, cond, _&&_}
-use mathlib.Core.List.{List}
-use mathlib.Core.Logic.{_⊎_, inl, inr, ⊎-elim}
+use mathlib.Core.Path.{_≡_, sym, ap, _∙_}
+use mathlib.Core.Bool.{true, false}
+use mathlib.Core.Logic.{_⊎_, ⊎-elim}
 use Prim.Native.Nat.{ℕ, _+_, _-_, _*_, _/_, _%_, _^_, _≤_, _<_}
 use native.Mathlib.Nat.{mul-le-mul-right, mod-lt, add-mul}
 use native.Mathlib.Omega.{arith}
 use lib.Count.{ones, ones-step}
-use lib.Dec.{leb, ltb, eqb}
+use lib.Dec.{ltb}
 use lib.Pow.{pow-add, pow-pos, shr-lt, split}
-use borrow.Author.Tests.{leb-true, eqb-true, eqb-false, lt-ltb, le-ltb}
+use borrow.Author.Tests.{eqb-true, eqb-false, lt-ltb, le-ltb}
 use Rattle.laws.proofs.Splice.{below?}
 use Rattle.rules.specs.Gather as Rule
-
--- an NB names 7 to 16 blocks, or none
-counts : (nb : ℕ) (a b : Bool) → leb 1 nb ≡ a → leb nb 10 ≡ b → (cond (a && b) (nb + 6) 0 ≡ 0) ⊎ ((7 ≤ cond (a && b) (nb + 6) 0) × (cond (a && b) (nb + 6) 0 ≤ 16))
-counts nb true true p q =
-    let h = leb-true 1 nb p in
-    let k = leb-true nb 10 q in
-    inr (omega arith, omega arith)
-counts nb true false p q = inl refl
-counts nb false b p q = inl refl
-
-pub count-cases : (nb : ℕ) → (Rule.blocksFor nb ≡ 0) ⊎ ((7 ≤ Rule.blocksFor nb) × (Rule.blocksFor nb ≤ 16))
-unfolding Rule.blocksFor
-count-cases nb = counts nb (leb 1 nb) (leb nb 10) refl refl
-
-pub total-bound : (b : List ℕ) → Rule.totalOf b ≤ 16
-unfolding Rule.totalOf
-total-bound b = ⊎-elim (λ e. omega arith) (λ h. h .1) (count-cases _)
-
-pub total-least : (b : List ℕ) → 1 ≤ Rule.totalOf b → 7 ≤ Rule.totalOf b
-unfolding Rule.totalOf
-total-least b k = ⊎-elim (λ e. absurd (omega arith)) (λ h. h .0) (count-cases _)
 
 -- a block 0 that is marked is counted
 pub marked-counts : (m : ℕ) → Rule.marked m 0 ≡ true → 1 ≤ ones m

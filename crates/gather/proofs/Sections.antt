@@ -1,26 +1,19 @@
 -- The split of a sub-frame: one field more of HKROOT, one of MACK.
 -- Assumes nothing.
-use mathlib.Core.Path.{_≡_, refl, ap, _∙_}
-use mathlib.Core.List.{List, [], _∷_, _++_, append-assoc}
+use mathlib.Core.Path.{_≡_, ap, _∙_}
+use mathlib.Core.List.{List}
 use Prim.Native.Nat.{ℕ, _+_, _*_, _≤_, _<_}
 use native.Mathlib.Numerals.{add-one}
 use native.Mathlib.Omega.{arith}
-use lib.ListN.{length, getD, take, drop, set, length-append, length-take}
-use lib.Seq.{take-suc-set, take-at}
+use lib.ListN.{length, getD, take, set}
+use lib.Seq.{take-suc-set}
 use Rattle.laws.specs.Lists.{part, splice}
-use Rattle.laws.proofs.Splice.{length-part}
+use Rattle.laws.proofs.Splice.{length-part, take-splice}
 use Rattle.rules.specs.Gather.{hkrootOf, mackOf}
 
 pub hkroot-more : (f d : List ℕ) (i : ℕ) → i < length d → take i d ≡ hkrootOf f i → take (i + 1) (set d i (getD f (5 * i) 0)) ≡ hkrootOf f (i + 1)
 unfolding hkrootOf
 hkroot-more f d i h e = rw (add-one, take-suc-set d i (getD f (5 * i) 0) h, e)
-
--- a list up to the end of a replaced part
-take-splice : (d : List ℕ) (a : ℕ) (s : List ℕ) → a + length s ≤ length d → take (a + length s) (splice d a s) ≡ take a d ++ s
-unfolding splice
-take-splice d a s h =
-    let e : a + length s ≡ length (take a d ++ s) = simp (length-append, length-take) (omega arith) in
-    rw (← (append-assoc (take a d) s (drop (length s) (drop a d))), e) (take-at (take a d ++ s) (drop (length s) (drop a d)) _ refl)
 
 pub mack-more : (f d : List ℕ) (i : ℕ) → 5 * i + 5 ≤ length f → 4 * i + 4 ≤ length d → take (4 * i) d ≡ mackOf f i
     → take (4 * (i + 1)) (splice d (4 * i) (part f (5 * i + 1) 4)) ≡ mackOf f (i + 1)

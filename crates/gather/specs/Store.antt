@@ -4,17 +4,17 @@ use mathlib.Core.List.{List, []}
 use Prim.Native.Nat.{ℕ, _*_, _≤_}
 use lib.ListN.{length}
 use Rattle.laws.specs.Lists.{part}
-use Rattle.rules.specs.State.{Store}
+use Rattle.rules.specs.State.{Store, blocksLength, dsmIds}
 use Rattle.rules.specs.Gather as Rule
 use Rattle.gather.specs.declared.Gathered.{Gathered}
 use Rattle.gather.specs.declared.Gathered.the-variants.{Stored, Complete, Refused}
 
 -- the four regions have their lengths
 pub record Lent (blocks headers present since : List ℕ) : Type 0 where
-  pub blocks-long : length blocks ≡ 3328
-  pub headers-long : length headers ≡ 16
-  pub marks-long : length present ≡ 16
-  pub times-long : length since ≡ 16
+  pub blocks-long : length blocks ≡ blocksLength
+  pub headers-long : length headers ≡ dsmIds
+  pub marks-long : length present ≡ dsmIds
+  pub times-long : length since ≡ dsmIds
 
 -- the four regions as the store of the rules
 abbrev pub store : List ℕ → List ℕ → List ℕ → List ℕ → Store

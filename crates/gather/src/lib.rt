@@ -6,11 +6,12 @@ ghost use mathlib.Core.Bool.{cond, not, _&&_};
 ghost use mathlib.Core.List.{List};
 ghost use Prim.Native.Nat.{ℕ, _+_, _-_, _*_, _/_, _^_, _≤_, _<_};
 ghost use lib.Dec.{leb, ltb, eqb};
-ghost use lib.ListN.{length, getD};
+ghost use lib.ListN.{length};
 ghost use Rattle.laws.specs.Lists.{part, same};
 ghost use Rattle.laws.specs.Refusal.{neb};
 ghost use Rattle.rules.specs.Times.{secondsOf};
 ghost use Rattle.rules.specs.Gather as Rule;
+ghost use Rattle.rules.specs.State.{blocksLength, dsmIds};
 ghost use Rattle.gather.specs.Store.{Lent, store, told, Sized};
 
 // What the coming of a block gives.
@@ -84,14 +85,14 @@ pub fn dsm_id_of(hk: &[u8; 15]) -> usize
 }
 
 // The block ID.
-pub fn block_id_of(hk: &[u8; 15]) -> usize
+fn block_id_of(hk: &[u8; 15]) -> usize
     ensures { λ r. ⌜ (r ≡ Rule.blockIdOf (now (hk .entry))) × (r < 16) ⌝ }
 {
     bitfields::index(hk[1]) % 16
 }
 
 // The blocks that an NB names, 7 to 16; 0 for a reserved one.
-pub fn blocks_for(nb: u8) -> usize
+fn blocks_for(nb: u8) -> usize
     ensures { λ r. ⌜ r ≡ Rule.blocksFor nb ⌝ }
 {
     if nb < 1 {
@@ -104,7 +105,7 @@ pub fn blocks_for(nb: u8) -> usize
 }
 
 // The blocks that the block 0 at a place names.
-pub fn total_of(s: &[u8], at: usize) -> usize
+fn total_of(s: &[u8], at: usize) -> usize
     requires { ⌜ at + 13 ≤ length (now s) ⌝ }
     ensures { λ r. ⌜ r ≡ Rule.totalOf (part (now (s .entry)) at 13) ⌝ }
 {
@@ -160,7 +161,7 @@ fn same_block(blocks: &[u8], at: usize, hk: &[u8]) -> bool
 
 // The same block ID held other bytes.
 fn other_bytes(blocks: &[u8], present: u16, id: usize, k: usize, hk: &[u8; 15]) -> bool
-    requires { ⌜ (length (now blocks) ≡ 3328) × ((id < 16) × (k < 16)) ⌝ }
+    requires { ⌜ (length (now blocks) ≡ blocksLength) × ((id < 16) × (k < 16)) ⌝ }
     ensures { λ r. ⌜ r ≡ Rule.marked present k && not (same (Rule.storedBlock (now (blocks .entry)) id k) (Rule.blockOf (now (hk .entry)))) ⌝ }
 {
     if !marked(present, k) {
@@ -229,7 +230,7 @@ fn kept_marks(
 
 // Whether a block ID is not below the count of the block 0 held, of the blocks that are left.
 fn too_high(blocks: &[u8], kept: u16, id: usize, k: usize) -> bool
-    requires { ⌜ (length (now blocks) ≡ 3328) × (id < 16) ⌝ }
+    requires { ⌜ (length (now blocks) ≡ blocksLength) × (id < 16) ⌝ }
     ensures { λ r. ⌜ r ≡ Rule.marked kept 0 && leb (Rule.totalOf (Rule.storedBlock (now (blocks .entry)) id 0)) k ⌝ }
 {
     if !marked(kept, 0) {
@@ -275,7 +276,7 @@ fn put_block(
 
 // A complete DSM is taken out: as many blocks are marked as its block 0 names.
 fn take_out(blocks: &[u8], present: &mut [u16], id: usize) -> Gathered
-    requires { ⌜ ((length (now blocks) ≡ 3328) × (length (now present) ≡ 16)) × (id < 16) ⌝ }
+    requires { ⌜ ((length (now blocks) ≡ blocksLength) × (length (now present) ≡ dsmIds)) × (id < 16) ⌝ }
     ensures { λ r. ⌜ ((headers since : List ℕ) → told r (store (now (blocks .entry)) headers (now (present .exit)) since) id ≡ Rule.stored (store (now (blocks .entry)) headers (now (present .entry)) since) id) × Sized r ⌝ }
 {
     let m = present[id];

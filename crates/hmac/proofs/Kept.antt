@@ -5,7 +5,7 @@ use mathlib.Core.List.{List, _++_}
 use Prim.Native.Nat.{ℕ}
 use lib.ListN.{length}
 use Rattle.sha256.specs.Sha256.{sha256, compress, finished, H0}
-use Rattle.sha256.proofs.Continued.{continued, from-start, length-sha256}
+use Rattle.sha256.proofs.Continued.{continued, from-start}
 use Rattle.hmac.specs.Hmac as Spec
 use Rattle.hmac.proofs.Pads.{length-xored, length-keyBlock}
 
@@ -25,7 +25,3 @@ unfolding Spec.hmacWith Spec.keyOf Spec.hmac
 kept k m =
     ap (finished (compress H0 (Spec.outerPad k)) 1) (after-pad (Spec.innerPad k) m (length-innerPad k))
     ∙ after-pad (Spec.outerPad k) (sha256 (Spec.innerPad k ++ m)) (length-outerPad k)
-
-pub length-hmac : (k m : List ℕ) → length (Spec.hmac k m) ≡ 32
-unfolding Spec.hmac
-length-hmac k m = length-sha256 (Spec.outerPad k ++ sha256 (Spec.innerPad k ++ m))

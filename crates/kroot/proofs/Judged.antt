@@ -5,15 +5,14 @@ use mathlib.Core.Bool.{true, false}
 use mathlib.Core.List.{List, [], _∷_, _++_, append-assoc}
 use Prim.Native.Nat.{ℕ, suc, _+_, _-_, _*_, _≤_}
 use native.Mathlib.Omega.{arith}
-use native.Mathlib.Nat.{zero-add}
 use lib.ListN.{length, set, replicate, length-append, length-replicate}
 use borrow.Author.Tests.{eq-eqb, ne-eqb}
 use Rattle.laws.specs.Lists.{splice}
-use Rattle.laws.proofs.Splice.{splice-two, splice-append, splice-whole, length-splice}
-use Rattle.public_keys.proofs.Keys.{splice-one}
+use Rattle.laws.proofs.Splice.{splice-two, splice-append, splice-whole, length-splice, splice-one, splice-after}
 use Rattle.rules.specs.Bits.{filled}
 use Rattle.rules.specs.PublicKeys.{keyHeld, keyType}
 use Rattle.rules.specs.Kroot as S
+use Rattle.rules.specs.State.{offerLength}
 
 module _ (pubkeys config offer : List ℕ) (header : ℕ) (d : List ℕ) where
   abbrev judged : S.Offer
@@ -38,13 +37,8 @@ module _ (pubkeys config offer : List ℕ) (header : ℕ) (d : List ℕ) where
     unfolding S.krootJudged S.krootChecks
     taken o n e = rw (held, good, eq-eqb (length d) (13 * S.krootBlocks (S.keyWidth (S.ksOf (S.contentsOf d))) (keyType pubkeys (S.pkidOf d))) n) (refl, e)
 
--- what was spliced in at the start goes on
-joined : (o r s : List ℕ) (k : ℕ) → length r ≡ k → k + length s ≤ length o → splice (splice o 0 r) k s ≡ splice o 0 (r ++ s)
-joined o r s k e h =
-    ap (λ (i : ℕ). splice (splice o 0 r) i s) (sym e ∙ sym (zero-add (length r))) ∙ splice-append o 0 r s (omega arith)
-
 -- what waits, written part by part
-module _ (offer : List ℕ) (id header w n : ℕ) (p s : List ℕ) (lo : length offer ≡ 179) (lp : length p ≡ 12 + w) (ls : length s ≡ n) (hw : w ≤ 32) (hn : n ≤ 132) where
+module _ (offer : List ℕ) (id header w n : ℕ) (p s : List ℕ) (lo : length offer ≡ offerLength) (lp : length p ≡ 12 + w) (ls : length s ≡ n) (hw : w ≤ 32) (hn : n ≤ 132) where
   abbrev head : List ℕ
   head = 1 ∷ id ∷ header ∷ []
 
@@ -63,7 +57,7 @@ module _ (offer : List ℕ) (id header w n : ℕ) (p s : List ℕ) (lo : length 
   length-m : length m ≡ 47
   length-m = simp (length-append, length-replicate) (omega arith)
 
-  length-whole : length whole ≡ 179
+  length-whole : length whole ≡ offerLength
   length-whole = simp (length-append, length-replicate) (omega arith)
 
   whole-is : whole ≡ S.offered id (filled 45 (header ∷ p)) (filled 132 s)
@@ -83,9 +77,9 @@ module _ (offer : List ℕ) (id header w n : ℕ) (p s : List ℕ) (lo : length 
       let lq : length (head ++ p) ≡ 15 + w = simp length-append (omega arith) in
       let lm : length m ≡ 47 = length-m in
       let lr : length (m ++ s) ≡ 47 + n = simp length-append (omega arith) in
-      ap (λ (x : List ℕ). splice (splice (splice x (15 + w) z) 47 s) (47 + n) y) (joined offer head p 3 refl (omega arith))
-      ∙ ap (λ (x : List ℕ). splice (splice x 47 s) (47 + n) y) (joined offer (head ++ p) z (15 + w) lq (omega arith))
-      ∙ ap (λ (x : List ℕ). splice x (47 + n) y) (joined offer m s 47 lm (omega arith))
-      ∙ joined offer (m ++ s) y (47 + n) lr (omega arith)
+      ap (λ (x : List ℕ). splice (splice (splice x (15 + w) z) 47 s) (47 + n) y) (splice-after offer 0 3 head p (omega arith) (omega arith))
+      ∙ ap (λ (x : List ℕ). splice (splice x 47 s) (47 + n) y) (splice-after offer 0 (15 + w) (head ++ p) z (omega arith) (omega arith))
+      ∙ ap (λ (x : List ℕ). splice x (47 + n) y) (splice-after offer 0 47 m s (omega arith) (omega arith))
+      ∙ splice-after offer 0 (47 + n) (m ++ s) y (omega arith) (omega arith)
       ∙ splice-whole offer whole (omega (arith, length-whole))
       ∙ whole-is

@@ -12,13 +12,13 @@ use Rattle.laws.specs.Lists.{part, same}
 use Rattle.laws.specs.Refusal.{neb}
 use Rattle.laws.proofs.Splice.{length-part, getD-part}
 use Rattle.laws.proofs.Elements.{written-out}
-use Rattle.bitfields.proofs.Fields.{bits-lt, bits-split, bits-in-byte, bits-byte}
+use Rattle.bitfields.proofs.Fields.{bits-split, bits-in-byte, bits-byte}
 use Rattle.rules.specs.Bits.{bits}
-use Rattle.laws.proofs.Table.{table-range}
 use Rattle.laws.proofs.Tests.{and-true}
 use Rattle.rules.specs.Kroot as S
 use Rattle.rules.specs.State.{macltOf}
 use Rattle.rules.specs.Verdict.{Verdict, namesOffer, chainUnchanged}
+use Rattle.rules.proofs.Bounds.{bits-lt}
 use Rattle.kroot.specs.Groups as G
 
 -- the low bits of a byte
@@ -38,14 +38,6 @@ pub week-bound : (c : List ℕ) → S.rootWeekOf c < 4096
 unfolding S.rootWeekOf
 week-bound c = bits-lt c 28 12
 
-pub pkid-bound : (d : List ℕ) → S.pkidOf d < 16
-unfolding S.pkidOf
-pkid-bound d = bits-lt d 4 4
-
-pub nmack-bound : (c : List ℕ) → S.nmackOf c < 4
-unfolding S.nmackOf
-nmack-bound c = bits-lt c 2 2
-
 -- six bytes of a list, one by one
 pub six : (c : List ℕ) (a : ℕ) → a + 6 ≤ length c
     → getD c a 0 ∷ getD c (a + 1) 0 ∷ getD c (a + 2) 0 ∷ getD c (a + 3) 0 ∷ getD c (a + 4) 0 ∷ getD c (a + 5) 0 ∷ [] ≡ part c a 6
@@ -53,14 +45,6 @@ six c a h =
     let e : a + 0 ≡ a = omega arith in
     sym (written-out 6 (part c a 6) (length-part c a 6 h)
     ∙ rw (getD-part c a 6 0 (omega arith), getD-part c a 6 1 (omega arith), getD-part c a 6 2 (omega arith), getD-part c a 6 3 (omega arith), getD-part c a 6 4 (omega arith), getD-part c a 6 5 (omega arith), e))
-
-pub width-bound : (code : ℕ) → S.keyWidth code ≤ 32
-unfolding S.keyWidth
-width-bound code = table-range 0 32 32 (12 ∷ 13 ∷ 14 ∷ 15 ∷ 16 ∷ 20 ∷ 24 ∷ 28 ∷ 32 ∷ []) tt (omega arith) (omega arith) code .1
-
-pub tag-bound : (code : ℕ) → S.tagWidth code ≤ 40
-unfolding S.tagWidth
-tag-bound code = table-range 0 40 40 (10 ∷ 12 ∷ 14 ∷ 16 ∷ 18 ∷ 20 ∷ 24 ∷ 28 ∷ 32 ∷ 40 ∷ []) tt (omega arith) (omega arith) code .1
 
 -- ---- groups of tests
 

@@ -13,10 +13,10 @@ use borrow.Author.Tests.{lt-ltb, le-ltb, ne-eqb}
 use Rattle.laws.specs.Lists.{part, splice}
 use Rattle.laws.specs.Refusal.{firstOf, unless, neb}
 use Rattle.laws.proofs.Refusal.{by-test, unless-refused}
-use Rattle.bitfields.proofs.Fields.{length-bytesAt}
 use Rattle.rules.specs.Chain.{Held, held, keyFits, keyOfSlot, higher, sentSlot}
 use Rattle.rules.specs.Mack as S
 use Rattle.rules.specs.declared.Chain.{Chain}
+use Rattle.rules.proofs.Parts.{length-bytesAt}
 use Rattle.chain.specs.Sound.{Met}
 use Rattle.chain.proofs.Steps.{front-splice, splice-front, walked-key, fits-on-the-way}
 use Rattle.mack_keys.specs.Keys.{Hands}

@@ -6,12 +6,14 @@ use Prim.Native.Nat.{ℕ, _+_, _-_, _*_, _%_, _≤_}
 use native.Mathlib.Omega.{arith}
 use lib.ListN.{length, length-append}
 use Rattle.laws.specs.Lists.{splice}
+use Rattle.laws.proofs.Splice.{splice-after}
 use Rattle.rules.specs.Bits.{bit, bits, bitList, bytesAt, packed}
 use Rattle.rules.specs.Navdata.{wordPlace, wordAt, setBits, setBytes, setOf}
 use Rattle.navdata.specs.Pieces.{seamOf, frontOf, backOf}
 use Rattle.rules.specs.Tags.{statusAndSet}
-use Rattle.bitfields.proofs.Fields.{bits-part, bytesAt-part, length-bytesAt, splice-next}
-use Rattle.bitfields.proofs.Packing.{bitList-split, packed-bytes, packed-seam, octet-five, octet-seven, length-packed}
+use Rattle.rules.proofs.Parts.{length-bytesAt, length-packed}
+use Rattle.bitfields.proofs.Fields.{bits-part, bytesAt-part}
+use Rattle.bitfields.proofs.Packing.{bitList-split, packed-bytes, packed-seam, octet-five, octet-seven}
 
 -- a list of bits that ends inside a byte
 last-five : (s : List ℕ) (at : ℕ) → packed (bitList s at 5) 1 ≡ bits s at 5 * 8 ∷ []
@@ -107,11 +109,6 @@ set-is words prn =
     )
     (simp append-assoc)
 
--- a set has 69 bytes
-pub length-set-of : (words : List ℕ) (prn : ℕ) → length (setOf words prn) ≡ 69
-unfolding setOf setBytes
-length-set-of words prn = length-packed _ 69
-
 -- ---- the status and the set
 
 -- the two bits of the NMA status
@@ -142,7 +139,7 @@ three-spliced : (d : List ℕ) (to : ℕ) (x y z : List ℕ) (a b c : ℕ) → l
     → splice (splice (splice d to x) (to + a) y) (to + (a + b)) z ≡ splice d to (x ++ (y ++ z))
 three-spliced d to x y z a b c p q r h =
     let e : length (x ++ y) ≡ a + b = simp (length-append, p, q) in
-    rw (splice-next d to x y a b p q (omega arith), ← append-assoc x y z) (splice-next d to (x ++ y) z (a + b) c e r (omega arith))
+    rw (splice-after d to (to + a) x y (omega arith) (omega arith), ← append-assoc x y z) (splice-after d to (to + (a + b)) (x ++ y) z (omega arith) (omega arith))
 
 pub front-spliced : (d : List ℕ) (to : ℕ) (w : List ℕ) (b : ℕ) → to + 45 ≤ length d
     → splice (splice (splice d to (bytesAt w (b + 6) 15)) (to + 15) (bytesAt w (b + 134) 15)) (to + 30) (bytesAt w (b + 262) 15) ≡ splice d to (frontOf w b)
@@ -179,7 +176,7 @@ pub set-spliced : (d : List ℕ) (to : ℕ) (words : List ℕ) (prn : ℕ) → t
     → splice (splice d to (frontOf words ((prn - 1) * 640))) (to + 45) (backOf words ((prn - 1) * 640)) ≡ splice d to (setOf words prn)
 set-spliced d to words prn h =
     rw (set-is words prn)
-    (splice-next d to (frontOf words ((prn - 1) * 640)) (backOf words ((prn - 1) * 640)) 45 24 (length-front words _) (length-back words _) h)
+    (splice-after d to (to + 45) (frontOf words ((prn - 1) * 640)) (backOf words ((prn - 1) * 640)) (omega (arith, length-front words ((prn - 1) * 640))) (omega (arith, length-back words ((prn - 1) * 640))))
 
 pub status-spliced : (d : List ℕ) (to status : ℕ) (s : List ℕ) → to + 69 ≤ length d
     → splice (splice (splice d to ((status % 4 * 64 + bits s 0 6) ∷ [])) (to + 1) (bytesAt s 6 67)) (to + 68) (bits s 542 7 * 2 ∷ [])

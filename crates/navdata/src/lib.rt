@@ -1,5 +1,5 @@
 // I/NAV words and navigation sets (01, "A word is 16 bytes, type in bits 0 to 5 ..").
-// `words` holds words 1 to 5 of 36 satellites, 16 bytes each; `times` holds the stamp of each word's sub-frame, its time plus 1, or 0
+// `words` holds words 1 to 5 of 36 satellites, 16 bytes each; `stamps` holds the stamp of each word's sub-frame, its time plus 1, or 0
 // where no word is held.
 ghost use mathlib.Core.Path.{_≡_};
 ghost use mathlib.Core.List.{List, [], _∷_};
@@ -9,6 +9,7 @@ ghost use Rattle.laws.specs.Lists.{splice};
 ghost use Rattle.rules.specs.Tags.{statusAndSet};
 ghost use Rattle.rules.specs.Navdata.{wordType, svidOf, wordIssue, wordPlace, wordAt, wordStored, setOf, setIssue, wordCame, cameBefore, oneIssue};
 ghost use Rattle.rules.specs.Navdata as rules;
+ghost use Rattle.rules.specs.State.{stampsLength, wordsLength};
 ghost use Rattle.navdata.specs.Pieces.{nav, seamOf, frontOf, backOf};
 
 // ---- words
@@ -46,7 +47,7 @@ pub fn store_word(
     w: &[u8],
     stamp: u32,
 )
-    requires { ⌜ ((length (now words) ≡ 2880) × (length (now stamps) ≡ 180)) × (length (now w) ≡ 16) ⌝ }
+    requires { ⌜ ((length (now words) ≡ wordsLength) × (length (now stamps) ≡ stampsLength)) × (length (now w) ≡ 16) ⌝ }
     requires { ⌜ ((1 ≤ prn) × (prn ≤ 36)) × ((1 ≤ kind) × (kind ≤ 5)) ⌝ }
     ensures { λ _. ⌜ nav (now (words .exit)) (now (stamps .exit)) ≡ wordStored (nav (now (words .entry)) (now (stamps .entry))) prn kind (now (w .entry)) stamp ⌝ }
 {
@@ -58,8 +59,8 @@ pub fn store_word(
 // ---- sets that can be used
 
 // Bits 6 to 15 of a satellite's word: its IODnav in words 1 to 4.
-pub fn word_issue(words: &[u8], prn: usize, kind: usize) -> u64
-    requires { ⌜ length (now words) ≡ 2880 ⌝ }
+fn word_issue(words: &[u8], prn: usize, kind: usize) -> u64
+    requires { ⌜ length (now words) ≡ wordsLength ⌝ }
     requires { ⌜ ((1 ≤ prn) × (prn ≤ 36)) × ((1 ≤ kind) × (kind ≤ 5)) ⌝ }
     ensures { λ r. ⌜ r ≡ wordIssue (wordAt (now (words .entry)) prn kind) ⌝ }
 {
@@ -67,8 +68,8 @@ pub fn word_issue(words: &[u8], prn: usize, kind: usize) -> u64
 }
 
 // Words 1 to 4 have one IODnav.
-pub fn one_issue(words: &[u8], prn: usize) -> bool
-    requires { ⌜ (length (now words) ≡ 2880) × ((1 ≤ prn) × (prn ≤ 36)) ⌝ }
+fn one_issue(words: &[u8], prn: usize) -> bool
+    requires { ⌜ (length (now words) ≡ wordsLength) × ((1 ≤ prn) × (prn ≤ 36)) ⌝ }
     ensures { λ r. ⌜ ((stamps : List ℕ) → r ≡ oneIssue (wordCame (nav (now (words .entry)) stamps) prn 1) (wordCame (nav (now (words .entry)) stamps) prn 2) (wordCame (nav (now (words .entry)) stamps) prn 3) (wordCame (nav (now (words .entry)) stamps) prn 4)) ⌝ }
 {
     let issue = word_issue(words, prn, 1);
@@ -79,8 +80,8 @@ pub fn one_issue(words: &[u8], prn: usize) -> bool
 }
 
 // A word of the type is held, and came in an earlier sub-frame than t.
-pub fn came_before(stamps: &[u32], prn: usize, t: u32, kind: usize) -> bool
-    requires { ⌜ (length (now stamps) ≡ 180) × (((1 ≤ prn) × (prn ≤ 36)) × ((1 ≤ kind) × (kind ≤ 5))) ⌝ }
+fn came_before(stamps: &[u32], prn: usize, t: u32, kind: usize) -> bool
+    requires { ⌜ (length (now stamps) ≡ stampsLength) × (((1 ≤ prn) × (prn ≤ 36)) × ((1 ≤ kind) × (kind ≤ 5))) ⌝ }
     ensures { λ r. ⌜ ((words : List ℕ) → r ≡ cameBefore t (wordCame (nav words (now (stamps .entry))) prn kind)) ⌝ }
 {
     let place = word_place(prn, kind);
@@ -90,7 +91,7 @@ pub fn came_before(stamps: &[u32], prn: usize, t: u32, kind: usize) -> bool
 
 // A satellite's set can be used for a section of sub-frame t.
 pub fn usable(words: &[u8], stamps: &[u32], prn: usize, t: u32) -> bool
-    requires { ⌜ ((length (now words) ≡ 2880) × (length (now stamps) ≡ 180)) × ((1 ≤ prn) × (prn ≤ 36)) ⌝ }
+    requires { ⌜ ((length (now words) ≡ wordsLength) × (length (now stamps) ≡ stampsLength)) × ((1 ≤ prn) × (prn ≤ 36)) ⌝ }
     ensures { λ r. ⌜ r ≡ rules.usable (nav (now (words .entry)) (now (stamps .entry))) prn t ⌝ }
 {
     let one = came_before(stamps, prn, t, 1);
@@ -114,7 +115,7 @@ pub fn set_issue(set: &[u8]) -> u16
 
 // A byte of two bits of one word and six of the next.
 fn seam(words: &[u8], one: usize, next: usize) -> u8
-    requires { ⌜ (length (now words) ≡ 2880) × ((one + 2 ≤ 23040) × (next + 6 ≤ 23040)) ⌝ }
+    requires { ⌜ (length (now words) ≡ wordsLength) × ((one + 2 ≤ 23040) × (next + 6 ≤ 23040)) ⌝ }
     ensures { λ r. ⌜ r ≡ seamOf (now (words .entry)) one next ⌝ }
 {
     bitfields::field_at(words, one, 2) * 64 + bitfields::field_at(words, next, 6)
@@ -130,7 +131,7 @@ fn put(out: &mut [u8], at: usize, x: u8)
 
 // The first 45 bytes of the set whose word 1 starts at bit b.
 fn put_front(words: &[u8], b: usize, out: &mut [u8], to: usize)
-    requires { ⌜ ((length (now words) ≡ 2880) × (b + 640 ≤ 23040)) × (to + 45 ≤ length (now out)) ⌝ }
+    requires { ⌜ ((length (now words) ≡ wordsLength) × (b + 640 ≤ 23040)) × (to + 45 ≤ length (now out)) ⌝ }
     ensures { λ _. ⌜ now (out .exit) ≡ splice (now (out .entry)) to (frontOf (now (words .entry)) b) ⌝ }
 {
     bitfields::bytes_to(words, b + 6, 15, out, to);
@@ -140,7 +141,7 @@ fn put_front(words: &[u8], b: usize, out: &mut [u8], to: usize)
 
 // Its last 24 bytes.
 fn put_back(words: &[u8], b: usize, out: &mut [u8], to: usize)
-    requires { ⌜ ((length (now words) ≡ 2880) × (b + 640 ≤ 23040)) × (to + 24 ≤ length (now out)) ⌝ }
+    requires { ⌜ ((length (now words) ≡ wordsLength) × (b + 640 ≤ 23040)) × (to + 24 ≤ length (now out)) ⌝ }
     ensures { λ _. ⌜ now (out .exit) ≡ splice (now (out .entry)) to (backOf (now (words .entry)) b) ⌝ }
 {
     let one = seam(words, b + 382, b + 390);
@@ -155,7 +156,7 @@ fn put_back(words: &[u8], b: usize, out: &mut [u8], to: usize)
 
 // The set of a satellite's held words into `out` from place `to`.
 pub fn set_bytes(words: &[u8], prn: usize, out: &mut [u8], to: usize)
-    requires { ⌜ ((length (now words) ≡ 2880) × ((1 ≤ prn) × (prn ≤ 36))) × (to + 69 ≤ length (now out)) ⌝ }
+    requires { ⌜ ((length (now words) ≡ wordsLength) × ((1 ≤ prn) × (prn ≤ 36))) × (to + 69 ≤ length (now out)) ⌝ }
     ensures { λ _. ⌜ now (out .exit) ≡ splice (now (out .entry)) to (setOf (now (words .entry)) prn) ⌝ }
 {
     let b = (prn - 1) * 640;
@@ -165,7 +166,7 @@ pub fn set_bytes(words: &[u8], prn: usize, out: &mut [u8], to: usize)
 
 // The set of a satellite's held words.
 pub fn set_of(words: &[u8], prn: usize) -> [u8; 69]
-    requires { ⌜ (length (now words) ≡ 2880) × ((1 ≤ prn) × (prn ≤ 36)) ⌝ }
+    requires { ⌜ (length (now words) ≡ wordsLength) × ((1 ≤ prn) × (prn ≤ 36)) ⌝ }
     ensures { λ r. ⌜ r ≡ setOf (now (words .entry)) prn ⌝ }
 {
     let mut set = [0u8; 69];

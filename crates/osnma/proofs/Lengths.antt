@@ -8,33 +8,32 @@ use lib.ListN.{length}
 use borrow.Author.Tests.{eqb-true}
 use Rattle.laws.proofs.Tests.{and-left, and-right}
 use Rattle.call_reads.specs.Reads.{setTold, offerTold}
-use Rattle.regions.specs.Lengths.{Lengths}
-use Rattle.regions.proofs.Shapes.{lengths}
 use Rattle.regions.specs.Told.{told}
 use Rattle.rules.specs.Calls.{Word, wordCall, wordChecks, verdictCall, verdictChecks, setRead, setReadChecks, offerRead, offerReadChecks}
 use Rattle.rules.specs.State.{State, shaped}
 use Rattle.rules.specs.Verdict.{Verdict}
+use Rattle.rules.proofs.Lengths.{Sized, sized}
 
 -- ---- right lengths
 
 one-long : (a : List ℕ) (m : ℕ) (r : Bool) → (eqb (length a) m && r) ≡ true → (length a ≡ m) × (r ≡ true)
 one-long a m r e = (eqb-true (length a) m (and-left (eqb (length a) m) r e), and-right (eqb (length a) m) r e)
 
-regions-long : (s : State) (r : Bool) → (shaped s && r) ≡ true → Lengths s × (r ≡ true)
-regions-long s r e = (lengths s (and-left (shaped s) r e), and-right (shaped s) r e)
+regions-long : (s : State) (r : Bool) → (shaped s && r) ≡ true → Sized s × (r ≡ true)
+regions-long s r e = (sized s (and-left (shaped s) r e), and-right (shaped s) r e)
 
 -- one, two or three lists are lent beside the regions
-pub long-one : (s : State) (a : List ℕ) (m : ℕ) → (shaped s && eqb (length a) m) ≡ true → Lengths s × (length a ≡ m)
+pub long-one : (s : State) (a : List ℕ) (m : ℕ) → (shaped s && eqb (length a) m) ≡ true → Sized s × (length a ≡ m)
 long-one s a m e = let f = regions-long s (eqb (length a) m) e in (f .0, eqb-true (length a) m (f .1))
 
-pub long-two : (s : State) (a b : List ℕ) (m n : ℕ) → (shaped s && (eqb (length a) m && eqb (length b) n)) ≡ true → Lengths s × ((length a ≡ m) × (length b ≡ n))
+pub long-two : (s : State) (a b : List ℕ) (m n : ℕ) → (shaped s && (eqb (length a) m && eqb (length b) n)) ≡ true → Sized s × ((length a ≡ m) × (length b ≡ n))
 long-two s a b m n e =
     let f = regions-long s (eqb (length a) m && eqb (length b) n) e in
     let g = one-long a m (eqb (length b) n) (f .1) in
     (f .0, (g .0, eqb-true (length b) n (g .1)))
 
 pub long-three : (s : State) (a b c : List ℕ) (m n o : ℕ) → (shaped s && (eqb (length a) m && (eqb (length b) n && eqb (length c) o))) ≡ true
-    → Lengths s × ((length a ≡ m) × ((length b ≡ n) × (length c ≡ o)))
+    → Sized s × ((length a ≡ m) × ((length b ≡ n) × (length c ≡ o)))
 long-three s a b c m n o e =
     let f = regions-long s (eqb (length a) m && (eqb (length b) n && eqb (length c) o)) e in
     let g = one-long a m (eqb (length b) n && eqb (length c) o) (f .1) in

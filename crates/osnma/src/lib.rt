@@ -170,7 +170,7 @@ pub extern "C" fn osnma_regions_subframe(
 ) -> u32
     ensures { λ r. ⌜ subframeTold (now (hkroot .exit)) (now (mack .exit)) r (state (now (config .exit)) (now (clocks .exit)) (now (words .entry)) (now (stamps .entry)) (now (blocks .exit)) (now (headers .exit)) (now (present .exit)) (now (since .exit)) (now (pubkeys .exit)) (now (offer .exit)) (now (chain .entry)) (now (numbers .exit)) (now (heldkey .exit)) (now (waiting .exit)) (now (sets .exit)) (now (arrivals .exit))) (now (area .exit)) ≡ subframeCall (state (now (config .entry)) (now (clocks .entry)) (now (words .entry)) (now (stamps .entry)) (now (blocks .entry)) (now (headers .entry)) (now (present .entry)) (now (since .entry)) (now (pubkeys .entry)) (now (offer .entry)) (now (chain .entry)) (now (numbers .entry)) (now (heldkey .entry)) (now (waiting .entry)) (now (sets .entry)) (now (arrivals .entry))) (now (area .entry)) (subframe prn time (now (bytes .entry))) ⌝ }
 {
-    let lent = bools::both(area.len() == 3240, bytes.len() == 75);
+    let lent = bools::both(area.len() == regions::AREA_LENGTH, bytes.len() == 75);
     let shaped = regions::shaped(
         config,
         clocks,

@@ -13,7 +13,7 @@ use Rattle.laws.specs.Lists.{part}
 use Rattle.laws.specs.Refusal.{neb}
 use Rattle.laws.proofs.Refusal.{neb-false}
 use Rattle.laws.proofs.Tests.{neither}
-use Rattle.bitfields.proofs.Fields.{bits-lt, bits-in-byte}
+use Rattle.bitfields.proofs.Fields.{bits-in-byte}
 use Rattle.kroot.proofs.Parameters.{low-bits, least-fits}
 use Rattle.rules.specs.PublicKeys as K
 use Rattle.rules.specs.Kroot.{leastBlocks}
@@ -28,14 +28,6 @@ type-is d = sym (bits-in-byte d 129 0 4 (omega arith))
 pub id-is : (d : List ℕ) → getD d 129 0 % 16 ≡ S.newIdOf d
 unfolding S.newIdOf
 id-is d = sym (low-bits d 129 4 4 refl)
-
-pub type-bound : (d : List ℕ) → S.newTypeOf d < 16
-unfolding S.newTypeOf
-type-bound d = bits-lt d 1032 4
-
-pub id-bound : (d : List ℕ) → S.newIdOf d < 16
-unfolding S.newIdOf
-id-bound d = bits-lt d 1036 4
 
 -- ---- sizes
 

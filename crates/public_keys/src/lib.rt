@@ -10,10 +10,11 @@ ghost use Prim.Native.Nat.{_≤_, _<_};
 ghost use lib.ListN.{length};
 ghost use Rattle.rules.specs.Bits.{filled};
 ghost use Rattle.rules.specs.PublicKeys as S;
+ghost use Rattle.rules.specs.State.{pubkeysLength};
 
 // Whether the key with this ID is held.
 pub fn key_held(pubkeys: &[u8], id: u8) -> bool
-    requires { ⌜ (length (now pubkeys) ≡ 1088) × (id < 16) ⌝ }
+    requires { ⌜ (length (now pubkeys) ≡ pubkeysLength) × (id < 16) ⌝ }
     ensures { λ r. ⌜ r ≡ S.keyHeld (now (pubkeys .entry)) id ⌝ }
 {
     let first = pubkeys[(id as usize) * 68];
@@ -22,7 +23,7 @@ pub fn key_held(pubkeys: &[u8], id: u8) -> bool
 
 // The type of the key with this ID; 0 where none is held.
 pub fn key_type(pubkeys: &[u8], id: u8) -> u8
-    requires { ⌜ (length (now pubkeys) ≡ 1088) × (id < 16) ⌝ }
+    requires { ⌜ (length (now pubkeys) ≡ pubkeysLength) × (id < 16) ⌝ }
     ensures { λ r. ⌜ r ≡ S.keyType (now (pubkeys .entry)) id ⌝ }
 {
     let first = pubkeys[(id as usize) * 68];
@@ -34,7 +35,7 @@ pub fn key_type(pubkeys: &[u8], id: u8) -> u8
 
 // The key's 67 bytes into `out`, zeros after a short one.
 pub fn key_bytes(pubkeys: &[u8], id: u8, out: &mut [u8])
-    requires { ⌜ (length (now pubkeys) ≡ 1088) × ((id < 16) × (length (now out) ≡ 67)) ⌝ }
+    requires { ⌜ (length (now pubkeys) ≡ pubkeysLength) × ((id < 16) × (length (now out) ≡ 67)) ⌝ }
     ensures { λ _. ⌜ now (out .exit) ≡ S.keyBytes (now (pubkeys .entry)) id ⌝ }
 {
     buffer::copy_part(out, 0, pubkeys, (id as usize) * 68 + 1, 67);
@@ -42,7 +43,7 @@ pub fn key_bytes(pubkeys: &[u8], id: u8, out: &mut [u8])
 
 // Whether neither this ID nor a higher one is held.
 pub fn above_all(pubkeys: &[u8], id: u8) -> bool
-    requires { ⌜ (length (now pubkeys) ≡ 1088) × (id < 16) ⌝ }
+    requires { ⌜ (length (now pubkeys) ≡ pubkeysLength) × (id < 16) ⌝ }
     ensures { λ r. ⌜ r ≡ S.aboveAll (now (pubkeys .entry)) id ⌝ }
 {
     let mut n: u8 = 0;
@@ -57,7 +58,7 @@ pub fn above_all(pubkeys: &[u8], id: u8) -> bool
 
 // Whether the same key is held: ID, type and bytes.
 pub fn same_key(pubkeys: &[u8], id: u8, kind: u8, key: &[u8]) -> bool
-    requires { ⌜ (length (now pubkeys) ≡ 1088) × ((id < 16) × (length (now key) ≤ 67)) ⌝ }
+    requires { ⌜ (length (now pubkeys) ≡ pubkeysLength) × ((id < 16) × (length (now key) ≤ 67)) ⌝ }
     ensures { λ r. ⌜ r ≡ S.sameKey (now (pubkeys .entry)) id kind (now (key .entry)) ⌝ }
 {
     if !key_held(pubkeys, id) {
@@ -83,7 +84,7 @@ fn filled_key(key: &[u8]) -> [u8; 67]
 
 // The key is held from now on.
 pub fn add_key(pubkeys: &mut [u8], id: u8, kind: u8, key: &[u8])
-    requires { ⌜ ((length (now pubkeys) ≡ 1088) × (id < 16)) × ((kind < 4) × (length (now key) ≤ 67)) ⌝ }
+    requires { ⌜ ((length (now pubkeys) ≡ pubkeysLength) × (id < 16)) × ((kind < 4) × (length (now key) ≤ 67)) ⌝ }
     ensures { λ _. ⌜ now (pubkeys .exit) ≡ S.withKey (now (pubkeys .entry)) id kind (now (key .entry)) ⌝ }
 {
     let whole = filled_key(key);
@@ -94,7 +95,7 @@ pub fn add_key(pubkeys: &mut [u8], id: u8, kind: u8, key: &[u8])
 
 // Keys of lower ID are dropped.
 pub fn drop_lower(pubkeys: &mut [u8], id: u8)
-    requires { ⌜ (length (now pubkeys) ≡ 1088) × (id < 16) ⌝ }
+    requires { ⌜ (length (now pubkeys) ≡ pubkeysLength) × (id < 16) ⌝ }
     ensures { λ _. ⌜ now (pubkeys .exit) ≡ S.withoutLower (now (pubkeys .entry)) id ⌝ }
 {
     buffer::fill(pubkeys, 0, (id as usize) * 68, 0);

@@ -1,3 +1,2 @@
 -- Laws of the calls.
 pub mod Faults
-pub mod Shapes

@@ -1,4 +1,3 @@
 -- what the calls' contracts share
 pub mod Told
-pub mod Lengths
 pub mod Tesla

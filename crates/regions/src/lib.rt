@@ -46,6 +46,9 @@ pub const SETS_LENGTH: usize = 2484;
 
 pub const SATELLITES: usize = 36;
 
+// The area lent for the records of a sub-frame.
+pub const AREA_LENGTH: usize = 3240;
+
 // Every region has its length.
 pub fn shaped(
     config: &[u8],

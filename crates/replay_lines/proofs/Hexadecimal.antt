@@ -8,8 +8,7 @@ use native.Mathlib.Nat.{zero-add}
 use lib.ListN.{length, take, drop, getD, set, length-append, length-drop}
 use lib.Seq.{take-suc, getD-drop}
 use Rattle.laws.specs.Lists.{part, splice}
-use Rattle.laws.proofs.Splice.{length-part, length-splice, splice-nil}
-use Rattle.bitfields.proofs.Fields.{splice-one}
+use Rattle.laws.proofs.Splice.{length-part, length-splice, splice-nil, splice-one}
 use Rattle.replay_lines.proofs.Joined.{joined}
 use Rattle.rules.specs.Replay.{digit, hexadecimal, recordLine, recordLines, answerLine, linesOf, lineFeed}
 

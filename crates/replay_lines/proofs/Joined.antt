@@ -6,8 +6,7 @@ use Prim.Native.Nat.{ℕ, _+_, _≤_}
 use native.Mathlib.Omega.{arith}
 use lib.ListN.{length, set, length-append}
 use Rattle.laws.specs.Lists.{splice}
-use Rattle.laws.proofs.Splice.{length-splice, splice-append}
-use Rattle.bitfields.proofs.Fields.{splice-one}
+use Rattle.laws.proofs.Splice.{length-splice, splice-append, splice-one}
 use Rattle.replay_lines.specs.Put.{Put}
 use Rattle.rules.specs.Replay.{decimal, ended, answerLine, space, lineFeed}
 

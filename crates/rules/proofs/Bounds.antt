@@ -30,11 +30,11 @@ use Rattle.rules.proofs.Parts.{length-part-most}
 pub within-range : (low high n : ℕ) → within low high n ≡ true → (low ≤ n) × (n ≤ high)
 within-range low high n e = (leb-true low n (and-left (leb low n) (leb n high) e), leb-true n high (and-right (leb low n) (leb n high) e))
 
-pub bits-bound : (s : List ℕ) (at n : ℕ) → bits s at n < 2 ^ n
+pub bits-lt : (s : List ℕ) (at n : ℕ) → bits s at n < 2 ^ n
 unfolding bits bit
-bits-bound s at zero = omega arith
-bits-bound s at (suc n) =
-    let i = bits-bound s at n in
+bits-lt s at zero = omega arith
+bits-lt s at (suc n) =
+    let i = bits-lt s at n in
     let p = pow-suc 2 n in
     omega arith
 
@@ -60,12 +60,12 @@ offer-id-bound offer = omega arith
 
 pub pkid-bound : (d : List ℕ) → pkidOf d < 16
 unfolding pkidOf
-pkid-bound d = bits-bound d 4 4
+pkid-bound d = bits-lt d 4 4
 
 -- a tag of n bits is compared in n bits, not in whole bytes
 pub mac-bound : (n : ℕ) (key message : List ℕ) → macBits n key message < 2 ^ n
 unfolding macBits
-mac-bound n key message = bits-bound (hmac key message) 0 n
+mac-bound n key message = bits-lt (hmac key message) 0 n
 
 -- ---- counts of blocks: none, or 7 to 16
 
@@ -77,12 +77,19 @@ counts nb true true p q =
 counts nb true false p q = inl refl
 counts nb false b p q = inl refl
 
+count-cases : (nb : ℕ) → (blocksFor nb ≡ 0) ⊎ ((7 ≤ blocksFor nb) × (blocksFor nb ≤ 16))
+unfolding blocksFor
+count-cases nb = counts nb (leb 1 nb) (leb nb 10) refl refl
+
 pub total-cases : (d : List ℕ) → (totalOf d ≡ 0) ⊎ ((7 ≤ totalOf d) × (totalOf d ≤ 16))
-unfolding totalOf blocksFor
-total-cases d = counts (getD d 0 0 / 16) (leb 1 (getD d 0 0 / 16)) (leb (getD d 0 0 / 16) 10) refl refl
+unfolding totalOf
+total-cases d = count-cases (getD d 0 0 / 16)
 
 pub total-bound : (d : List ℕ) → totalOf d ≤ 16
 total-bound d = ⊎-elim (λ e. omega arith) (λ h. h .1) (total-cases d)
+
+pub total-least : (d : List ℕ) → 1 ≤ totalOf d → 7 ≤ totalOf d
+total-least d k = ⊎-elim (λ e. absurd (omega arith)) (λ h. h .0) (total-cases d)
 
 -- ---- widths
 
@@ -102,7 +109,7 @@ key-length-bound type = (table-range 29 67 67 (29 ∷ 33 ∷ 49 ∷ 67 ∷ []) t
 
 pub new-id-bound : (d : List ℕ) → newIdOf d < 16
 unfolding newIdOf
-new-id-bound d = bits-bound d 1036 4
+new-id-bound d = bits-lt d 1036 4
 
 pub new-key-short : (d : List ℕ) → length (newKeyOf d) ≤ 67
 unfolding newKeyOf

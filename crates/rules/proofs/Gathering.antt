@@ -15,7 +15,7 @@ use borrow.Author.Tests.{leb-false, eqb-true, eqb-false, eq-eqb}
 use Rattle.laws.specs.Lists.{part}
 use Rattle.laws.specs.Refusal.{neb}
 use Rattle.laws.proofs.Refusal.{neb-false}
-use Rattle.laws.proofs.Splice.{part-splice-same, length-part, length-splice, either, below?}
+use Rattle.laws.proofs.Splice.{part-splice-same, length-part, length-splice, either, below?, part-part}
 use Rattle.laws.proofs.Tests.{and-left, and-right, neither}
 use Rattle.rules.specs.Bits.{same}
 use Rattle.rules.specs.Calls.{Subframe}
@@ -28,7 +28,7 @@ use Rattle.rules.proofs.Bounds.{dsm-id-bound, block-id-bound, total-cas
 use Rattle.rules.proofs.Choices.{no}
 use Rattle.rules.proofs.Invariant.{BlocksAre}
 use Rattle.rules.proofs.Marks.{mark-cases, mark-low, full-marked, none-marked}
-use Rattle.rules.proofs.Parts.{part-beside, part-part}
+use Rattle.rules.proofs.Parts.{part-beside}
 
 pub length-hkroot : (f : List ℕ) (n : ℕ) → length (hkrootOf f n) ≡ n
 unfolding hkrootOf

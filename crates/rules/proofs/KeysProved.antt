@@ -1,6 +1,6 @@
 -- A complete DSM: a public key that it adds was proved, and what waits has its key held.
 use Prim.Native.Nat.{ℕ, _+_, _-_, _≤_, _<_}
-use mathlib.Core.Path.{_≡_, refl, sym, _∙_, ap}
+use mathlib.Core.Path.{_≡_, sym, _∙_, ap}
 use mathlib.Core.Logic.{⊎-elim}
 use mathlib.Core.Bool.{true, false, cond}
 use mathlib.Core.List.{List, _∷_}
@@ -12,9 +12,9 @@ use Rattle.laws.specs.Refusal.{firstOf}
 use Rattle.laws.proofs.Refusal.{clear, by-test}
 use Rattle.laws.proofs.Splice.{either}
 use Rattle.laws.proofs.Tests.{both-true}
-use Rattle.rules.specs.Bits.{filled, within}
+use Rattle.rules.specs.Bits.{within}
 use Rattle.rules.specs.Calls.{Start}
-use Rattle.rules.specs.Claim.{KeyKnown, proved}
+use Rattle.rules.specs.Claim.{proved}
 use Rattle.rules.specs.Kroot.{offered, offerId, pkidOf, krootJudged, krootChecks, Offer, signedMessage, signatureOf}
 use Rattle.rules.specs.Log.{Entry, Log}
 use Rattle.rules.specs.Pkr.{newIdOf, newTypeOf, newKeyOf, emergency, pkrSizeBad, treeProved, pkrChecks, pkrJudged, keyAdded, Renewed}
@@ -23,7 +23,7 @@ use Rattle.rules.specs.State.{pubkeysLength}
 use Rattle.rules.proofs.Bounds.{new-id-bound, new-key-short, new-type-bound, pkid-bound}
 use Rattle.rules.proofs.Choices.{by-number}
 use Rattle.rules.proofs.Gathering.{DsmCame}
-use Rattle.rules.proofs.Invariant.{KeysAre, OfferHeld, heldkey}
+use Rattle.rules.proofs.Invariant.{KeysAre, OfferHeld}
 use Rattle.rules.proofs.KeyPlaces.{added-number, added-bytes, other-number, other-bytes}
 use Rattle.rules.proofs.Later.{known-later, keys-later}
 

@@ -2,13 +2,12 @@
 use Prim.Native.Nat.{ℕ, zero, suc}
 use mathlib.Core.Path.{_≡_, refl, sym, _∙_, ap}
 use mathlib.Core.Logic.{_⊎_, inl, inr}
-use mathlib.Core.Bool.{true}
 use mathlib.Core.List.{List, _∷_}
 use mathlib.Core.Option.{none}
 use Rattle.rules.specs.Calls.{Start, Subframe, chainOf, heldOf}
 use Rattle.rules.specs.Chain.{Held}
 use Rattle.rules.specs.Claim.{PublicKey, KeyProved, KeyKnown, given, proved, SetBacked}
-use Rattle.rules.specs.Log.{Call, start, word, subframe, verdict, readSet, readOffer, Entry, Log, Once, here, earlier, stateAt, step, wordIn, wordAnswered, verdictIn, verdictAnswered}
+use Rattle.rules.specs.Log.{Call, subframe, readSet, readOffer, Entry, Log, Once, earlier, stateAt, step, wordIn, verdictIn}
 use Rattle.rules.specs.State.{State, Nav, Store, Auth}
 use Rattle.rules.specs.declared.Chain.{Chain}
 use Rattle.rules.proofs.Invariant.{Inv, WordsAre, BlocksAre, KeysAre, OfferHeld, InForce, HeldIs, WaitIs, SetsAre}

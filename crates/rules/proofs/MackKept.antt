@@ -3,7 +3,7 @@ use Prim.Native.Nat.{ℕ, suc, _*_, _/_, _^_, _≤_, _<_}
 use mathlib.Core.Path.{_≡_, refl, sym, _∙_, ap}
 use mathlib.Core.Logic.{inl, inr}
 use mathlib.Core.Bool.{Bool, true, false, cond, not}
-use mathlib.Core.List.{List, [], _∷_}
+use mathlib.Core.List.{List, _∷_}
 use mathlib.Core.Option.{some}
 use native.Mathlib.Nat.{le-refl}
 use native.Mathlib.Omega.{arith}
@@ -27,10 +27,10 @@ use Rattle.rules.specs.Tags.{Work, entryAt}
 use Rattle.rules.specs.Times.{secondsOf, timeValid}
 use Rattle.rules.specs.Verdict.{cidInForce}
 use Rattle.rules.specs.declared.Tag.{Tag}
-use Rattle.rules.proofs.Bounds.{bits-bound, ns-range, slot-bound, held-bound, held-written, count-bound, count-written}
+use Rattle.rules.proofs.Bounds.{bits-lt, ns-range, slot-bound, held-bound, held-written, count-bound, count-written}
 use Rattle.rules.proofs.Choices.{by-number}
 use Rattle.rules.proofs.DueTags.{SectionIs, dues-are, root-seconds}
-use Rattle.rules.proofs.Entries.{Entries, entries-in}
+use Rattle.rules.proofs.Entries.{entries-in}
 use Rattle.rules.proofs.Invariant.{WordsAre, InForce, HeldIs, WaitIs, SetsAre}
 use Rattle.rules.proofs.Later.{held-later, wait-later, set-later}
 use Rattle.rules.proofs.OwnTags.{owns-are}
@@ -86,7 +86,7 @@ fit s sub h = go (sectionUnfit s (sub .time) (headerOf (hkrootOf (sub .bytes) 15
 
 nmack-few : (s : State) → (chainOf s) .nmack ≤ 3
 unfolding chainOf chainWith nmackOf
-nmack-few s = let q = bits-bound (chainContents (s .chain)) 2 2 in omega arith
+nmack-few s = let q = bits-lt (chainContents (s .chain)) 2 2 in omega arith
 
 chain-ns : (s : State) → (1 ≤ (chainOf s) .ns) × ((chainOf s) .ns ≤ 36)
 unfolding chainOf chainWith

@@ -6,32 +6,32 @@ use mathlib.Core.List.{List, [], _∷_}
 use native.Mathlib.Nat.{div-lt-iff-lt-mul, le-trans, mul-zero, zero-lt-suc, zero-mod}
 use native.Mathlib.Omega.{arith}
 use lib.Dec.{eqb, ltb}
-use lib.ListN.{length, drop, length-append}
 use lib.Pow.{pow-mono}
 use borrow.Author.Tests.{eqb-true, not-false}
 use Rattle.laws.specs.Refusal.{neb}
 use Rattle.laws.proofs.Refusal.{by-test}
 use Rattle.laws.proofs.Tests.{and-left, and-right, neither}
-use Rattle.rules.specs.Bits.{packed, octet, anyOf}
+use Rattle.rules.specs.Bits.{anyOf}
 use Rattle.rules.specs.Calls.{Start, Subframe}
 use Rattle.rules.specs.Chain.{Held, keySlot, sentSlot}
 use Rattle.rules.specs.Claim.{Arrived, FourThings, contentsBy, chainBy, sectionOf, slotOfTag, setIn, usableIn}
-use Rattle.rules.specs.Gather.{headerOf, hkrootOf, mackOf, statusOf}
+use Rattle.rules.specs.Gather.{headerOf, hkrootOf, mackOf}
 use Rattle.rules.specs.Kroot.{chainWith, tagWidth, msOf, rootSecondsOf}
 use Rattle.rules.specs.Log.{Entry, Log, here, lastWord}
 use Rattle.rules.specs.Mack.{fieldTag}
-use Rattle.rules.specs.Navdata.{wordCame, usable, setBytes, setOf}
+use Rattle.rules.specs.Navdata.{wordCame, usable, setOf}
 use Rattle.rules.specs.State.{State, Nav, prnValid, markOf}
 use Rattle.rules.specs.Tags.{Work, ownTag, ownOutcome, ownJudged, ownsJudged, notAllowed, flexible, secondHalf, macseqFits, tagMatches, tagEntry}
 use Rattle.rules.specs.Times.{secondsOf, keySeconds, delayOf, timeValid, tagSlot, lowestSlot, slotOf}
 use Rattle.rules.specs.Verdict.{Verdict}
 use Rattle.rules.specs.declared.Chain.{Chain}
 use Rattle.rules.specs.declared.Tag.{Tag}
-use Rattle.rules.proofs.Bounds.{bits-bound, prn-range, status-bound, tag-width-bound, time-bound}
+use Rattle.rules.proofs.Bounds.{bits-lt, prn-range, status-bound, tag-width-bound, time-bound}
 use Rattle.rules.proofs.Choices.{no}
-use Rattle.rules.proofs.DueTags.{SectionIs, matched-by, root-seconds}
+use Rattle.rules.proofs.DueTags.{SectionIs, matched-by}
 use Rattle.rules.proofs.Entries.{entry-tag, entry-set, length-tag-entry}
 use Rattle.rules.proofs.Invariant.{WordsAre, Place, WaitIs}
+use Rattle.rules.proofs.Parts.{length-set-of}
 use Rattle.rules.proofs.TagRecords.{WorkIs, told-is, kept-is}
 use Rattle.rules.proofs.Unchanged.{unchanged-refl}
 
@@ -85,15 +85,6 @@ module _ (n : Nav) (l : Log) (prn : ℕ) (v : WordsAre n l) (p : prnValid prn �
         v .bytes prn 4 (place prn 4 p (omega arith) (omega arith)),
         v .bytes prn 5 (place prn 5 p (omega arith) (omega arith)),
       ) refl
-
-length-packed : (l : List ℕ) (n : ℕ) → length (packed l n) ≡ n
-unfolding packed
-length-packed l zero = refl
-length-packed l (suc n) = length-append (packed l n) (octet (drop (8 * n) l) ∷ []) ∙ rw (length-packed l n) (omega arith)
-
-length-set-of : (words : List ℕ) (prn : ℕ) → length (setOf words prn) ≡ 69
-unfolding setOf setBytes
-length-set-of words prn = length-packed _ 69
 
 -- ---- slots
 
@@ -191,7 +182,7 @@ module _ (o : Start) (b : State) (said : Verdict) (h : Held) (x : Entry) (l : Lo
     unfolding ownTag fieldTag chainWith
     tag-small =
         let n = tag-width-bound (msOf (contentsBy said)) in
-        (time-bound (sub .time) time-valid, (status-bound (headerOf (hkrootOf (sub .bytes) 15)), le-trans (bits-bound (mackOf (sub .bytes) 15) _ (tagWidth (msOf (contentsBy said)))) (pow-mono n)))
+        (time-bound (sub .time) time-valid, (status-bound (headerOf (hkrootOf (sub .bytes) 15)), le-trans (bits-lt (mackOf (sub .bytes) 15) _ (tagWidth (msOf (contentsBy said)))) (pow-mono n)))
 
     -- outcome 5: neither 4 nor 3 applies, and the tag has a delay
     five-waits : (count : ℕ) → outcomeAt j count ≡ 5 → WaitIs o (contentsBy said) (tagEntry (tagAt j) (setAt j)) (x ∷ l)

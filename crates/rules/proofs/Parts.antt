@@ -1,6 +1,6 @@
--- Laws of byte strings: zeros, parts of parts, zeros after a short one, and what stands beside a splice. Assumes nothing.
+-- Laws of byte strings: zeros, parts, lengths of what is read by bits, zeros after a short one, and what stands beside a splice. Assumes nothing.
 use Prim.Native.Nat.{ℕ, zero, suc, _+_, _-_, _≤_, _<_}
-use mathlib.Core.Path.{_≡_, refl, sym, _∙_, ap}
+use mathlib.Core.Path.{_≡_, refl, sym, _∙_}
 use mathlib.Core.Logic.{_⊎_, ⊎-elim}
 use mathlib.Core.List.{List}
 use native.Mathlib.Omega.{arith}
@@ -8,7 +8,8 @@ use lib.ListN.{length, getD, take, replicate, length-append, length-replicate, l
 use lib.Seq.{ext-getD, take-at, take-all}
 use Rattle.laws.specs.Lists.{part, splice}
 use Rattle.laws.proofs.Splice.{getD-splice-below, getD-splice-past, part-splice-below, part-splice-past, length-part, getD-part}
-use Rattle.rules.specs.Bits.{filled}
+use Rattle.rules.specs.Bits.{bytesAt, packed, filled}
+use Rattle.rules.specs.Navdata.{setOf, setBytes}
 
 -- ---- zeros
 
@@ -33,18 +34,21 @@ pub part-whole : (l : List ℕ) (n : ℕ) → length l ≡ n → part l 0 n ≡ 
 unfolding part
 part-whole l n h = take-all n l (omega arith)
 
-pub part-part : (l : List ℕ) (a n b m : ℕ) → a + n ≤ length l → b + m ≤ n → part (part l a n) b m ≡ part l (a + b) m
-part-part l a n b m h k =
-    let p : length (part l a n) ≡ n = length-part l a n h in
-    let q : length (part (part l a n) b m) ≡ m = length-part (part l a n) b m (omega arith) in
-    let r : length (part l (a + b) m) ≡ m = length-part l (a + b) m (omega arith) in
-    ext-getD 0 _ _ (q ∙ sym r)
-    (λ i g.
-    let e : a + (b + i) ≡ a + b + i = omega arith in
-    getD-part (part l a n) b m i (omega arith)
-    ∙ getD-part l a n (b + i) (omega arith)
-    ∙ ap (λ (k : ℕ). getD l k 0) e
-    ∙ sym (getD-part l (a + b) m i (omega arith)))
+-- ---- bytes at any bit, packed bits, a set
+
+pub length-bytesAt : (s : List ℕ) (at n : ℕ) → length (bytesAt s at n) ≡ n
+unfolding bytesAt
+length-bytesAt s at zero = refl
+length-bytesAt s at (suc n) = rw (length-append, length-bytesAt s at n) (omega arith)
+
+pub length-packed : (l : List ℕ) (n : ℕ) → length (packed l n) ≡ n
+unfolding packed
+length-packed l zero = refl
+length-packed l (suc n) = rw (length-append, length-packed l n) (omega arith)
+
+pub length-set-of : (words : List ℕ) (prn : ℕ) → length (setOf words prn) ≡ 69
+unfolding setOf setBytes
+length-set-of words prn = length-packed _ 69
 
 -- ---- "short ones followed by zeros"
 

@@ -3,14 +3,14 @@
 use Prim.Native.Nat.{ℕ, zero, suc}
 use mathlib.Core.Path.{_≡_, refl}
 use mathlib.Core.Logic.{_≢_}
-use mathlib.Core.Bool.{Bool, true, false, cond}
+use mathlib.Core.Bool.{false, cond}
 use mathlib.Core.List.{List, [], _∷_}
 use lib.Dec.{eqb, leb}
-use lib.ListN.{length, set}
+use lib.ListN.{length}
 use Rattle.laws.specs.Refusal.{firstOf, unless}
 use Rattle.laws.proofs.Refusal.{by-test, unless-refused}
 use Rattle.rules.specs.Bits.{anyOf}
-use Rattle.rules.specs.Calls.{Start, Word, Subframe, SubframeTold, HkrootDone, MackDone, startCall, startChecks, fresh, wordCall, wordChecks, wordTaken, verdictCall, verdictChecks, subframeCall, subframeChecks, halvesDone, noted, hkrootHalf, storeDone, krootDone, pkrDone, mackHalf, sectionProved, setRead, offerRead}
+use Rattle.rules.specs.Calls.{Start, Word, Subframe, SubframeTold, HkrootDone, MackDone, startCall, startChecks, wordCall, wordChecks, verdictCall, verdictChecks, subframeCall, subframeChecks, halvesDone, noted, hkrootHalf, storeDone, krootDone, pkrDone, mackHalf, sectionProved}
 use Rattle.rules.specs.Claim.{Kept, Refused, between}
 use Rattle.rules.specs.Gather.{gathered, hkrootOf, mackOf, headerOf, dsmIdOf}
 use Rattle.rules.specs.Log.{start, word, subframe, verdict, readSet, readOffer, step}

@@ -7,7 +7,7 @@ use lib.ListN.{take, replicate}
 use Rattle.laws.specs.Bytes.{be4, u32at}
 use Rattle.laws.specs.Lists.{part, splice, same}
 use Rattle.rules.specs.Bits.{bit, bits, filled}
-use Rattle.rules.specs.Calls.{markValid, marksValid, startUnfit, startLengths, startChecks, fresh, startCall, wordUnfit, wordChecks, wordTaken, wordCall, subframeChecks, noted, subframeCall}
+use Rattle.rules.specs.Calls.{markValid, marksValid, startUnfit, startLengths, startChecks, fresh, startCall, wordUnfit, wordChecks, wordCall, subframeChecks, subframeCall}
 use Rattle.rules.specs.Kroot.{noOffer}
 use Rattle.rules.specs.Navdata.{wordType, svidOf}
 use Rattle.rules.specs.PublicKeys.{keyLength, withKey}

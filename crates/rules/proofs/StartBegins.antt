@@ -3,7 +3,7 @@
 use Prim.Native.Nat.{ℕ, suc, _+_, _-_, _*_, _≤_, _<_}
 use mathlib.Core.Path.{_≡_, refl, sym, _∙_, ap}
 use mathlib.Core.Logic.{_≢_, ⊎-elim}
-use mathlib.Core.Bool.{Bool, true, false, not}
+use mathlib.Core.Bool.{true, false, not}
 use mathlib.Core.List.{List, [], _∷_, _++_}
 use native.Mathlib.Omega.{arith}
 use lib.Dec.{eqb, ltb}
@@ -24,7 +24,7 @@ use Rattle.rules.specs.Navdata.{wordAt, wordPlace}
 use Rattle.rules.specs.PublicKeys.{keyLength, keyHeld, keyType, keyBytes, withKey}
 use Rattle.rules.specs.State.{State, nsOf, treeRoot, shaped, wordsLength, stampsLength, dsmIds, pubkeysLength, satellites}
 use Rattle.rules.proofs.Choices.{no, not-zero}
-use Rattle.rules.proofs.Invariant.{Inv, WordsAre, BlocksAre, KeysAre, SetsAre, Place, heldkey}
+use Rattle.rules.proofs.Invariant.{Inv, WordsAre, BlocksAre, KeysAre, SetsAre, heldkey}
 use Rattle.rules.proofs.KeyPlaces.{keyNumber, added-number, added-bytes, other-number}
 use Rattle.rules.proofs.Later.{entry, refused-inv}
 use Rattle.rules.proofs.Marks.{none-marked}

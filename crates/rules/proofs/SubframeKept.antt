@@ -15,7 +15,7 @@ use Rattle.rules.specs.Calls.{Start, Subframe, SubframeTold, HkrootDone,
 use Rattle.rules.specs.Claim.{Fair, MarkBacked}
 use Rattle.rules.specs.Gather.{hkrootOf, mackOf, headerOf}
 use Rattle.rules.specs.Log.{subframe, Reply, nothing, Entry, Log, step, stateAt}
-use Rattle.rules.specs.State.{State, shaped, prnValid}
+use Rattle.rules.specs.State.{State, shaped, prnValid, areaLength}
 use Rattle.rules.specs.Times.{timeValid}
 use Rattle.rules.proofs.Choices.{answered, by-number, not-zero}
 use Rattle.rules.proofs.HkrootKept.{HkrootIs, hkroot-is}
@@ -86,7 +86,7 @@ fit : (s : State) (area : List ℕ) (sub : Subframe) → firstOf (subframeChecks
 unfolding subframeChecks
 fit s area sub h =
     let c = clear (subframeChecks s area sub) tt h in
-    let a = not-false (shaped s && (eqb (length area) 3240 && eqb (length (sub .bytes)) 75)) (c .0) in
+    let a = not-false (shaped s && (eqb (length area) areaLength && eqb (length (sub .bytes)) 75)) (c .0) in
     let t = neither (not (prnValid (sub .prn))) (not (timeValid (sub .time))) (c .1 .0) in
     record { size = sized s (and-left (shaped s) _ a); time = not-false (timeValid (sub .time)) (t .1) }
 

@@ -86,7 +86,7 @@ backing-later records r (inr s) = inr (record { tag = s .tag; place = s .place; 
 
 -- ---- a record
 
-length-record : (outcome : ℕ) (t : Tag) (issue : ℕ) → length (tagRecord outcome t issue) ≡ 12
+pub length-record : (outcome : ℕ) (t : Tag) (issue : ℕ) → length (tagRecord outcome t issue) ≡ 12
 unfolding tagRecord be2 be4
 length-record outcome t issue = refl
 

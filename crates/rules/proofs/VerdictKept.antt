@@ -1,6 +1,6 @@
 -- Verdicts: what is in force is the message of the last verdict that counts, vouched for; what waits over a new root has its chain unchanged and is not
 -- before it.
-use Prim.Native.Nat.{ℕ, zero, suc, _+_, _*_, _/_, _≤_, _<_}
+use Prim.Native.Nat.{ℕ, zero, suc, _+_, _/_, _≤_, _<_}
 use mathlib.Core.Path.{_≡_, refl, sym, _∙_, ap}
 use mathlib.Core.Logic.{inl, ⊎-elim}
 use mathlib.Core.Bool.{Bool, true, false, cond, _&&_, not}

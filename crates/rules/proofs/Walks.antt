@@ -1,14 +1,14 @@
 -- Steps down the key chain add up; the keys of a section have their width. Assumes nothing.
-use Prim.Native.Nat.{ℕ, zero, suc, _+_, _-_, _*_, _≤_}
-use mathlib.Core.Path.{_≡_, refl, sym, _∙_, ap}
-use mathlib.Core.List.{List, [], _∷_}
+use Prim.Native.Nat.{ℕ, zero, suc, _+_, _-_, _≤_}
+use mathlib.Core.Path.{_≡_, sym, _∙_, ap}
+use mathlib.Core.List.{List}
 use native.Mathlib.Nat.{suc-add, zero-add}
 use native.Mathlib.Omega.{arith}
-use lib.ListN.{length, length-append}
-use Rattle.rules.specs.Bits.{bits, bytesAt}
+use lib.ListN.{length}
 use Rattle.rules.specs.Chain.{keyStep, walk}
 use Rattle.rules.specs.Mack.{blockKey}
 use Rattle.rules.specs.declared.Chain.{Chain}
+use Rattle.rules.proofs.Parts.{length-bytesAt}
 
 -- a + b steps down are a steps and then b
 pub walk-add : (c : Chain) (a b m : ℕ) (key : List ℕ) → walk c (a + b) m key ≡ walk c b m (walk c a (m + b) key)
@@ -26,11 +26,6 @@ walk-through c high low key h =
     ap (λ (n : ℕ). walk c low 0 (walk c (high - low) n key)) (sym z)
     ∙ sym (walk-add c (high - low) low 0 key)
     ∙ ap (λ (n : ℕ). walk c n 0 key) sum
-
-length-bytesAt : (s : List ℕ) (at n : ℕ) → length (bytesAt s at n) ≡ n
-unfolding bytesAt
-length-bytesAt s at zero = refl
-length-bytesAt s at (suc n) = length-append (bytesAt s at n) (bits s (at + 8 * n) 8 ∷ []) ∙ rw (length-bytesAt s at n) (omega arith)
 
 pub key-width : (c : Chain) (m : List ℕ) (b : ℕ) → length (blockKey c m b) ≡ c .width
 unfolding blockKey

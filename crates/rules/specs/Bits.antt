@@ -1,9 +1,8 @@
 -- Bits and bytes of byte strings (01: "high byte first; bit 0 is the most significant").
 -- One definition serves every offset and every width.
 use Prim.Native.Nat.{ℕ, zero, suc, _+_, _-_, _*_, _/_, _%_, _^_}
-use mathlib.Core.Bool.{Bool, true, false, cond, _&&_, _||_}
+use mathlib.Core.Bool.{Bool, true, false, _&&_, _||_}
 use mathlib.Core.List.{List, [], _∷_, _++_}
-use lib.Dec.{eqb}
 use lib.ListN.{length, getD, drop, replicate}
 unfoldable pub use Rattle.laws.specs.Lists.{same}
 

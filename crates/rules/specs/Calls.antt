@@ -10,13 +10,13 @@ use Rattle.laws.specs.Refusal.{Check, refuse, firstOf, unless, neb}
 use Rattle.rules.specs.Bits.{filled, same, anyOf, within}
 use Rattle.rules.specs.Chain.{Held, held}
 use Rattle.rules.specs.Gather.{hkrootOf, mackOf, headerOf, statusOf, cidOf, dsmIdOf, gathered, Gathered}
-use Rattle.rules.specs.PublicKeys.{keyLength, keyType, keyBytes, withKey, keyHeld}
-use Rattle.rules.specs.Kroot.{krootJudged, Offer, noOffer, chainWith, chainContents, inForce, offerWaits, offerId, offerMessage, offerSignature}
+use Rattle.rules.specs.PublicKeys.{keyLength, keyType, keyBytes, withKey}
+use Rattle.rules.specs.Kroot.{krootJudged, noOffer, chainWith, chainContents, inForce, offerWaits, offerId, offerMessage, offerSignature}
 use Rattle.rules.specs.Mack.{keysProved, Proved}
-use Rattle.rules.specs.Pkr.{pkrJudged, Renewed}
-use Rattle.rules.specs.State.{State, Nav, Store, Tesla, Auth, shaped, nsOf, treeRoot, stopped, lastSubframe, lastSubframeOf, lastWordOf, prnValid, heldSlot, waitingCount}
+use Rattle.rules.specs.Pkr.{pkrJudged}
+use Rattle.rules.specs.State.{State, Store, Auth, shaped, nsOf, treeRoot, stopped, lastSubframe, lastSubframeOf, lastWordOf, prnValid, heldSlot, waitingCount}
 use Rattle.rules.specs.State.{withConfig, withClocks, withNav, withStore, withPubkeys, withOffer, withTesla, withAuth}
-use Rattle.rules.specs.State.{clocksLength, wordsLength, stampsLength, blocksLength, dsmIds, pubkeysLength, chainLength, heldkeyLength, waitingLength, setsLength, satellites}
+use Rattle.rules.specs.State.{clocksLength, wordsLength, stampsLength, blocksLength, dsmIds, pubkeysLength, chainLength, heldkeyLength, waitingLength, setsLength, satellites, areaLength}
 use Rattle.rules.specs.Tags.{Section, Work, duesJudged, ownsJudged}
 use Rattle.rules.specs.Times.{timeValid, stampOf, secondsOf}
 use Rattle.rules.specs.Verdict.{Verdict, vouchChecks, judgedVerdict, cidInForce}
@@ -254,7 +254,7 @@ pub record SubframeTold : Type 0 where
 -- "Checks go 1, 2, 4, 3, 5"; row 3: "sub-frame earlier than the last, or not later for its PRN"
 unfoldable pub subframeChecks : State → List ℕ → Subframe → List Check
 subframeChecks s area x =
-    refuse (not (shaped s && (eqb (length area) 3240 && eqb (length (x .bytes)) 75))) 1
+    refuse (not (shaped s && (eqb (length area) areaLength && eqb (length (x .bytes)) 75))) 1
     ∷ refuse (not (prnValid (x .prn)) || not (timeValid (x .time))) 2
     ∷ refuse (stopped (s .config)) 4
     ∷ refuse (ltb (stampOf (x .time)) (lastSubframe (s .clocks)) || leb (stampOf (x .time)) (lastSubframeOf (s .clocks) (x .prn))) 3

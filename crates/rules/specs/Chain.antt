@@ -1,9 +1,9 @@
 -- The TESLA key chain (01, "Times and slots", "MACK"; 000, 5.4). One definition serves every key width.
-use Prim.Native.Nat.{ℕ, zero, suc, _+_, _-_, _*_}
-use mathlib.Core.Bool.{Bool, true, false, cond, not, _&&_, _||_}
-use mathlib.Core.List.{List, [], _∷_, _++_}
-use lib.Dec.{leb, ltb, eqb}
-use lib.ListN.{length, take}
+use Prim.Native.Nat.{ℕ, zero, suc, _+_, _-_}
+use mathlib.Core.Bool.{Bool, cond}
+use mathlib.Core.List.{List, _++_}
+use lib.Dec.{ltb}
+use lib.ListN.{take}
 use Rattle.laws.specs.Bytes.{be4}
 use Rattle.sha256.specs.Sha256.{sha256}
 use Rattle.rules.specs.Bits.{same}

@@ -4,7 +4,7 @@
 -- How to read it. A record holds where all its fields do. `a ≡ b`: a equals b; `a ≢ b`: it does not. `P → Q`: P implies Q; `(n : ℕ) → P`: P of every
 -- number n; `P × Q`: both. `Once P l`: P was so of an entry of the log l and of the entries older than it. `part s a n`: the n bytes of s from place a
 -- on. `some v`: there is one, and it is v. `origin` is always the accepted start of the list, `began` the state that it left.
-use Prim.Native.Nat.{ℕ, suc, _+_, _-_, _*_, _≤_, _<_}
+use Prim.Native.Nat.{ℕ, suc, _-_, _*_, _≤_, _<_}
 use mathlib.Core.Path.{_≡_}
 use mathlib.Core.Logic.{_≢_}
 use mathlib.Core.Bool.{Bool, true, false, cond}

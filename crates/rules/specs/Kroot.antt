@@ -1,16 +1,16 @@
 -- DSM-KROOT: its fields, checks and signed message (01, "DSM-KROOT fields stand as in 000 table 7"; 000, 3.3 and 5.1).
 -- The contents of a message are its bytes after the NMA header, zeros after a short root: 44 bytes. A DSM has the same bytes from its
 -- byte 1 on, so one set of readers serves the DSM, the message that waits and the chain in force.
-use Prim.Native.Nat.{ℕ, zero, suc, _+_, _-_, _*_, _/_, _%_}
-use mathlib.Core.Bool.{Bool, true, false, cond, not, _&&_, _||_}
+use Prim.Native.Nat.{ℕ, _+_, _-_, _*_, _/_, _%_}
+use mathlib.Core.Bool.{Bool, cond, not, _&&_}
 use mathlib.Core.List.{List, [], _∷_, _++_}
 use lib.Dec.{leb, ltb, eqb}
 use lib.ListN.{length, getD, replicate}
 use Rattle.laws.specs.Lists.{part}
 use Rattle.laws.specs.Refusal.{Check, refuse, firstOf, unless, neb}
-use Rattle.rules.specs.Bits.{bits, filled, same, anyOf, within}
+use Rattle.rules.specs.Bits.{bits, filled, anyOf}
 use Rattle.rules.specs.PublicKeys.{keyHeld, keyType, signatureLength}
-use Rattle.rules.specs.State.{macltOf, chainLength, offerLength}
+use Rattle.rules.specs.State.{macltOf, offerLength}
 use Rattle.rules.specs.Times.{hourSeconds}
 use Rattle.rules.specs.declared.Chain.{Chain}
 

@@ -1,10 +1,9 @@
 -- MACK sections: fields, keys and spare bits (01, "MACK"; 000, 4).
 -- A section is 60 bytes in NMACK blocks; a block is its fields, the key, then zero bits. One definition serves every key and tag width.
 use Prim.Native.Nat.{ℕ, zero, suc, _+_, _-_, _*_, _/_, _%_}
-use mathlib.Core.Bool.{Bool, true, false, cond, not, _&&_, _||_}
-use mathlib.Core.List.{List, [], _∷_, _++_}
-use lib.Dec.{leb, ltb, eqb}
-use lib.ListN.{length}
+use mathlib.Core.Bool.{Bool, not, _||_}
+use mathlib.Core.List.{List, [], _∷_}
+use lib.Dec.{ltb}
 use Rattle.laws.specs.Refusal.{Check, refuse, firstOf, unless, neb}
 use Rattle.rules.specs.Bits.{bits, bytesAt}
 use Rattle.rules.specs.Chain.{Held, keyFits, higher, sentSlot}

@@ -1,9 +1,9 @@
 -- I/NAV words and navigation sets (01, "A word is 16 bytes, type in bits 0 to 5 .."; layouts of the OS SIS ICD).
-use Prim.Native.Nat.{ℕ, zero, suc, _+_, _-_, _*_}
-use mathlib.Core.Bool.{Bool, cond, not, _&&_, _||_}
+use Prim.Native.Nat.{ℕ, _+_, _-_, _*_}
+use mathlib.Core.Bool.{Bool}
 use mathlib.Core.List.{List, [], _∷_, _++_}
-use lib.Dec.{leb, ltb, eqb}
-use lib.ListN.{length, getD}
+use lib.Dec.{eqb}
+use lib.ListN.{getD}
 use lib.ListN.{set}
 use Rattle.laws.specs.Lists.{part, splice}
 use Rattle.rules.specs.Bits.{bits, bitList, packed, allOf, within}

@@ -4,12 +4,12 @@ use mathlib.Core.Path.{_≡_}
 use mathlib.Core.List.{List, [], _∷_}
 use lib.ListN.{getD, take, replicate}
 use Rattle.laws.specs.Refusal.{firstOf}
-use Rattle.rules.specs.Calls.{Start, Subframe, fresh, subframeChecks}
+use Rattle.rules.specs.Calls.{Start, fresh, subframeChecks}
 use Rattle.rules.specs.Chain.{held}
 use Rattle.rules.specs.Gather.{blocksFor, gathered}
 use Rattle.rules.specs.Kroot.{fieldsFor, krootChecks}
 use Rattle.rules.specs.Mack.{blockChecks}
-use Rattle.rules.specs.State.{setsLength, satellites}
+use Rattle.rules.specs.State.{blocksLength, dsmIds, setsLength, satellites, areaLength}
 use Rattle.rules.specs.Tags.{setsEntered}
 use Rattle.rules.specs.Times.{stampOf, gst, gstOf, slotOf, slotSeconds, hourSeconds, tagSlot}
 
@@ -32,12 +32,12 @@ blankStart = record { ns = 36; id = 0; type = 0; maclt = 0; marks = replicate 28
 -- the number for a sub-frame at this second of week 947, to a core that has just started
 abbrev pub numberAtSecond : ℕ → ℕ
 numberAtSecond second =
-    firstOf (subframeChecks (fresh blankStart) (replicate 3240 0) (record { prn = 18; time = gst 947 second; bytes = replicate 75 1 }))
+    firstOf (subframeChecks (fresh blankStart) (replicate areaLength 0) (record { prn = 18; time = gst 947 second; bytes = replicate 75 1 }))
 
 -- the number for a first block 0 with this NB
 abbrev pub numberForBlocks : ℕ → ℕ
 numberForBlocks nb =
-    (gathered (record { blocks = replicate 3328 0; headers = replicate 16 0; present = replicate 16 0; since = replicate 16 0 }) (gst 947 432000) (0x52 ∷ 0 ∷ nb * 16 ∷ replicate 12 0)) .code
+    (gathered (record { blocks = replicate blocksLength 0; headers = replicate dsmIds 0; present = replicate dsmIds 0; since = replicate dsmIds 0 }) (gst 947 432000) (0x52 ∷ 0 ∷ nb * 16 ∷ replicate 12 0)) .code
 
 -- the number for a DSM-KROOT of KS 128, NMACK 3 and this MS code, under a held key of type 0: 7 blocks, the rest zeros
 abbrev pub numberForTagSize : ℕ → ℕ

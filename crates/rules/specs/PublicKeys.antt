@@ -1,10 +1,10 @@
 -- The public keys held, by key ID 0 to 15 (01, "HKROOT" and "Verdicts"): a place of 68 bytes each, the type plus 1 and the key's bytes,
 -- zeros after a short key. The first byte is 0 where none is held.
 use Prim.Native.Nat.{ℕ, zero, suc, _+_, _-_, _*_}
-use mathlib.Core.Bool.{Bool, true, false, cond, not, _&&_, _||_}
-use mathlib.Core.List.{List, [], _∷_, _++_}
-use lib.Dec.{leb, ltb, eqb}
-use lib.ListN.{length, getD, replicate}
+use mathlib.Core.Bool.{Bool, false, not, _&&_, _||_}
+use mathlib.Core.List.{List, [], _∷_}
+use lib.Dec.{eqb}
+use lib.ListN.{getD, replicate}
 use Rattle.laws.specs.Lists.{part, splice}
 use Rattle.rules.specs.Bits.{filled, same, within}
 

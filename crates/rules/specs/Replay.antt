@@ -10,7 +10,7 @@ use Rattle.laws.specs.Lists.{part}
 use Rattle.laws.specs.Refusal.{unless, neb}
 use Rattle.rules.specs.Calls.{Start, Word, Subframe, startCall, wordCall, subframeCall, verdictCall}
 use Rattle.rules.specs.State.{State}
-use Rattle.rules.specs.State.{configLength, clocksLength, wordsLength, stampsLength, blocksLength, dsmIds, pubkeysLength, offerLength, chainLength, numbersLength, heldkeyLength, waitingLength, setsLength, satellites}
+use Rattle.rules.specs.State.{configLength, clocksLength, wordsLength, stampsLength, blocksLength, dsmIds, pubkeysLength, offerLength, chainLength, numbersLength, heldkeyLength, waitingLength, setsLength, satellites, areaLength}
 use Rattle.rules.specs.Verdict.{Verdict}
 
 -- ---- a record as a call
@@ -195,7 +195,7 @@ blankCore =
 
 -- before the first record
 unfoldable pub unread : Replay
-unread = record { session = record { core = blankCore; area = replicate 3240 0; started = 0 }; place = 0 }
+unread = record { session = record { core = blankCore; area = replicate areaLength 0; started = 0 }; place = 0 }
 
 -- what the program prints for an input of any length
 unfoldable pub replay : List ℕ → List ℕ

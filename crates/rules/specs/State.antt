@@ -1,11 +1,11 @@
 -- The state of the core: one list for each region that the caller lends, and what the regions mean.
 -- Every definition is total: it gives an answer for any contents, also for ones that no start ever leaves. Such contents are read by a
 -- stated value (a number of satellites outside 1 to 36 as 1, and so on), so that every call has a stated effect.
-use Prim.Native.Nat.{ℕ, zero, suc, _+_, _-_, _*_}
-use mathlib.Core.Bool.{Bool, cond, not, _&&_, _||_}
-use mathlib.Core.List.{List, [], _∷_, _++_}
+use Prim.Native.Nat.{ℕ, _+_}
+use mathlib.Core.Bool.{Bool, cond, not}
+use mathlib.Core.List.{List, [], _∷_}
 use lib.Dec.{leb, ltb, eqb}
-use lib.ListN.{length, getD, replicate}
+use lib.ListN.{length, getD}
 use Rattle.laws.specs.Lists.{part}
 use Rattle.rules.specs.Bits.{allOf, within}
 
@@ -148,6 +148,10 @@ setsLength = 2484
 -- satellites that are heard
 abbrev pub satellites : ℕ
 satellites = 36
+
+-- the area lent for the records of a sub-frame: 256 of tags that waited and 14 others, 12 bytes each
+abbrev pub areaLength : ℕ
+areaLength = 3240
 
 -- the length of each region is right
 abbrev pub shapes : State → List Bool

@@ -1,14 +1,14 @@
 -- Tags: messages, outcomes, records, waiting tags and authentic sets (01, "MACK"; 000, 5.5 and 5.6).
 use Prim.Native.Nat.{ℕ, zero, suc, _+_, _-_, _*_, _/_, _%_, _^_}
-use mathlib.Core.Bool.{Bool, true, false, cond, not, _&&_, _||_}
+use mathlib.Core.Bool.{Bool, true, false, cond, not, _&&_}
 use mathlib.Core.List.{List, [], _∷_, _++_}
 use lib.Dec.{leb, ltb, eqb}
-use lib.ListN.{length, getD, set}
+use lib.ListN.{getD, set}
 use Rattle.laws.specs.Bytes.{be2, be4, u32at}
 use Rattle.laws.specs.Lists.{part, splice}
-use Rattle.laws.specs.Refusal.{Check, refuse, firstOf, neb}
+use Rattle.laws.specs.Refusal.{refuse, firstOf, neb}
 use Rattle.hmac.specs.Hmac.{hmac}
-use Rattle.rules.specs.Bits.{bits, bitList, packed, anyOf, within}
+use Rattle.rules.specs.Bits.{bits, bitList, packed, anyOf}
 use Rattle.rules.specs.Chain.{Held, keyOfSlot, keySlot}
 use Rattle.rules.specs.Mack.{fieldTag, fieldInfo, macseqOf}
 use Rattle.rules.specs.State.{Nav, markOf, prnValid}

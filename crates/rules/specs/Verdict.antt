@@ -1,15 +1,15 @@
 -- Verdicts of the signature chip (01, "Verdicts").
-use Prim.Native.Nat.{ℕ, zero, suc, _+_, _-_, _*_, _/_}
-use mathlib.Core.Bool.{Bool, true, false, cond, not, _&&_, _||_}
+use Prim.Native.Nat.{ℕ, zero, suc, _+_, _/_}
+use mathlib.Core.Bool.{Bool, cond, not, _&&_, _||_}
 use mathlib.Core.List.{List, [], _∷_, _++_}
 use lib.Dec.{leb, ltb, eqb}
-use lib.ListN.{length, getD, drop, set}
+use lib.ListN.{length, getD, set}
 use Rattle.laws.specs.Lists.{part, splice}
-use Rattle.laws.specs.Refusal.{Check, refuse, firstOf, unless, neb}
+use Rattle.laws.specs.Refusal.{Check, refuse, unless, neb}
 use Rattle.rules.specs.Bits.{filled, same, anyOf, allOf, within}
 use Rattle.rules.specs.Gather.{statusOf, cidOf}
 use Rattle.rules.specs.PublicKeys.{withoutLower}
-use Rattle.rules.specs.Kroot.{cidkrOf, nmackOf, hfOf, mfOf, ksOf, msOf, macltFieldOf, moOf, alphaOf, krootOf, rootSecondsOf, rootWeekOf, rootHourOf}
+use Rattle.rules.specs.Kroot.{cidkrOf, nmackOf, hfOf, mfOf, ksOf, msOf, macltFieldOf, moOf, alphaOf, krootOf, rootSecondsOf}
 use Rattle.rules.specs.Kroot.{offerWaits, offerId, offerMessage, offerSignature, noOffer, chainContents, inForce, everForced}
 use Rattle.rules.specs.State.{State, Tesla, waitingCount, withPubkeys, withOffer, withChain, withTesla}
 use Rattle.rules.specs.Tags.{entryAt, entryTag}

@@ -1,15 +1,12 @@
 -- The claim of the worked run taken apart: the four things of demand 3 hold of real bytes, each shown by computing it, without the theorem. The slow
 -- tag's record is backed by the OLD set, and so is the read after it. So the claim is not empty. Assumes nothing.
-use Prim.Native.Nat.{ℕ, zero, suc}
-use mathlib.Core.Path.{_≡_, refl}
-use mathlib.Core.Bool.{true, false}
-use mathlib.Core.List.{List, [], _∷_, _++_}
-use mathlib.Core.Option.{some}
+use mathlib.Core.Path.{refl}
+use mathlib.Core.Bool.{false}
+use mathlib.Core.List.{_∷_}
 use lib.Count.{ones}
-use lib.ListN.{replicate}
 use borrow.Author.Tests.{ltb-true, leb-true}
-use Rattle.rules.specs.Claim.{Arrived, Disclosed, Vouched, given, FourThings, Marked, SetBacked, Fair, chainBy}
-use Rattle.rules.specs.Log.{Entry, Log, Once, here, earlier}
+use Rattle.rules.specs.Claim.{Arrived, Disclosed, Vouched, given, FourThings, Marked, SetBacked, chainBy}
+use Rattle.rules.specs.Log.{Log, here, earlier}
 use Rattle.rules.specs.State.{State}
 use Rattle.rules.specs.declared.Chain.{Chain}
 use Rattle.rules.specs.declared.Tag.{Tag}

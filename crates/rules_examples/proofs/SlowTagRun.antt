@@ -69,7 +69,7 @@ fields (h ∷ hs) (a ∷ b ∷ c ∷ []) = []
 fields (h ∷ hs) (a ∷ b ∷ c ∷ d ∷ m) = h ∷ a ∷ b ∷ c ∷ d ∷ fields hs m
 
 abbrev pub area : List ℕ
-area = replicate 3240 0
+area = replicate State.areaLength 0
 
 -- block k of the DSM, from satellite k + 1
 abbrev pub blockOf : ℕ → Subframe

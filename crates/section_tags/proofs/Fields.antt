@@ -12,7 +12,7 @@ use lib.Dec.{eqb, ltb}
 use lib.ListN.{length, length-append}
 use borrow.Author.Tests.{eq-eqb, ne-eqb, eqb-true, ltb-true}
 use Rattle.laws.specs.Lists.{splice}
-use Rattle.laws.proofs.Splice.{either, splice-append, splice-nil}
+use Rattle.laws.proofs.Splice.{either, splice-nil, splice-after}
 use Rattle.laws.proofs.Tests.{true-false, neither}
 use Rattle.laws.specs.Refusal.{neb}
 use Rattle.rules.specs.Bits.{anyOf}
@@ -23,10 +23,10 @@ use Rattle.rules.specs.Times.{delayOf}
 use Rattle.rules.specs.Navdata.{usable, setOf}
 use Rattle.rules.specs.declared.Chain.{Chain}
 use Rattle.rules.specs.declared.Tag.{Tag}
-use Rattle.navdata.proofs.Sets.{length-set-of}
-use Rattle.waiting_tags.proofs.Entries.{length-tag-entry}
+use Rattle.rules.proofs.Parts.{length-set-of}
+use Rattle.rules.proofs.Entries.{length-tag-entry}
+use Rattle.rules.proofs.TagRecords.{length-record}
 use Rattle.tag_records.specs.Told.{start, Tells, Leaves}
-use Rattle.tag_records.proofs.Told.{length-record}
 use Rattle.section_tags.specs.Own.{outcomeBy, settled, Grows}
 
 -- ---- outcomes
@@ -91,10 +91,6 @@ one-judged config n c h x j fits w p o set t e f s v q =
     rw (q, e) (field-judged config n c h x j fits w p set f s (λ u. v (rw e u) ∙ ap (λ (i : Tag). i .prn) e))
 
 -- ---- a tag's work adds to what was there
-
--- a part right after another
-pub right-after : (d s t : List ℕ) (a b : ℕ) → a + length s ≡ b → b + length t ≤ length d → splice (splice d a s) b t ≡ splice d a (s ++ t)
-right-after d s t a b e h = rw (← e) (splice-append d a s t (omega arith))
 
 -- `settled` by whether the tag waits
 abbrev by-wait : Bool → ℕ → Tag → List ℕ → Work → Work
@@ -243,13 +239,13 @@ module _ (config : List ℕ) (n : Nav) (c : Chain) (h : Held) (x : Section) (wai
         entries =
             m .entries
             ∙ rw (same-work, l .entries, field-kept config n c h x k w)
-            (right-after waiting (w .kept) ((one config n c h x k w) .kept) (count * 84) (r * 84) (omega (arith, g .more, g .kept-long)) (omega arith));
+            (splice-after waiting (count * 84) (r * 84) (w .kept) ((one config n c h x k w) .kept) (omega (arith, g .more, g .kept-long)) (omega arith));
         sets = m .sets ∙ rw (same-work) (sym (field-sets config n c h x k w));
         arrivals = m .arrivals ∙ rw (same-work) (sym (field-arrivals config n c h x k w));
         records =
             m .records
             ∙ rw (same-work, l .records, field-records config n c h x k w)
-            (right-after area (w .records) ((one config n c h x k w) .records) (at * 12) ((at + k) * 12) (omega (arith, g .records-long)) (omega arith));
+            (splice-after area (at * 12) ((at + k) * 12) (w .records) ((one config n c h x k w) .records) (omega (arith, g .records-long)) (omega arith));
         count = m .count ∙ rw (same-work) (sym (field-count config n c h x k w));
       }
 

@@ -11,8 +11,9 @@ use Rattle.rules.specs.State.{Nav}
 use Rattle.rules.specs.Tags.{Work, Section, ownsJudged}
 use Rattle.rules.specs.declared.Chain.{Chain}
 use Rattle.tag_records.specs.Told.{start, Leaves, Counts}
+use Rattle.laws.proofs.Splice.{splice-after}
 use Rattle.section_tags.specs.Own.{Behind, Grows}
-use Rattle.section_tags.proofs.Fields.{one, field-kept, field-records, field-sets, field-arrivals, field-count, right-after}
+use Rattle.section_tags.proofs.Fields.{one, field-kept, field-records, field-sets, field-arrivals, field-count}
 
 module _ (config : List ℕ) (n : Nav) (c : Chain) (h : Held) (x : Section) (w : Work) where
   abbrev alone : ℕ → Work
@@ -67,12 +68,12 @@ both-leave config n c h x waiting area waiting₁ sets₁ times₁ area₁ waiti
       record {
         entries =
             o .entries
-            ∙ rw (l .entries, b .kept-is) (right-after waiting (w .kept) (v .kept) 0 (r * 84) (omega arith) (omega arith));
+            ∙ rw (l .entries, b .kept-is) (splice-after waiting 0 (r * 84) (w .kept) (v .kept) (omega arith) (omega arith));
         sets = o .sets ∙ sym (b .sets-are);
         arrivals = o .arrivals ∙ sym (b .arrivals-are);
         records =
             o .records
-            ∙ rw (l .records, b .records-are) (right-after area (w .records) (v .records) 0 ((m - r) * 12) (omega arith) (omega arith));
+            ∙ rw (l .records, b .records-are) (splice-after area 0 ((m - r) * 12) (w .records) (v .records) (omega arith) (omega arith));
         count = o .count ∙ sym (b .count-is);
       },
       (

@@ -1,2 +1,2 @@
--- What the contracts of `own` and of its callers cite.
+-- What the contracts of `section_tags` and of its callers cite.
 pub mod Own

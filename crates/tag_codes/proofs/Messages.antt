@@ -2,15 +2,15 @@
 -- Assumes nothing.
 use mathlib.Core.Path.{_≡_, refl, ap, _∙_}
 use mathlib.Core.Bool.{Bool, true, false, cond}
-use mathlib.Core.List.{List, [], _∷_, _++_, append-assoc}
+use mathlib.Core.List.{List, [], _∷_, _++_}
 use Prim.Native.Nat.{ℕ, zero, suc, _+_, _-_, _/_, _%_, _≤_}
 use native.Mathlib.Omega.{arith}
 use native.Mathlib.Numerals.{add-one}
-use lib.ListN.{length, take, drop, length-append}
-use lib.Seq.{take-all, take-at, length-take-le}
+use lib.ListN.{length, take, drop}
+use lib.Seq.{take-all}
 use Rattle.laws.specs.Lists.{splice}
 use Rattle.laws.specs.Bytes.{be2, be4}
-use Rattle.laws.proofs.Splice.{length-splice, splice-append, splice-whole}
+use Rattle.laws.proofs.Splice.{length-splice, splice-append, splice-whole, take-splice}
 use Rattle.navdata.proofs.Sets.{length-status-and-set}
 use Rattle.rules.specs.Mack.{fieldInfo}
 use Rattle.rules.specs.Tags.{statusAndSet, firstMessage, tagMessage, macseqMessage, flexible}
@@ -46,14 +46,6 @@ unfolding tagMessage
 rest-of-message m t s e = rw e (take-all 75 (firstMessage t s) (omega (arith, length-first t s)))
 
 -- ---- MACSEQ
-
--- what is stored right after the first n bytes
-take-splice : (d : List ℕ) (n : ℕ) (x : List ℕ) → n + length x ≤ length d → take (n + length x) (splice d n x) ≡ take n d ++ x
-unfolding splice
-take-splice d n x h =
-    let e : length (take n d) ≡ n = length-take-le n d (omega arith) in
-    let m : length (take n d ++ x) ≡ n + length x = simp (length-append, e) in
-    rw (← append-assoc (take n d) x (drop (length x) (drop n d))) (take-at (take n d ++ x) (drop (length x) (drop n d)) (n + length x) m)
 
 -- PRN_A and the time
 abbrev sender : ℕ → ℕ → List ℕ

@@ -18,6 +18,7 @@ ghost use Rattle.laws.specs.Bytes.{be2};
 ghost use Rattle.hmac.specs.Hmac.{keyOf};
 ghost use Rattle.rules.specs.Mack.{macseqOf};
 ghost use Rattle.rules.specs.Tags.{macBits, firstMessage, tagMessage, macseqMessage, flexible};
+ghost use Rattle.rules.specs.State.{configLength};
 ghost use Rattle.tags.specs.Layout.{Laid, section};
 
 // The first n bits of the code of a message, as a number.
@@ -32,7 +33,7 @@ pub fn mac_bits(n: usize, key: HmacKey, message: &[u8]) -> u64
 // ---- tags
 
 // A tag's message: PRN_N, then m0, which is the message of tag0.
-pub fn tag_message(t: Tag, set: &[u8], out: &mut [u8])
+fn tag_message(t: Tag, set: &[u8], out: &mut [u8])
     requires { ⌜ (length (now set) ≡ 69) × (length (now out) ≡ 76) ⌝ }
     ensures { λ _. ⌜ now (out .exit) ≡ tagMessage t (now (set .entry)) ⌝ }
 {
@@ -76,7 +77,7 @@ pub fn tag_matches(ms: u64, key: HmacKey, first: bool, t: Tag, set: &[u8]) -> bo
 
 // The MAC-Info of field j, where it is flexible, into `out` from place n. Gives the place after it.
 fn put_info(config: &[u8], time: u32, j: usize, info: u16, out: &mut [u8], n: usize) -> usize
-    requires { ⌜ (length (now config) ≡ 63) × ((j < 14) × (n + 2 ≤ length (now out))) ⌝ }
+    requires { ⌜ (length (now config) ≡ configLength) × ((j < 14) × (n + 2 ≤ length (now out))) ⌝ }
     ensures { λ r. ⌜ (now (out .exit) ≡ splice (now (out .entry)) n (cond (flexible (now (config .entry)) time j) (be2 info) [])) × (r ≡ n + cond (flexible (now (config .entry)) time j) 2 0) ⌝ }
 {
     if tags::flexible(config, time, j) {
@@ -88,7 +89,7 @@ fn put_info(config: &[u8], time: u32, j: usize, info: u16, out: &mut [u8], n: us
 
 // The MACSEQ message in the front of `out`. Gives its length. The fields are taken off in order.
 fn macseq_message(config: &[u8], c: Chain, prn: u8, time: u32, mack: &[u8], out: &mut [u8]) -> usize
-    requires { ⌜ Laid c × (((length (now config) ≡ 63) × (length (now mack) ≡ 60)) × (length (now out) ≡ 33)) ⌝ }
+    requires { ⌜ Laid c × (((length (now config) ≡ configLength) × (length (now mack) ≡ 60)) × (length (now out) ≡ 33)) ⌝ }
     ensures { λ r. ⌜ (take r (now (out .exit)) ≡ macseqMessage (now (config .entry)) c (section prn time 0 (now (mack .entry))) (c .nmack * c .fields)) × (r ≤ 33) ⌝ }
 {
     let count = (c.nmack * c.fields) as usize;
@@ -122,7 +123,7 @@ fn macseq_code(key: HmacKey, message: &[u8], n: usize) -> u64
 
 // MACSEQ fits the flexible fields of the section, under the key of block 1's tags.
 pub fn macseq_fits(config: &[u8], c: Chain, prn: u8, time: u32, mack: &[u8], key: HmacKey) -> bool
-    requires { ⌜ Laid c × ((length (now config) ≡ 63) × (length (now mack) ≡ 60)) ⌝ }
+    requires { ⌜ Laid c × ((length (now config) ≡ configLength) × (length (now mack) ≡ 60)) ⌝ }
     ensures { λ r. ⌜ ((k : List ℕ) (status : ℕ) → key ≡ keyOf k → r ≡ eqb (macBits 12 k (macseqMessage (now (config .entry)) c (section prn time status (now (mack .entry))) (c .nmack * c .fields))) (macseqOf c (now (mack .entry)))) ⌝ }
 {
     let mut message = [0u8; 33];

@@ -1,19 +1,13 @@
 -- A record has 12 bytes; a record and a set that are the definitions' own are what a told tag leaves.
 -- Assumes nothing.
-use mathlib.Core.Path.{_≡_, refl, _∙_}
+use mathlib.Core.Path.{_≡_, _∙_}
 use mathlib.Core.Bool.{cond}
 use mathlib.Core.List.{List}
 use Prim.Native.Nat.{ℕ}
-use lib.ListN.{length}
-use Rattle.laws.specs.Bytes.{be2, be4}
 use Rattle.laws.specs.Lists.{splice}
 use Rattle.rules.specs.Tags.{told, marksSet, setsEntered, arrivalsEntered, tagRecord, recordIssue}
 use Rattle.rules.specs.declared.Tag.{Tag}
 use Rattle.tag_records.specs.Told.{start, Tells}
-
-pub length-record : (o : ℕ) (t : Tag) (i : ℕ) → length (tagRecord o t i) ≡ 12
-unfolding tagRecord be2 be4
-length-record o t i = refl
 
 -- the record and the set of a tag
 pub told-leaves : (o at issue : ℕ) (t : Tag) (set sets arrivals area sets′ arrivals′ area′ : List ℕ)

@@ -10,6 +10,7 @@ ghost use Prim.Native.Nat.{_+_, _≤_, _<_};
 ghost use lib.ListN.{length};
 ghost use Rattle.laws.specs.Lists.{splice};
 ghost use Rattle.rules.specs.Tags.{marksSet, setsEntered, arrivalsEntered, tagRecord, recordIssue, told};
+ghost use Rattle.rules.specs.State.{satellites, setsLength};
 ghost use Rattle.tag_records.specs.Told.{start, Tells};
 
 // ---- the set of an authentic tag
@@ -33,7 +34,7 @@ fn marks_set(outcome: u8, t: Tag) -> bool
 
 // The set of an authentic tag enters its satellite's place.
 fn enter(outcome: u8, t: Tag, set: &[u8], sets: &mut [u8], arrivals: &mut [u32])
-    requires { ⌜ ((length (now sets) ≡ 2484) × (length (now arrivals) ≡ 36)) × (length (now set) ≡ 69) ⌝ }
+    requires { ⌜ ((length (now sets) ≡ setsLength) × (length (now arrivals) ≡ satellites)) × (length (now set) ≡ 69) ⌝ }
     ensures { λ _. ⌜ (now (sets .exit) ≡ cond (marksSet outcome t) (setsEntered (now (sets .entry)) (now (arrivals .entry)) t (now (set .entry))) (now (sets .entry))) × (now (arrivals .exit) ≡ cond (marksSet outcome t) (arrivalsEntered (now (arrivals .entry)) t) (now (arrivals .entry))) ⌝ }
 {
     if marks_set(outcome, t) {
@@ -51,7 +52,7 @@ pub fn tell(
     area: &mut [u8],
     at: usize,
 )
-    requires { ⌜ ((length (now sets) ≡ 2484) × (length (now arrivals) ≡ 36)) × ((length (now set) ≡ 69) × (at + 12 ≤ length (now area))) ⌝ }
+    requires { ⌜ ((length (now sets) ≡ setsLength) × (length (now arrivals) ≡ satellites)) × ((length (now set) ≡ 69) × (at + 12 ≤ length (now area))) ⌝ }
     ensures { λ _. ⌜ Tells (told outcome t (now (set .entry)) (start 0 (now (sets .entry)) (now (arrivals .entry)))) at (now (area .entry)) (now (sets .exit)) (now (arrivals .exit)) (now (area .exit)) ⌝ }
 {
     let issue = record_issue(outcome, set);

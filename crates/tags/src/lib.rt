@@ -13,7 +13,7 @@ ghost use Prim.Native.Nat.{_*_, _<_};
 ghost use lib.ListN.{length};
 ghost use Rattle.laws.specs.Refusal.{refuse, firstOf};
 ghost use Rattle.rules.specs.Outcomes.{outcomeNumber};
-ghost use Rattle.rules.specs.State.{markOf};
+ghost use Rattle.rules.specs.State.{markOf, configLength};
 ghost use Rattle.rules.specs.Tags.{ownTag, secondHalf, notAllowed};
 ghost use Rattle.rules.specs.Tags as rules;
 ghost use Rattle.tags.specs.Layout.{Laid, section};
@@ -61,7 +61,7 @@ fn second_half(time: u32) -> bool
 
 // The mark of field j.
 fn mark_of(config: &[u8], half: bool, j: usize) -> u8
-    requires { ⌜ (length (now config) ≡ 63) × (j < 14) ⌝ }
+    requires { ⌜ (length (now config) ≡ configLength) × (j < 14) ⌝ }
     ensures { λ r. ⌜ r ≡ markOf (now (config .entry)) half j ⌝ }
 {
     if half {
@@ -72,7 +72,7 @@ fn mark_of(config: &[u8], half: bool, j: usize) -> u8
 
 // Field j has a flexible ADKD.
 pub fn flexible(config: &[u8], time: u32, j: usize) -> bool
-    requires { ⌜ (length (now config) ≡ 63) × (j < 14) ⌝ }
+    requires { ⌜ (length (now config) ≡ configLength) × (j < 14) ⌝ }
     ensures { λ r. ⌜ r ≡ rules.flexible (now (config .entry)) time j ⌝ }
 {
     mark_of(config, second_half(time), j) == 255
@@ -80,7 +80,7 @@ pub fn flexible(config: &[u8], time: u32, j: usize) -> bool
 
 // "4 ADKD not 0, 11, 12, or not the fixed one, or PRN not 1 to 36"
 pub fn not_allowed(config: &[u8], j: usize, t: Tag) -> bool
-    requires { ⌜ (length (now config) ≡ 63) × (j < 14) ⌝ }
+    requires { ⌜ (length (now config) ≡ configLength) × (j < 14) ⌝ }
     ensures { λ r. ⌜ r ≡ notAllowed (now (config .entry)) j t ⌝ }
 {
     let adkd = t.adkd;

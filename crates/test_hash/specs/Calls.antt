@@ -7,7 +7,7 @@ use lib.Dec.{leb}
 use lib.ListN.{length}
 use Rattle.laws.specs.Lists.{part}
 use Rattle.laws.specs.Refusal.{Check, refuse, firstOf, unless, neb}
-use Rattle.sha256.specs.Sha256.{sha256, compress}
+use Rattle.sha256.specs.Sha256.{sha256}
 use Rattle.hmac.specs.declared.HmacKey.{HmacKey}
 use Rattle.hmac.specs.Hmac.{hmac, keyOf, hmacWith}
 

@@ -8,14 +8,14 @@ use Prim.Native.Nat.{ℕ, _+_, _-_, _^_, _≤_, _<_}
 use native.Mathlib.Omega.{arith}
 use lib.Dec.{leb}
 use lib.ListN.{take}
-use borrow.Author.Tests.{leb-true, lt-leb, le-leb}
+use borrow.Author.Tests.{lt-leb, le-leb}
 use Rattle.laws.specs.Lists.{splice}
 use Rattle.laws.specs.Refusal.{firstOf}
 use Rattle.laws.proofs.Splice.{below?}
-use Rattle.laws.proofs.Tests.{and-left, and-right}
 use Rattle.rules.specs.Bits.{within}
 use Rattle.rules.specs.Chain as S
 use Rattle.rules.specs.declared.Chain.{Chain}
+use Rattle.rules.proofs.Bounds.{within-range}
 use Rattle.chain.specs.Sound.{Walks}
 use Rattle.test_leaves.specs.Numbers.{chainOf}
 use Rattle.test_leaves.specs.Walk.{gave, walkChecks, osnmaWalk}
@@ -29,9 +29,6 @@ passes a n e = rw e
 pub refused : (c : Chain) (n m : ℕ) (key : List ℕ) → firstOf (walkChecks (c .ns) (c .nmack) (c .root) (c .width) n m) ≡ 1 → gave 1 key ≡ osnmaWalk c n m key
 unfolding osnmaWalk
 refused c n m key e = rw e
-
-between : (low high x : ℕ) → within low high x ≡ true → (low ≤ x) × (x ≤ high)
-between low high x e = (leb-true low x (and-left (leb low x) (leb x high) e), leb-true x high (and-right (leb low x) (leb x high) e))
 
 -- a sum compared without being made
 pub without-sum : (n m : ℕ) → m ≤ 2 ^ 34 → leb n (2 ^ 34 - m) ≡ leb (m + n) (2 ^ 34)
@@ -75,9 +72,9 @@ module _ (ns nmack root width n m : ℕ) where
 
           pub walks : (alpha : List ℕ) → Walks (chainOf ns nmack root alpha width 0 0)
           walks alpha =
-              let x = between 1 36 ns a in
-              let y = between 1 3 nmack b in
-              let z = between 12 32 width d in
+              let x = within-range 1 36 ns a in
+              let y = within-range 1 3 nmack b in
+              let z = within-range 12 32 width d in
               record { ns-low = x .0; ns-high = x .1; nmack-low = y .0; nmack-high = y .1; root-high = r; width-low = z .0; width-high = z .1 }
 
           pub accepted : leb (m + n) (2 ^ 34) ≡ true → (alpha key out : List ℕ)

@@ -5,6 +5,7 @@ ghost use Prim.Native.Nat.{ℕ, _≤_};
 ghost use lib.ListN.{length};
 ghost use Rattle.rules.specs.Kroot as Kroot;
 ghost use Rattle.rules.specs.Verdict.{namesOffer, chainUnchanged};
+ghost use Rattle.rules.specs.State.{chainLength, configLength, offerLength, pubkeysLength};
 ghost use Rattle.test_leaves.specs.Numbers.{chainNumbers};
 
 #[no_mangle]
@@ -15,7 +16,7 @@ pub extern "C" fn leaf_kroot_judge(
     header: u8,
     d: &[u8],
 ) -> u32
-    requires { ⌜ ((length (now pubkeys) ≡ 1088) × (length (now config) ≡ 63)) × ((length (now offer) ≡ 179) × (91 ≤ length (now d))) ⌝ }
+    requires { ⌜ ((length (now pubkeys) ≡ pubkeysLength) × (length (now config) ≡ configLength)) × ((length (now offer) ≡ offerLength) × (91 ≤ length (now d))) ⌝ }
     ensures { λ r. ⌜ (r ≡ (Kroot.krootJudged (now (pubkeys .entry)) (now (config .entry)) (now (offer .entry)) header (now (d .entry))) .code) × (now (offer .exit) ≡ (Kroot.krootJudged (now (pubkeys .entry)) (now (config .entry)) (now (offer .entry)) header (now (d .entry))) .offer) ⌝ }
 {
     kroot::kroot_judge(pubkeys, config, offer, header, d)
@@ -24,7 +25,7 @@ pub extern "C" fn leaf_kroot_judge(
 // Whether a verdict names what waits: 1 where it does.
 #[no_mangle]
 pub extern "C" fn leaf_names_offer(offer: &[u8], id: u8, message: &[u8], signature: &[u8]) -> u32
-    requires { ⌜ length (now offer) ≡ 179 ⌝ }
+    requires { ⌜ length (now offer) ≡ offerLength ⌝ }
     ensures { λ r. ⌜ ((good : ℕ) → r ≡ cond (namesOffer (now (offer .entry)) (record { good = good; id = id; message = now (message .entry); signature = now (signature .entry) })) 1 0) ⌝ }
 {
     bools::number(kroot::names_offer(offer, id, message, signature))
@@ -32,7 +33,7 @@ pub extern "C" fn leaf_names_offer(offer: &[u8], id: u8, message: &[u8], signatu
 
 #[no_mangle]
 pub extern "C" fn leaf_in_force(config: &[u8], chain: &[u8]) -> u32
-    requires { ⌜ (length (now config) ≡ 63) × (length (now chain) ≡ 45) ⌝ }
+    requires { ⌜ (length (now config) ≡ configLength) × (length (now chain) ≡ chainLength) ⌝ }
     ensures { λ r. ⌜ r ≡ cond (Kroot.inForce (now (config .entry)) (now (chain .entry))) 1 0 ⌝ }
 {
     bools::number(kroot::in_force(config, chain))

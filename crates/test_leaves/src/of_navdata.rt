@@ -6,6 +6,7 @@ ghost use lib.ListN.{length};
 ghost use Rattle.laws.specs.Lists.{splice};
 ghost use Rattle.rules.specs.Navdata as Navdata;
 ghost use Rattle.rules.specs.Tags.{statusAndSet};
+ghost use Rattle.rules.specs.State.{stampsLength, wordsLength};
 ghost use Rattle.navdata.specs.Pieces.{nav};
 
 #[no_mangle]
@@ -17,7 +18,7 @@ pub extern "C" fn leaf_store_word(
     w: &[u8],
     stamp: u32,
 )
-    requires { ⌜ ((length (now words) ≡ 2880) × (length (now stamps) ≡ 180)) × (length (now w) ≡ 16) ⌝ }
+    requires { ⌜ ((length (now words) ≡ wordsLength) × (length (now stamps) ≡ stampsLength)) × (length (now w) ≡ 16) ⌝ }
     requires { ⌜ ((1 ≤ prn) × (prn ≤ 36)) × ((1 ≤ kind) × (kind ≤ 5)) ⌝ }
     ensures { λ _. ⌜ nav (now (words .exit)) (now (stamps .exit)) ≡ Navdata.wordStored (nav (now (words .entry)) (now (stamps .entry))) prn kind (now (w .entry)) stamp ⌝ }
 {
@@ -26,7 +27,7 @@ pub extern "C" fn leaf_store_word(
 
 #[no_mangle]
 pub extern "C" fn leaf_usable(words: &[u8], stamps: &[u32], prn: usize, t: u32) -> u32
-    requires { ⌜ ((length (now words) ≡ 2880) × (length (now stamps) ≡ 180)) × ((1 ≤ prn) × (prn ≤ 36)) ⌝ }
+    requires { ⌜ ((length (now words) ≡ wordsLength) × (length (now stamps) ≡ stampsLength)) × ((1 ≤ prn) × (prn ≤ 36)) ⌝ }
     ensures { λ r. ⌜ r ≡ cond (Navdata.usable (nav (now (words .entry)) (now (stamps .entry))) prn t) 1 0 ⌝ }
 {
     bools::number(navdata::usable(words, stamps, prn, t))
@@ -34,7 +35,7 @@ pub extern "C" fn leaf_usable(words: &[u8], stamps: &[u32], prn: usize, t: u32) 
 
 #[no_mangle]
 pub extern "C" fn leaf_set_bytes(words: &[u8], prn: usize, out: &mut [u8], to: usize)
-    requires { ⌜ ((length (now words) ≡ 2880) × ((1 ≤ prn) × (prn ≤ 36))) × (to + 69 ≤ length (now out)) ⌝ }
+    requires { ⌜ ((length (now words) ≡ wordsLength) × ((1 ≤ prn) × (prn ≤ 36))) × (to + 69 ≤ length (now out)) ⌝ }
     ensures { λ _. ⌜ now (out .exit) ≡ splice (now (out .entry)) to (Navdata.setOf (now (words .entry)) prn) ⌝ }
 {
     navdata::set_bytes(words, prn, out, to);
@@ -42,7 +43,7 @@ pub extern "C" fn leaf_set_bytes(words: &[u8], prn: usize, out: &mut [u8], to: u
 
 #[no_mangle]
 pub extern "C" fn leaf_set_of(words: &[u8], prn: usize, out: &mut [u8; 69])
-    requires { ⌜ (length (now words) ≡ 2880) × ((1 ≤ prn) × (prn ≤ 36)) ⌝ }
+    requires { ⌜ (length (now words) ≡ wordsLength) × ((1 ≤ prn) × (prn ≤ 36)) ⌝ }
     ensures { λ _. ⌜ now (out .exit) ≡ Navdata.setOf (now (words .entry)) prn ⌝ }
 {
     let set = navdata::set_of(words, prn);

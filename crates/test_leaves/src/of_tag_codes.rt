@@ -8,6 +8,7 @@ ghost use lib.Dec.{eqb};
 ghost use lib.ListN.{length};
 ghost use Rattle.rules.specs.Mack.{macseqOf};
 ghost use Rattle.rules.specs.Tags.{macBits, firstMessage, tagMessage, macseqMessage};
+ghost use Rattle.rules.specs.State.{configLength};
 ghost use Rattle.tags.specs.Layout.{Laid, section};
 ghost use Rattle.test_leaves.specs.Numbers.{laidOut, tagOf};
 
@@ -64,7 +65,7 @@ pub extern "C" fn leaf_macseq_fits(
     mack: &[u8],
     key: &[u8],
 ) -> u32
-    requires { ⌜ Laid (laidOut nmack ms fields) × ((length (now config) ≡ 63) × (length (now mack) ≡ 60)) ⌝ }
+    requires { ⌜ Laid (laidOut nmack ms fields) × ((length (now config) ≡ configLength) × (length (now mack) ≡ 60)) ⌝ }
     requires { ⌜ length (now key) < 2 ^ 61 ⌝ }
     ensures { λ r. ⌜ ((status : ℕ) → r ≡ cond (eqb (macBits 12 (now (key .entry)) (macseqMessage (now (config .entry)) (laidOut nmack ms fields) (section prn time status (now (mack .entry))) (nmack * fields))) (macseqOf (laidOut nmack ms fields) (now (mack .entry)))) 1 0) ⌝ }
 {

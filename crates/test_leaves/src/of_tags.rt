@@ -8,6 +8,7 @@ ghost use lib.Dec.{eqb};
 ghost use lib.ListN.{length};
 ghost use Rattle.laws.specs.Refusal.{refuse, firstOf};
 ghost use Rattle.rules.specs.Tags.{ownTag, flexible, notAllowed};
+ghost use Rattle.rules.specs.State.{configLength};
 ghost use Rattle.tags.specs.Layout.{Laid, section};
 ghost use Rattle.test_leaves.specs.Numbers.{laidOut, tagOf, tagNumbers};
 
@@ -56,7 +57,7 @@ fn tag_numbers(t: Tag) -> [u64; 8]
 
 #[no_mangle]
 pub extern "C" fn leaf_flexible(config: &[u8], time: u32, j: usize) -> u32
-    requires { ⌜ (length (now config) ≡ 63) × (j < 14) ⌝ }
+    requires { ⌜ (length (now config) ≡ configLength) × (j < 14) ⌝ }
     ensures { λ r. ⌜ r ≡ cond (flexible (now (config .entry)) time j) 1 0 ⌝ }
 {
     bools::number(tags::flexible(config, time, j))
@@ -64,7 +65,7 @@ pub extern "C" fn leaf_flexible(config: &[u8], time: u32, j: usize) -> u32
 
 #[no_mangle]
 pub extern "C" fn leaf_not_allowed(config: &[u8], j: usize, prn: u8, adkd: u8, time: u32) -> u32
-    requires { ⌜ (length (now config) ≡ 63) × (j < 14) ⌝ }
+    requires { ⌜ (length (now config) ≡ configLength) × (j < 14) ⌝ }
     ensures { λ r. ⌜ r ≡ cond (notAllowed (now (config .entry)) j (tagOf 0 prn adkd 0 0 time 0 0)) 1 0 ⌝ }
 {
     let t = Tag {

@@ -10,6 +10,7 @@ ghost use Rattle.laws.specs.Lists.{splice};
 ghost use Rattle.rules.specs.Chain.{held};
 ghost use Rattle.rules.specs.Tags.{tagEntry, isDue};
 ghost use Rattle.rules.specs.Verdict.{staying};
+ghost use Rattle.rules.specs.State.{waitingLength};
 ghost use Rattle.test_leaves.specs.Numbers.{counted, tagOf};
 
 #[no_mangle]
@@ -44,7 +45,7 @@ pub extern "C" fn leaf_put_entry(
 
 #[no_mangle]
 pub extern "C" fn leaf_keep_staying(waiting: &mut [u8], root: u64, n: usize) -> usize
-    requires { ⌜ (length (now waiting) ≡ 21504) × (n ≤ 256) ⌝ }
+    requires { ⌜ (length (now waiting) ≡ waitingLength) × (n ≤ 256) ⌝ }
     ensures { λ r. ⌜ (now (waiting .exit) ≡ splice (now (waiting .entry)) 0 (staying root (now (waiting .entry)) n)) × ((length (staying root (now (waiting .entry)) n) ≡ r * 84) × (r ≤ n)) ⌝ }
 {
     waiting_tags::keep_staying(waiting, root, n)

@@ -1,12 +1,12 @@
 -- Times and slots stay in range, and a GST_SF in 32 bits has the bytes of the whole.
 -- Assumes nothing.
-use mathlib.Core.Path.{_≡_, refl, sym, ap, _∙_}
-use mathlib.Core.Bool.{Bool, true, false, cond, _&&_}
+use mathlib.Core.Path.{_≡_}
+use mathlib.Core.Bool.{Bool, true, false, cond}
 use Prim.Native.Nat.{ℕ, _+_, _-_, _*_, _/_, _%_, _^_, _≤_, _<_}
 use native.Mathlib.Nat.{mul-le-mul, mul-pos, mod-lt, div-le-self}
 use native.Mathlib.Omega.{arith}
-use lib.Dec.{ltb, leb, eqb}
-use borrow.Author.Tests.{leb-true, lt-ltb}
+use lib.Dec.{ltb, eqb}
+use borrow.Author.Tests.{lt-ltb}
 use Rattle.laws.specs.Bytes.{be4}
 use Rattle.rules.specs.Times as S
 
@@ -39,11 +39,6 @@ subframe-bound root seconds = omega arith
 pub gst-low : (w s : ℕ) → s < 2 ^ 20 → (w * 2 ^ 20 + s) % 2 ^ 32 ≡ w % 4096 * 2 ^ 20 + s
 gst-low w s h = omega arith
 
--- seconds before week 4096 give a GST_SF of 32 bits
-pub gst-bound : (n : ℕ) → n < 4096 * 604800 → S.gstOf n < 2 ^ 32
-unfolding S.gstOf S.gst
-gst-bound n h = omega arith
-
 -- the four bytes of a number are those of its low 32 bits
 pub be4-low : (x : ℕ) → be4 (x % 2 ^ 32) ≡ be4 x
 unfolding be4
@@ -53,15 +48,6 @@ be4-low x =
     let c : x % 2 ^ 32 / 256 ^ 1 % 256 ≡ x / 256 ^ 1 % 256 = omega arith in
     let d : x % 2 ^ 32 % 256 ≡ x % 256 = omega arith in
     rw (a, b, c, d)
-
--- a time has a stamp of 32 bits
-pub stamp-bound : (g : ℕ) → g < 2 ^ 32 → S.timeValid g ≡ true → S.stampOf g < 2 ^ 32
-unfolding S.timeValid S.stampOf S.secondOf
-stamp-bound g h v = go (leb (g % 2 ^ 20) 604770) refl v
-  where
-    go : (b : Bool) → leb (g % 2 ^ 20) 604770 ≡ b → b && (eqb (g % 2 ^ 20 % 30) 0 && ltb (S.weekOf g) 4096) ≡ true → g + 1 < 2 ^ 32
-    go true e v = let k = leb-true (g % 2 ^ 20) 604770 e in omega arith
-    go false e v = let z : _≡_ {A = ℕ} 0 1 = cc in absurd (omega arith)
 
 -- a slot's sum, product by product
 pub slot-products : (ns nmack s b : ℕ) → ns ≤ 36 → nmack ≤ 3 → s < 2 ^ 33 → b < 256

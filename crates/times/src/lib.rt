@@ -71,7 +71,7 @@ pub fn slot_of(ns: u64, nmack: u64, s: u64, b: u64, p: u64) -> u64
 }
 
 // The lowest slot of block b of sub-frame s.
-pub fn lowest_slot(ns: u64, nmack: u64, s: u64, b: u64) -> u64
+fn lowest_slot(ns: u64, nmack: u64, s: u64, b: u64) -> u64
     requires { ⌜ ((1 ≤ ns) × (ns ≤ 36)) × ((nmack ≤ 3) × ((s < 2 ^ 33) × (b < 256))) ⌝ }
     ensures { λ r. ⌜ r ≡ S.lowestSlot ns nmack s b ⌝ }
 {

@@ -3,39 +3,23 @@
 use mathlib.Core.Path.{_≡_, refl, sym, ap, _∙_}
 use mathlib.Core.Bool.{Bool, true, false, cond}
 use mathlib.Core.List.{List, [], _∷_, _++_}
-use Prim.Native.Nat.{ℕ, zero, suc, _+_, _*_, _/_, _%_, _≤_, _<_}
+use Prim.Native.Nat.{ℕ, _+_, _*_, _/_, _%_, _≤_, _<_}
 use native.Mathlib.Omega.{arith}
 use native.Mathlib.Numerals.{add-one}
 use lib.ListN.{length, take, getD, set, length-append}
-use lib.Seq.{ext-getD, length-take-le}
+use lib.Seq.{length-take-le}
 use Rattle.laws.specs.Lists.{part, splice}
 use Rattle.laws.specs.Bytes.{be4}
-use Rattle.laws.proofs.Splice.{length-part, getD-part, splice-more, splice-append, splice-nil, part-splice-past, getD-splice-past}
+use Rattle.laws.proofs.Splice.{length-part, getD-part, splice-more, splice-append, splice-nil, part-splice-past, getD-splice-past, part-part, splice-after}
 use Rattle.rules.specs.Tags.{tagEntry, entryAt, entrySet}
 use Rattle.rules.specs.Verdict.{keyNotBefore, staying}
 use Rattle.rules.specs.declared.Tag.{Tag}
-
--- a part of a part
-pub part-part : (l : List ℕ) (a n b m : ℕ) → a + n ≤ length l → b + m ≤ n → part (part l a n) b m ≡ part l (a + b) m
-part-part l a n b m h k =
-    let lp : length (part l a n) ≡ n = length-part l a n h in
-    let lq : length (part (part l a n) b m) ≡ m = length-part (part l a n) b m (omega arith) in
-    ext-getD 0 _ _ (lq ∙ sym (length-part l (a + b) m (omega arith)))
-    (λ i r.
-    let e : a + (b + i) ≡ a + b + i = omega arith in
-    getD-part (part l a n) b m i (omega arith)
-    ∙ getD-part l a n (b + i) (omega arith)
-    ∙ ap (λ (j : ℕ). getD l j 0) e
-    ∙ sym (getD-part l (a + b) m i (omega arith)))
+use Rattle.rules.proofs.Entries.{length-entry}
 
 -- the set of entry k in the region
 pub set-in-region : (w : List ℕ) (k : ℕ) → k * 84 + 84 ≤ length w → part w (k * 84 + 15) 69 ≡ entrySet (entryAt w k)
 unfolding entrySet entryAt
 set-in-region w k h = sym (part-part w (k * 84) 84 15 69 h (omega arith))
-
-pub length-entry : (w : List ℕ) (k : ℕ) → k * 84 + 84 ≤ length w → length (entryAt w k) ≡ 84
-unfolding entryAt
-length-entry w k h = length-part w (k * 84) 84 h
 
 -- ---- the bytes of an entry: 15, then the set
 
@@ -51,10 +35,6 @@ unfolding tagEntry be4
 entry-spliced w a t s h e =
     let n : length (head t) ≡ 15 = refl in
     splice-append w a (head t) s (omega arith)
-
-pub length-tag-entry : (t : Tag) (s : List ℕ) → length s ≡ 69 → length (tagEntry t s) ≡ 84
-unfolding tagEntry be4
-length-tag-entry t s e = omega arith
 
 -- ---- bytes that move to an earlier place
 
@@ -73,13 +53,6 @@ moved d from to n i p q r =
 pub untouched : (w s : List ℕ) (kept k : ℕ) → length s ≡ kept * 84 → kept ≤ k → k * 84 + 84 ≤ length w → entryAt (splice w 0 s) k ≡ entryAt w k
 unfolding entryAt
 untouched w s kept k e p h = part-splice-past w 0 s (omega arith) (k * 84) 84 (omega arith) h
-
--- an entry after those that were closed up
-pub closed-up : (w s e : List ℕ) (kept : ℕ) → length s ≡ kept * 84 → kept * 84 + length e ≤ length w
-    → splice (splice w 0 s) (kept * 84) e ≡ splice w 0 (s ++ e)
-closed-up w s e kept p h =
-    let q : 0 + length s ≡ kept * 84 = omega arith in
-    rw (← q) (splice-append w 0 s e (omega arith))
 
 -- by a test: how long the kept entries are then
 pub longer : (b : Bool) (s e : List ℕ) (kept : ℕ) → length s ≡ kept * 84 → length e ≡ 84 → length (s ++ cond b e []) ≡ (kept + cond b 1 0) * 84
@@ -108,7 +81,7 @@ module _ (root : ℕ) (w v u : List ℕ) (k kept r : ℕ) (p : kept ≤ k) (h : 
   stay-region =
       let b : Bool = keyNotBefore root (entryAt w k) in
       let m = at-most b (entryAt w k) (length-entry w k h) in
-      f ∙ rw (same-entry, e, add-one k) (closed-up w (staying root w k) (cond b (entryAt w k) []) kept l (omega arith))
+      f ∙ rw (same-entry, e, add-one k) (splice-after w 0 (kept * 84) (staying root w k) (cond b (entryAt w k) []) (omega arith) (omega arith))
 
   pub stay-length : (length (staying root w (k + 1)) ≡ r * 84) × (r ≤ k + 1)
   unfolding staying

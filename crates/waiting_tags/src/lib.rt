@@ -17,6 +17,7 @@ ghost use Rattle.laws.specs.Lists.{part, splice};
 ghost use Rattle.rules.specs.Chain.{held};
 ghost use Rattle.rules.specs.Tags.{tagEntry, entryAt, entryTag, entrySet, isDue};
 ghost use Rattle.rules.specs.Verdict.{keyNotBefore, staying};
+ghost use Rattle.rules.specs.State.{waitingLength};
 
 // ---- an entry
 
@@ -136,7 +137,7 @@ fn keep_one(waiting: &mut [u8], root: u64, k: usize, kept: usize) -> usize
 
 // Those of the first n waiting tags that stay at a new root close up, in order. Gives their number.
 pub fn keep_staying(waiting: &mut [u8], root: u64, n: usize) -> usize
-    requires { ⌜ (length (now waiting) ≡ 21504) × (n ≤ 256) ⌝ }
+    requires { ⌜ (length (now waiting) ≡ waitingLength) × (n ≤ 256) ⌝ }
     ensures { λ r. ⌜ (now (waiting .exit) ≡ splice (now (waiting .entry)) 0 (staying root (now (waiting .entry)) n)) × ((length (staying root (now (waiting .entry)) n) ≡ r * 84) × (r ≤ n)) ⌝ }
 {
     let mut kept: usize = 0;

@@ -8,8 +8,9 @@ use borrow.Author.Needs.{needs}
 use lib.ListN.{length, set}
 use denote.Ref.{now}
 use Rattle.rules.specs.Bits.{bits, bytesAt}
+use Rattle.rules.proofs.Parts.{length-bytesAt}
 use Rattle.laws.specs.Lists.{splice}
-use Rattle.bitfields.proofs.Fields.{bytesAt-more, length-bytesAt, splice-push}
+use Rattle.bitfields.proofs.Fields.{bytesAt-more, splice-push}
 use Rattle.laws.proofs.Splice.{splice-nil, length-splice}
 use Rattle.bitfields.proofs.bytes_to.Statement.{statement}
 use Rattle.bitfields.proofs.bytes_to.Tie as tie

@@ -3,7 +3,8 @@
 use native.Mathlib.Omega.{arith}
 use borrow.Author.Needs.{needs}
 use denote.Ref.{now}
-use Rattle.bitfields.proofs.Fields.{bits-lt, bits-small}
+use Rattle.rules.proofs.Bounds.{bits-lt}
+use Rattle.bitfields.proofs.Fields.{bits-small}
 use Rattle.bitfields.proofs.field_at.Statement.{statement}
 use Rattle.bitfields.proofs.field_at.Tie as tie
 

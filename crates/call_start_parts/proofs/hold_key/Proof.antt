@@ -5,7 +5,7 @@ use lib.ListN.{length-take}
 use denote.Ref.{now}
 use borrow.Author.Needs.{needs}
 use native.Mathlib.Omega.{arith}
-use Rattle.public_keys.proofs.Keys.{key-bound}
+use Rattle.rules.proofs.Bounds.{key-length-bound}
 use Rattle.call_start_parts.proofs.Cleared.{cleared, key-held}
 use Rattle.call_start_parts.proofs.hold_key.Statement.{statement}
 use Rattle.call_start_parts.proofs.hold_key.Tie as tie
@@ -13,13 +13,13 @@ use Rattle.call_start_parts.proofs.hold_key.Tie as tie
 part-add-key-end : tie.Need-part-add-key-end
 part-add-key-end c =
     let p = c .before .before .before .before .before .before .before .before in
-    omega (arith, c .before .key-length .ensures, key-bound (p .args .kind), p .pre .0 .1)
+    omega (arith, c .before .key-length .ensures, key-length-bound (p .args .kind), p .pre .0 .1)
 
 add-key-requires : tie.Need-add-key-requires
 add-key-requires c κs =
     let p = c .before .before .before .before .before .before .before .before .before in
     let n = c .before .before .key-length in
-    ((c .before .before .before .before .before .fill .kept .0 ∙ p .pre .0 .0, omega arith), (omega arith, simp length-take (omega (arith, n .ensures, key-bound (p .args .kind)))))
+    ((c .before .before .before .before .before .fill .kept .0 ∙ p .pre .0 .0, omega arith), (omega arith, simp length-take (omega (arith, n .ensures, key-length-bound (p .args .kind)))))
 
 returns : tie.Need-returns
 returns c =

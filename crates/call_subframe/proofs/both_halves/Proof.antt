@@ -4,8 +4,8 @@ use mathlib.Core.Path.{_≡_, refl, ap, _∙_}
 use native.Mathlib.Omega.{arith}
 use lib.ListN.{length}
 use denote.Ref.{now}
-use Rattle.rules.specs.Calls.{hkrootHalf, mackHalf}
-use Rattle.rules.specs.Gather.{hkrootOf, mackOf, headerOf}
+use Rattle.rules.specs.Calls.{hkrootHalf}
+use Rattle.rules.specs.Gather.{headerOf}
 use Rattle.rules.specs.State.{state}
 use Rattle.call_subframe.specs.Told.{subframe}
 use Rattle.call_subframe.proofs.Subframes.{stops, goes-on}

@@ -1,11 +1,10 @@
 -- `call_subframe::subframe_refusal` meets its contract: the checks in the rule's order.
 -- Assumes nothing.
 use mathlib.Core.Path.{_≡_, sym, _∙_}
-use mathlib.Core.Bool.{true, false}
+use mathlib.Core.Bool.{true}
 use Prim.Native.Nat.{_<_, _≤_}
 use native.Mathlib.Omega.{arith}
 use borrow.Author.Tests.{not-true, not-false}
-use denote.Ref.{now}
 use Rattle.regions.proofs.Faults.{time-small}
 use Rattle.rules.specs.State.{prnValid, stopped}
 use Rattle.rules.specs.Times.{timeValid}

@@ -6,10 +6,9 @@ use lib.Dec.{eqb}
 use lib.ListN.{length}
 use borrow.Author.Tests.{eq-eqb}
 use denote.Ref.{now}
-use Rattle.regions.specs.Lengths.{Lengths}
-use Rattle.regions.proofs.Shapes.{lengths}
 use Rattle.rules.specs.Calls.{Subframe}
-use Rattle.rules.specs.State.{State, state, shaped}
+use Rattle.rules.specs.State.{State, state, shaped, areaLength}
+use Rattle.rules.proofs.Lengths.{Sized, sized}
 use Rattle.call_subframe.specs.Told.{subframe}
 use Rattle.call_subframe.proofs.Subframes.{refused, zero-bytes, accepted}
 use borrow.Author.Needs.{needs}
@@ -26,17 +25,17 @@ brought c = subframe (c .args .prn) (c .args .time) (now (c .args .bytes))
 abbrev entered : tie.After-subframe-refusal → tie.Start
 entered c = c .before .before .before .before .before .before .before .before .before .before .before .before .before .before .before .before .before .before .before .before .before
 
-long : (c : tie.Start) → Lengths (before c)
-long c = lengths (before c) (c .pre .0)
+long : (c : tie.Start) → Sized (before c)
+long c = sized (before c) (c .pre .0)
 
-fit : (c : tie.Start) → (shaped (before c) && (eqb (length (now (c .args .area))) 3240 && eqb (length (now (c .args .bytes))) 75)) ≡ true
-fit c = rw (c .pre .0, eq-eqb (length (now (c .args .area))) 3240 (c .pre .1 .0), eq-eqb (length (now (c .args .bytes))) 75 (c .pre .1 .1))
+fit : (c : tie.Start) → (shaped (before c) && (eqb (length (now (c .args .area))) areaLength && eqb (length (now (c .args .bytes))) 75)) ≡ true
+fit c = rw (c .pre .0, eq-eqb (length (now (c .args .area))) areaLength (c .pre .1 .0), eq-eqb (length (now (c .args .bytes))) 75 (c .pre .1 .1))
 
 subframe-refusal-requires : tie.Need-subframe-refusal-requires
 subframe-refusal-requires c κs = let l = long (c .before .before .before .before .before .before .before .before .before .before .before .before .before .before .before .before .before .before .before .before) in (l .config, l .clocks)
 
-note-requires : tie.Need-note-requires
-note-requires c κs =
+note-subframe-requires : tie.Need-note-subframe-requires
+note-subframe-requires c κs =
     let r = c .before .before in
     let k = r .subframe-refusal .ensures .1 .1 (c .before .if1 .taken) in
     ((long (entered r)) .clocks, (k .0 .1, k .1))
@@ -47,7 +46,7 @@ returns c =
     let d = n .before .before in
     let r = d .before in
     let a = entered r in
-    zero-bytes (before a) (now (a .args .area)) (brought a) _ (sym (d .if1 .taken) ∙ r .subframe-refusal .ensures .0 (before a) (now (a .args .area)) refl refl (fit a)) (n .note .ensures)
+    zero-bytes (before a) (now (a .args .area)) (brought a) _ (sym (d .if1 .taken) ∙ r .subframe-refusal .ensures .0 (before a) (now (a .args .area)) refl refl (fit a)) (n .note-subframe .ensures)
 
 returns-2 : tie.Need-returns-2
 returns-2 c =
@@ -56,8 +55,8 @@ returns-2 c =
     let a = entered r in
     refused (before a) (now (a .args .area)) (brought a) (r .subframe-refusal .result) (c .if2 .taken) (e .if1 .left) (r .subframe-refusal .ensures .0 (before a) (now (a .args .area)) refl refl (fit a))
 
-note-requires-2 : tie.Need-note-requires-2
-note-requires-2 c κs =
+note-subframe-requires-2 : tie.Need-note-subframe-requires-2
+note-subframe-requires-2 c κs =
     let e = c .before in
     let r = e .before .before in
     let k = r .subframe-refusal .ensures .1 .0 (e .if2 .left) in
@@ -81,21 +80,21 @@ returns-3 c =
     let e = n .before .before in
     let r = e .before .before in
     let a = entered r in
-    accepted (before a) (now (a .args .area)) (brought a) _ _ (sym (e .if2 .left) ∙ r .subframe-refusal .ensures .0 (before a) (now (a .args .area)) refl refl (fit a)) (n .note2 .ensures)
-    (h .both-halves .ensures (n .note2 .last .0))
+    accepted (before a) (now (a .args .area)) (brought a) _ _ (sym (e .if2 .left) ∙ r .subframe-refusal .ensures .0 (before a) (now (a .args .area)) refl refl (fit a)) (n .note-subframe2 .ensures)
+    (h .both-halves .ensures (n .note-subframe2 .last .0))
 
 pub take-subframe-spec : {M : Type 1} → statement M
 take-subframe-spec =
     tie.close
     (tie.spec
     subframe-refusal-requires
-    note-requires (λ c. search needs) (λ c. search needs)
+    note-subframe-requires (λ c. search needs) (λ c. search needs)
     returns (λ c. search needs) (λ c. search needs)
     returns-2
-    note-requires-2
+    note-subframe-requires-2
     both-halves-requires
     (λ c. (c .before .before .before .before .before .before .before .before .before .before .before .before .before .before .before .before .before .before .before .before .before .before .before .before .before .before) .both-halves .kept .0)
-    (λ c. (c .before .before .before .before .before .before .before .before .before .before .before .before .before .before .before .before .before .before .before .before .before .before .before .before .before .before .before .before .before .before .before .before .before .before .before .before .before .before .before .before .before .before) .note2 .kept .0)
+    (λ c. (c .before .before .before .before .before .before .before .before .before .before .before .before .before .before .before .before .before .before .before .before .before .before .before .before .before .before .before .before .before .before .before .before .before .before .before .before .before .before .before .before .before .before) .note-subframe2 .kept .0)
     (λ c. (c .before .before .before .before .before .before .before .before .before .before .before .before .before .before .before .before .before .before .before .before .before .before .before .before .before .before) .both-halves .kept .1 .1 .1 .0)
     (λ c. (c .before .before .before .before .before .before .before .before .before .before .before .before .before .before .before .before .before .before .before .before .before .before .before .before .before .before) .both-halves .kept .1 .1 .1 .1 .0)
     (λ c. (c .before .before .before .before .before .before .before .before .before .before .before .before .before .before .before .before .before .before .before .before .before .before .before .before .before .before) .both-halves .kept .1 .1 .1 .1 .1 .0)

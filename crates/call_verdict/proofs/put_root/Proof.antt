@@ -4,8 +4,8 @@ use mathlib.Core.Path.{ap, _∙_}
 use Prim.Native.Nat.{_≤_}
 use denote.Ref.{now}
 use native.Mathlib.Omega.{arith}
-use Rattle.kroot.proofs.Parameters.{width-bound}
 use Rattle.rules.specs.Kroot.{keyWidth}
+use Rattle.rules.proofs.Bounds.{key-width-bound}
 use Rattle.call_verdict.proofs.Regions.{root-written}
 use borrow.Author.Needs.{needs}
 use Rattle.call_verdict.proofs.put_root.Statement.{statement}
@@ -13,7 +13,7 @@ use Rattle.call_verdict.proofs.put_root.Tie as tie
 
 -- a key has at most 32 bytes
 width : (c : tie.After-key-width) → c .key-width .result ≤ 32
-width c = omega (arith, c .key-width .ensures, width-bound (c .before .ks .result))
+width c = omega (arith, c .key-width .ensures, key-width-bound (c .before .ks .result))
 
 copy-part-requires : tie.Need-copy-part-requires
 copy-part-requires c κs = let w = width (c .before) in (omega (arith, w), omega (arith, w))

@@ -1,10 +1,10 @@
 -- `gather::count_too_low` meets its contract: a count is at most 16, so that the marks can be shifted by it.
 -- Assumes nothing.
 use Rattle.rules.specs.Gather as Rule
+use Rattle.rules.proofs.Bounds.{total-bound}
 use borrow.Author.Tests.{eq-eqb, ne-eqb}
 use native.Mathlib.Omega.{arith}
 use Prim.Native.Nat.{_≤_}
-use Rattle.gather.proofs.Counts.{total-bound}
 use borrow.Author.Needs.{needs}
 use Rattle.gather.proofs.count_too_low.Statement.{statement}
 use Rattle.gather.proofs.count_too_low.Tie as tie

@@ -1,6 +1,7 @@
 -- `gather::take_out` meets its contract: each return is the case of the mark of block 0 and of the count.
 -- Assumes nothing.
 use Rattle.rules.specs.Gather as Rule
+use Rattle.rules.proofs.Bounds.{total-bound, total-least}
 use mathlib.Core.Path.{sym, _∙_}
 use borrow.Author.Tests.{not-true, not-false}
 use native.Mathlib.Omega.{arith}
@@ -8,7 +9,7 @@ use Prim.Native.Nat.{_≤_}
 use lib.Count.{ones-le}
 use lib.ListN.{getD}
 use denote.Ref.{now}
-use Rattle.gather.proofs.Counts.{total-bound, total-least, marked-counts}
+use Rattle.gather.proofs.Counts.{marked-counts}
 use Rattle.gather.proofs.Stores.{without-first, not-counted, counted}
 use borrow.Author.Needs.{needs}
 use Rattle.gather.proofs.take_out.Statement.{statement}

@@ -8,6 +8,7 @@ use borrow.Author.Needs.{needs}
 use native.Mathlib.Omega.{arith}
 use Rattle.laws.proofs.Splice.{length-part}
 use Rattle.rules.specs.Gather.{dsmIdOf}
+use Rattle.rules.specs.State.{blocksLength}
 use Rattle.hkroot_half.proofs.Halves.{nothing-complete, one-complete}
 use Rattle.hkroot_half.proofs.hkroot_half.Statement.{statement}
 use Rattle.hkroot_half.proofs.hkroot_half.Tie as tie
@@ -23,7 +24,7 @@ returns-2 c = λ s ec es ek eo.
     let d = c .before .before .before .before .before .before .complete .ensures in
     let e = rw (c .before .before .before .before .before .before .before .before .before .before .before .before .n .given .1) at (c .before .before .before .before .before .before .before .before .before .before .before .before .before .before .before .before .before .before .before .before .before .before .gather .ensures .0) in
     let q = rw (c .before .before .before .before .before .before .before .before .before .before .before .before .n .given .1) at (c .before .before .before .before .before .before .before .before .before .before .before .before .before .before .before .before .before .before .before .before .before .before .gather .ensures .1) in
-    let k : length (c .before .before .before .before .before .before .before .before .before .before .before .before .before .before .before .before .before .before .before .before .before .before .gather .last .0) ≡ 3328 = c .before .before .before .before .before .before .before .before .before .before .before .before .before .before .before .before .before .before .before .before .before .before .gather .kept .0 ∙ c .before .before .before .before .before .before .before .before .before .before .before .before .before .before .before .before .before .before .before .before .before .before .before .before .before .before .before .before .before .before .before .before .before .before .pre .0 .blocks-long in
+    let k : length (c .before .before .before .before .before .before .before .before .before .before .before .before .before .before .before .before .before .before .before .before .before .before .gather .last .0) ≡ blocksLength = c .before .before .before .before .before .before .before .before .before .before .before .before .before .before .before .before .before .before .before .before .before .before .gather .kept .0 ∙ c .before .before .before .before .before .before .before .before .before .before .before .before .before .before .before .before .before .before .before .before .before .before .before .before .before .before .before .before .before .before .before .before .before .before .pre .0 .blocks-long in
     let n = c .before .before .before .before .before .before .before .before .before .before .before .before .n .given .0 .0 in
     let hk = now (c .before .before .before .before .before .before .before .before .before .before .before .before .before .before .before .before .before .before .before .before .before .before .before .before .before .before .before .before .before .before .before .before .before .before .args .hk) in
     one-complete s _ _ _ _ _ (rw (length-part (c .before .before .before .before .before .before .before .before .before .before .before .before .before .before .before .before .before .before .before .before .before .before .gather .last .0) (dsmIdOf hk * 208) n (omega (arith, d .1, q .0, q .1, k))) (omega (arith, q .0))) (rw es e) (d .0 s _ ec ek eo)

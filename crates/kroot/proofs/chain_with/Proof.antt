@@ -2,20 +2,20 @@
 -- Assumes nothing.
 use native.Mathlib.Omega.{arith}
 use borrow.Author.Needs.{needs}
-use Rattle.kroot.proofs.Parameters.{width-bound, tag-bound}
 use Rattle.rules.specs.Kroot as S
+use Rattle.rules.proofs.Bounds.{key-width-bound, tag-width-bound}
 use Rattle.kroot.proofs.chain_with.Statement.{statement}
 use Rattle.kroot.proofs.chain_with.Tie as tie
 
 mul-fields-for : tie.Need-mul-fields-for
 mul-fields-for c =
     let w = c .before .before .before .before in
-    omega (arith, w .key-width .ensures, width-bound (w .before .ks .result))
+    omega (arith, w .key-width .ensures, key-width-bound (w .before .ks .result))
 
 fields-for-requires : tie.Need-fields-for-requires
 fields-for-requires c κs =
     let w = c .before .before in
-    omega (arith, w .tag-width .ensures, tag-bound (w .before .ms .result))
+    omega (arith, w .tag-width .ensures, tag-width-bound (w .before .ms .result))
 
 returns : tie.Need-returns
 unfolding S.chainWith

@@ -7,10 +7,11 @@ use denote.Ref.{now}
 use native.Mathlib.Omega.{arith}
 use borrow.Author.Tests.{not-true, not-false}
 use borrow.Author.Needs.{needs}
-use Rattle.kroot.proofs.Parameters.{least-bound, pkid-bound, width-bound, least-fits}
+use Rattle.kroot.proofs.Parameters.{least-bound, least-fits}
 use Rattle.laws.specs.Lists.{part}
 use Rattle.rules.specs.PublicKeys.{keyHeld, keyType, signatureLength}
 use Rattle.rules.specs.Kroot as S
+use Rattle.rules.proofs.Bounds.{pkid-bound, key-width-bound}
 use Rattle.public_keys.proofs.Keys.{signature-bound}
 use Rattle.kroot.proofs.Judged.{no-key, bad-parameters, wrong-size, taken}
 use Rattle.kroot.proofs.kroot_judge.Statement.{statement}
@@ -43,7 +44,7 @@ signed-is c =
 -- the widths are in range
 bounds : (c : tie.After-signature-length) → (c .before .before .key-width .result ≤ 32) × (c .signature-length .result ≤ 132)
 bounds c =
-    (omega (arith, c .before .before .key-width .ensures, width-bound (c .before .before .before .ks .result)), omega (arith, c .signature-length .ensures, signature-bound (c .before .key-type .result)))
+    (omega (arith, c .before .before .key-width .ensures, key-width-bound (c .before .before .before .ks .result)), omega (arith, c .signature-length .ensures, signature-bound (c .before .key-type .result)))
 
 size-is : (c : tie.After-least-blocks)
     → 13 * c .least-blocks .result ≡ 13 * S.krootBlocks (S.keyWidth (S.ksOf (S.contentsOf (now (c .before .before .before .before .before .before .before .before .before .before .before .before .before .before .before .before .args .d))))) (keyType (now (c .before .before .before .before .before .before .before .before .before .before .before .before .before .before .before .before .args .pubkeys)) (S.pkidOf (now (c .before .before .before .before .before .before .before .before .before .before .before .before .before .before .before .before .args .d))))

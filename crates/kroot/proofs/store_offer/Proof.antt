@@ -8,21 +8,22 @@ use native.Mathlib.Omega.{arith}
 use borrow.Author.Needs.{needs}
 use Rattle.laws.specs.Lists.{part}
 use Rattle.laws.proofs.Splice.{length-part}
+use Rattle.rules.specs.State.{offerLength}
 use Rattle.kroot.proofs.Judged.{first-three, stored}
 use Rattle.kroot.proofs.store_offer.Statement.{statement}
 use Rattle.kroot.proofs.store_offer.Tie as tie
 
 -- the region is as long as it was
-long1 : (c : tie.After-copy-part) → length (c .copy-part .last .0) ≡ 179
+long1 : (c : tie.After-copy-part) → length (c .copy-part .last .0) ≡ offerLength
 long1 c = c .copy-part .kept .0 ∙ simp length-set (omega arith)
 
-long2 : (c : tie.After-fill) → length (c .fill .last .0) ≡ 179
+long2 : (c : tie.After-fill) → length (c .fill .last .0) ≡ offerLength
 long2 c = c .fill .kept .0 ∙ long1 (c .before .before .before .before)
 
-long3 : (c : tie.After-copy-part2) → length (c .copy-part2 .last .0) ≡ 179
+long3 : (c : tie.After-copy-part2) → length (c .copy-part2 .last .0) ≡ offerLength
 long3 c = c .copy-part2 .kept .0 ∙ long2 (c .before .before .before .before)
 
-long4 : (c : tie.After-fill2) → length (c .fill2 .last .0) ≡ 179
+long4 : (c : tie.After-fill2) → length (c .fill2 .last .0) ≡ offerLength
 long4 c = c .fill2 .kept .0 ∙ long3 (c .before .before .before .before)
 
 copy-part-requires : tie.Need-copy-part-requires
@@ -49,7 +50,7 @@ returns c =
     let g = p1 .before .before .before .before .args in
     let p = part (now (g .d)) 1 (12 + g .width) in
     let s = part (now (g .d)) (13 + g .width) (g .signed) in
-    let lo : length (now (g .offer)) ≡ 179 = omega arith in
+    let lo : length (now (g .offer)) ≡ offerLength = omega arith in
     let lp : length p ≡ 12 + g .width = length-part (now (g .d)) 1 (12 + g .width) (omega arith) in
     let ls : length s ≡ g .signed = length-part (now (g .d)) (13 + g .width) (g .signed) (omega arith) in
     rw (f2 .fill2 .ensures, p2 .copy-part2 .ensures, f1 .fill .ensures, p1 .copy-part .ensures, first-three (now (g .offer)) (g .id) (g .header) (g .width) (g .signed) p s lo lp ls (omega arith) (omega arith))

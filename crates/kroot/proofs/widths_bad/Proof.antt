@@ -2,19 +2,19 @@
 -- Assumes nothing.
 use native.Mathlib.Omega.{arith}
 use borrow.Author.Needs.{needs}
+use Rattle.rules.proofs.Bounds.{key-width-bound, tag-width-bound}
 use Rattle.kroot.specs.Groups as G
-use Rattle.kroot.proofs.Parameters.{width-bound, tag-bound}
 use Rattle.kroot.proofs.widths_bad.Statement.{statement}
 use Rattle.kroot.proofs.widths_bad.Tie as tie
 
 mul-used : tie.Need-mul-used
-mul-used c = omega (arith, c .key-width .ensures, width-bound (c .before .before .ks .result))
+mul-used c = omega (arith, c .key-width .ensures, key-width-bound (c .before .before .ks .result))
 
 add-used : tie.Need-add-used
-add-used c = omega (arith, c .tag-width .ensures, tag-bound (c .before .before .ms .result), c .before .key-width .ensures, width-bound (c .before .before .before .ks .result))
+add-used c = omega (arith, c .tag-width .ensures, tag-width-bound (c .before .before .ms .result), c .before .key-width .ensures, key-width-bound (c .before .before .before .ks .result))
 
 add-used-2 : tie.Need-add-used-2
-add-used-2 c = omega (arith, c .tag-width .ensures, tag-bound (c .before .before .ms .result), c .before .key-width .ensures, width-bound (c .before .before .before .ks .result))
+add-used-2 c = omega (arith, c .tag-width .ensures, tag-width-bound (c .before .before .ms .result), c .before .key-width .ensures, key-width-bound (c .before .before .before .ks .result))
 
 returns : tie.Need-returns
 unfolding G.widthsBad

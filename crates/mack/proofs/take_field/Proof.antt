@@ -4,8 +4,8 @@ use mathlib.Core.Path.{_≡_, refl}
 use Prim.Native.Nat.{_+_}
 use native.Mathlib.Omega.{arith}
 use denote.Ref.{now}
-use Rattle.bitfields.proofs.Fields.{bits-lt}
 use borrow.Author.Needs.{needs}
+use Rattle.rules.proofs.Bounds.{bits-lt}
 use Rattle.mack.proofs.take_field.Statement.{statement}
 use Rattle.mack.proofs.take_field.Tie as tie
 

@@ -1,7 +1,7 @@
 -- `navdata::put` meets its contract: a store replaces one element.
 -- Assumes nothing.
-use Rattle.bitfields.proofs.Fields.{splice-one}
 use borrow.Author.Needs.{needs}
+use Rattle.laws.proofs.Splice.{splice-one}
 use Rattle.navdata.proofs.put.Statement.{statement}
 use Rattle.navdata.proofs.put.Tie as tie
 

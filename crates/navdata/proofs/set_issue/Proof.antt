@@ -3,7 +3,7 @@
 use Prim.Native.Nat.{_<_, _^_}
 use native.Mathlib.Omega.{arith}
 use Rattle.rules.specs.Navdata.{setIssue}
-use Rattle.bitfields.proofs.Fields.{bits-lt}
+use Rattle.rules.proofs.Bounds.{bits-lt}
 use borrow.Author.Needs.{needs}
 use Rattle.navdata.proofs.set_issue.Statement.{statement}
 use Rattle.navdata.proofs.set_issue.Tie as tie

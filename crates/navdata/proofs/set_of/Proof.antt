@@ -2,8 +2,8 @@
 -- Assumes nothing.
 use denote.Ref.{now}
 use Rattle.rules.specs.Navdata.{setOf}
+use Rattle.rules.proofs.Parts.{length-set-of}
 use Rattle.laws.proofs.Splice.{splice-whole}
-use Rattle.navdata.proofs.Sets.{length-set-of}
 use borrow.Author.Needs.{needs}
 use Rattle.navdata.proofs.set_of.Statement.{statement}
 use Rattle.navdata.proofs.set_of.Tie as tie

@@ -5,9 +5,9 @@ use denote.Ref.{now}
 use lib.ListN.{length}
 use borrow.Author.Needs.{needs}
 use Rattle.laws.specs.Refusal.{firstOf}
-use Rattle.regions.specs.Lengths.{Lengths}
 use Rattle.rules.specs.Calls as S
 use Rattle.rules.specs.State.{State, state}
+use Rattle.rules.proofs.Lengths.{Sized}
 use Rattle.osnma.proofs.Lengths.{long-three}
 use Rattle.osnma.proofs.Started.{refused, accepted, all-written}
 use Rattle.osnma.proofs.osnma_regions_start.Statement.{statement}
@@ -34,7 +34,7 @@ number-is c =
     c .start-refusal .ensures .0 (whole g) (g .args .maclt) (now (g .args .root)) (now (g .args .pubkey)) (rw (← (c .before .shaped .ensures)))
 
 -- an accepted start has right lengths
-long : (c : tie.Else1) → let g = start (c .before .before) in Lengths (whole g) × ((length (now (g .args .marks)) ≡ 28) × ((length (now (g .args .root)) ≡ 32) × (length (now (g .args .pubkey)) ≡ 67)))
+long : (c : tie.Else1) → let g = start (c .before .before) in Sized (whole g) × ((length (now (g .args .marks)) ≡ 28) × ((length (now (g .args .root)) ≡ 32) × (length (now (g .args .pubkey)) ≡ 67)))
 long c =
     let g = start (c .before .before) in
     long-three (whole g) (now (g .args .marks)) (now (g .args .root)) (now (g .args .pubkey)) 28 32 67

@@ -1,14 +1,14 @@
 -- `osnma::osnma_regions_subframe` meets its contract: a wrong length, or the call past it.
 -- Assumes nothing.
 use mathlib.Core.Path.{_≡_, refl, sym, _∙_}
-use mathlib.Core.Bool.{Bool, true, _&&_}
+use mathlib.Core.Bool.{Bool, _&&_}
 use lib.Dec.{eqb}
 use lib.ListN.{length}
 use borrow.Author.Tests.{eqb-true, not-true, not-false}
 use denote.Ref.{now}
 use Rattle.laws.proofs.Tests.{and-left, and-right}
 use Rattle.rules.specs.Calls.{Subframe}
-use Rattle.rules.specs.State.{State, state, shaped}
+use Rattle.rules.specs.State.{State, state, shaped, areaLength}
 use Rattle.call_subframe.specs.Told.{subframe}
 use Rattle.call_subframe.proofs.Subframes.{unshaped}
 use borrow.Author.Needs.{needs}
@@ -30,7 +30,7 @@ joined : (r a b a′ b′ : Bool) → r ≡ (a && b) → a ≡ a′ → b ≡ b�
 joined r a b a′ b′ e f g = e ∙ rw (f, g)
 
 -- the test is that of the rule
-tested : (c : tie.After-both2) → c .both2 .result ≡ (shaped (before (entered c)) && (eqb (length (now ((entered c) .args .area))) 3240 && eqb (length (now ((entered c) .args .bytes))) 75))
+tested : (c : tie.After-both2) → c .both2 .result ≡ (shaped (before (entered c)) && (eqb (length (now ((entered c) .args .area))) areaLength && eqb (length (now ((entered c) .args .bytes))) 75))
 tested c = joined _ _ _ _ _ (c .both2 .ensures) (c .before .shaped .ensures) (c .before .before .before .before .before .before .before .before .before .before .before .before .before .before .before .both .ensures)
 
 returns : tie.Need-returns
@@ -44,11 +44,11 @@ take-subframe-requires c κs =
     let e = c .before .before .before .before .before .before .before .before .before .before .before .before .before .before in
     let a = entered (e .before) in
     let t = sym (tested (e .before)) ∙ not-false _ (e .if1 .left) in
-    let l = and-right (shaped (before a)) (eqb (length (now (a .args .area))) 3240 && eqb (length (now (a .args .bytes))) 75) t in (
-      and-left (shaped (before a)) (eqb (length (now (a .args .area))) 3240 && eqb (length (now (a .args .bytes))) 75) t,
+    let l = and-right (shaped (before a)) (eqb (length (now (a .args .area))) areaLength && eqb (length (now (a .args .bytes))) 75) t in (
+      and-left (shaped (before a)) (eqb (length (now (a .args .area))) areaLength && eqb (length (now (a .args .bytes))) 75) t,
       (
-        eqb-true (length (now (a .args .area))) 3240 (and-left (eqb (length (now (a .args .area))) 3240) (eqb (length (now (a .args .bytes))) 75) l),
-        eqb-true (length (now (a .args .bytes))) 75 (and-right (eqb (length (now (a .args .area))) 3240) (eqb (length (now (a .args .bytes))) 75) l),
+        eqb-true (length (now (a .args .area))) areaLength (and-left (eqb (length (now (a .args .area))) areaLength) (eqb (length (now (a .args .bytes))) 75) l),
+        eqb-true (length (now (a .args .bytes))) 75 (and-right (eqb (length (now (a .args .area))) areaLength) (eqb (length (now (a .args .bytes))) 75) l),
       ),
     )
 

@@ -10,8 +10,8 @@ use borrow.Author.Tests.{eq-eqb, ne-eqb}
 use borrow.Author.Needs.{needs}
 use Rattle.sha256.specs.Sha256.{sha256}
 use Rattle.laws.proofs.Splice.{range-part}
-use Rattle.public_keys.proofs.Keys.{key-bound}
 use Rattle.rules.specs.Pkr as S
+use Rattle.rules.proofs.Bounds.{key-length-bound}
 use Rattle.pkr.proofs.Pkr.{emergency-size, key-size}
 use Rattle.pkr.proofs.leaf_hash.Statement.{statement}
 use Rattle.pkr.proofs.leaf_hash.Tie as tie
@@ -23,7 +23,7 @@ sized : (c : tie.After-key-length) → (130 + c .key-length .result ≤ length (
 sized c =
     let t = c .before .before in
     let s = t .before .before in
-    (rw (c .key-length .ensures, t .new-type .ensures) (key-size (now (s .args .d)) (s .pre .0) (λ e. c .before .if1 .left (t .new-type .ensures ∙ e)) .1), rw (c .key-length .ensures) (key-bound (t .new-type .result)))
+    (rw (c .key-length .ensures, t .new-type .ensures) (key-size (now (s .args .d)) (s .pre .0) (λ e. c .before .if1 .left (t .new-type .ensures ∙ e)) .1), rw (c .key-length .ensures) (key-length-bound (t .new-type .result)))
 
 sub-sha256 : tie.Need-sub-sha256
 sub-sha256 c = omega (arith, urgent c)

@@ -8,10 +8,10 @@ use native.Mathlib.Omega.{arith}
 use borrow.Author.Tests.{not-true, not-false}
 use borrow.Author.Needs.{needs}
 use Rattle.laws.proofs.Splice.{range-part}
-use Rattle.public_keys.proofs.Keys.{key-bound}
 use Rattle.rules.specs.PublicKeys as K
 use Rattle.rules.specs.Pkr as S
-use Rattle.pkr.proofs.Pkr.{id-bound, same-again, not-above, added}
+use Rattle.rules.proofs.Bounds.{key-length-bound, new-id-bound}
+use Rattle.pkr.proofs.Pkr.{same-again, not-above, added}
 use Rattle.pkr.proofs.renew.Statement.{statement}
 use Rattle.pkr.proofs.renew.Tie as tie
 
@@ -32,10 +32,10 @@ facts : (c : tie.After-key-length)
 facts c =
     let t = c .before in
     let s = t .before .before .before .before in
-    (rw (t .new-type .ensures) (s .pre .1 .0), (rw (c .key-length .ensures, t .new-type .ensures) (s .pre .1 .1), rw (c .key-length .ensures) (key-bound (t .new-type .result))))
+    (rw (t .new-type .ensures) (s .pre .1 .0), (rw (c .key-length .ensures, t .new-type .ensures) (s .pre .1 .1), rw (c .key-length .ensures) (key-length-bound (t .new-type .result))))
 
 id-small : (c : tie.After-new-id) → c .new-id .result < 16
-id-small c = rw (c .new-id .ensures) (id-bound (now (c .before .before .before .args .d)))
+id-small c = rw (c .new-id .ensures) (new-id-bound (now (c .before .before .before .args .d)))
 
 add-end : tie.Need-add-end
 add-end c = omega (arith, facts c)

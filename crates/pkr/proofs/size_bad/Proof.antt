@@ -5,8 +5,8 @@ use Prim.Native.Nat.{_+_}
 use denote.Ref.{now}
 use native.Mathlib.Omega.{arith}
 use borrow.Author.Needs.{needs}
-use Rattle.public_keys.proofs.Keys.{key-bound}
 use Rattle.kroot.proofs.Parameters.{least-bound}
+use Rattle.rules.proofs.Bounds.{key-length-bound}
 use Rattle.pkr.proofs.Pkr.{bad-emergency, bad-other}
 use Rattle.pkr.proofs.size_bad.Statement.{statement}
 use Rattle.pkr.proofs.size_bad.Tie as tie
@@ -17,15 +17,15 @@ returns c =
     rw (c .new-id .ensures) (bad-emergency (now (t .before .before .args .d)) (sym (t .new-type .ensures) ∙ c .before .if1 .taken))
 
 add-least-blocks : tie.Need-add-least-blocks
-add-least-blocks c = omega (arith, c .key-length .ensures, key-bound (c .before .before .new-type .result))
+add-least-blocks c = omega (arith, c .key-length .ensures, key-length-bound (c .before .before .new-type .result))
 
 least-blocks-requires : tie.Need-least-blocks-requires
-least-blocks-requires c κs = omega (arith, c .key-length .ensures, key-bound (c .before .before .new-type .result))
+least-blocks-requires c κs = omega (arith, c .key-length .ensures, key-length-bound (c .before .before .new-type .result))
 
 mul-result : tie.Need-mul-result
 mul-result c =
     let k = c .before in
-    omega (arith, k .key-length .ensures, key-bound (k .before .before .new-type .result), c .least-blocks .ensures, least-bound (130 + k .key-length .result))
+    omega (arith, k .key-length .ensures, key-length-bound (k .before .before .new-type .result), c .least-blocks .ensures, least-bound (130 + k .key-length .result))
 
 returns-2 : tie.Need-returns-2
 returns-2 c =

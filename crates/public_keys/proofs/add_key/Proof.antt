@@ -5,7 +5,8 @@ use lib.ListN.{length, length-set}
 use native.Mathlib.Omega.{arith}
 use borrow.Author.Needs.{needs}
 use Rattle.rules.specs.PublicKeys as S
-use Rattle.public_keys.proofs.Keys.{length-filled, splice-cons}
+use Rattle.rules.proofs.Parts.{length-filled}
+use Rattle.laws.proofs.Splice.{splice-cons}
 use Rattle.public_keys.proofs.add_key.Statement.{statement}
 use Rattle.public_keys.proofs.add_key.Tie as tie
 

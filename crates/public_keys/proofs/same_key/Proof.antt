@@ -5,7 +5,6 @@ use mathlib.Core.Path.{sym, _∙_}
 use denote.Ref.{now}
 use borrow.Author.Tests.{not-true, not-false}
 use borrow.Author.Needs.{needs}
-use Rattle.laws.specs.Lists.{part, same}
 use Rattle.laws.proofs.Splice.{range-part}
 use Rattle.public_keys.proofs.Keys.{same-key-not, same-key-other, same-key-bytes}
 use Rattle.rules.specs.PublicKeys as S

@@ -4,7 +4,7 @@ use denote.Ref.{now}
 use lib.Dec.{eqb}
 use lib.ListN.{length}
 use borrow.Author.Needs.{needs}
-use Rattle.rules.specs.State.{shaped}
+use Rattle.rules.specs.State.{shaped, blocksLength, offerLength, pubkeysLength, setsLength, stampsLength, waitingLength, wordsLength}
 use Rattle.regions.proofs.Faults.{joined}
 use Rattle.regions.proofs.shaped.Statement.{statement}
 use Rattle.regions.proofs.shaped.Tie as tie
@@ -23,19 +23,19 @@ returns c =
     (joined
     (eqb (length (now (g .config))) 63)
     (eqb (length (now (g .clocks))) 73)
-    (eqb (length (now (g .words))) 2880)
-    (eqb (length (now (g .stamps))) 180)
-    (eqb (length (now (g .blocks))) 3328)
+    (eqb (length (now (g .words))) wordsLength)
+    (eqb (length (now (g .stamps))) stampsLength)
+    (eqb (length (now (g .blocks))) blocksLength)
     (eqb (length (now (g .headers))) 16)
     (eqb (length (now (g .present))) 16)
     (eqb (length (now (g .since))) 16)
-    (eqb (length (now (g .pubkeys))) 1088)
-    (eqb (length (now (g .offer))) 179)
+    (eqb (length (now (g .pubkeys))) pubkeysLength)
+    (eqb (length (now (g .offer))) offerLength)
     (eqb (length (now (g .chain))) 45)
     (eqb (length (now (g .numbers))) 2)
     (eqb (length (now (g .heldkey))) 32)
-    (eqb (length (now (g .waiting))) 21504)
-    (eqb (length (now (g .sets))) 2484)
+    (eqb (length (now (g .waiting))) waitingLength)
+    (eqb (length (now (g .sets))) setsLength)
     (eqb (length (now (g .arrivals))) 36))
 
 pub shaped-spec : {M : Type 1} → statement M

@@ -5,12 +5,12 @@ use native.Mathlib.Omega.{arith}
 use lib.ListN.{length}
 use denote.Ref.{now}
 use Rattle.navdata.specs.Pieces.{nav}
-use Rattle.navdata.proofs.Sets.{length-set-of}
 use Rattle.tags.specs.Layout.{section}
 use Rattle.tag_records.specs.Told.{start}
 use Rattle.section_tags.proofs.Keys.{tag-block, tag-key}
 use Rattle.section_tags.proofs.Fields.{one-judged}
 use borrow.Author.Needs.{needs}
+use Rattle.rules.proofs.Parts.{length-set-of}
 use Rattle.section_tags.proofs.own_one.Statement.{statement}
 use Rattle.section_tags.proofs.own_one.Tie as tie
 

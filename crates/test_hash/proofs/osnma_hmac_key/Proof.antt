@@ -1,6 +1,5 @@
 -- `test_hash::osnma_hmac_key` meets its contract: each refusal, and the result.
 -- Assumes nothing.
-use mathlib.Core.Path.{_≡_}
 use lib.ListN.{length}
 use denote.Ref.{now}
 use borrow.Author.Tests.{eq-eqb, ne-eqb, le-leb, lt-leb}

@@ -1,7 +1,7 @@
 -- `times::delay_of` meets its contract: each return is the case of its test.
 -- Assumes nothing.
 use Rattle.rules.specs.Times as S
-use borrow.Author.Tests.{eq-eqb, ne-eqb, le-leb, lt-leb}
+use borrow.Author.Tests.{eq-eqb, ne-eqb}
 use Rattle.times.proofs.delay_of.Statement.{statement}
 use Rattle.times.proofs.delay_of.Tie as tie
 
