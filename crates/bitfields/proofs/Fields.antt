@@ -2,7 +2,7 @@
 -- and a field of a part of a string.
 -- Assumes nothing.
 use mathlib.Core.Path.{_≡_, refl, sym, _∙_}
-use mathlib.Core.List.{List, [], _∷_, _++_, append-assoc}
+use mathlib.Core.List.{List, [], _∷_, _++_, append-assoc, append-nil}
 use Prim.Native.Nat.{ℕ, zero, suc, _+_, _-_, _*_, _/_, _%_, _^_, _≤_, _<_}
 use native.Mathlib.Omega.{arith}
 use native.Mathlib.Numerals.{add-one}
@@ -12,7 +12,7 @@ use lib.Seq.{getD-at, set-at, set-split, drop-cons, drop-drop, ext-getD, length-
 use mathlib.Core.Logic.{⊎-elim}
 use lib.Pow.{pow-mono, high, low, shr-shr, mod-pow-add}
 use Rattle.laws.specs.Lists.{part, splice}
-use Rattle.laws.proofs.Splice.{getD-part, length-part, splice-append, below?}
+use Rattle.laws.proofs.Splice.{getD-part, length-part, splice-append, splice-nil, below?}
 use Rattle.rules.specs.Bits.{bit, bits, bytesAt}
 
 -- a bit is 0 or 1
@@ -122,6 +122,14 @@ pub bytesAt-more : (s : List ℕ) (at n : ℕ) → bytesAt s at (n + 1) ≡ byte
 unfolding bytesAt
 bytesAt-more s at n = rw add-one
 
+-- bytes more
+pub bytesAt-add : (s : List ℕ) (at n m : ℕ) → bytesAt s at (n + m) ≡ bytesAt s at n ++ bytesAt s (at + 8 * n) m
+unfolding bytesAt
+bytesAt-add s at n zero = rw (add-zero n) (sym (append-nil (bytesAt s at n)))
+bytesAt-add s at n (suc m) =
+    let e : at + 8 * (n + m) ≡ at + 8 * n + 8 * m = omega arith in
+    rw (add-suc n m, bytesAt-add s at n m, e, append-assoc)
+
 pub bytesAt-part : (s : List ℕ) (a n at m : ℕ) → at + 8 * m ≤ 8 * n → bytesAt (part s a n) at m ≡ bytesAt s (8 * a + at) m
 unfolding bytesAt
 bytesAt-part s a n at zero h = refl
@@ -159,3 +167,22 @@ splice-one d a v h = rw (drop-drop 1 a d, add-one) (set-split d a v h)
 pub splice-next : (d : List ℕ) (a : ℕ) (l m : List ℕ) (n k : ℕ) → length l ≡ n → length m ≡ k → a + (n + k) ≤ length d
     → splice (splice d a l) (a + n) m ≡ splice d a (l ++ m)
 splice-next d a l m n k e f h = rw (← e) (splice-append d a l m (omega arith))
+
+-- one byte more is stored
+pub splice-byte : (d : List ℕ) (to : ℕ) (s : List ℕ) (at i v : ℕ) → to + i < length d → v ≡ bits s (at + 8 * i) 8
+    → set (splice d to (bytesAt s at i)) (to + i) v ≡ splice d to (bytesAt s at (i + 1))
+splice-byte d to s at i v h e =
+    let n = length-bytesAt s at i in
+    let p = splice-push d to (bytesAt s at i) v (omega arith) in
+    rw (bytesAt-more, ← e) (rw n at p)
+
+-- m bytes more are stored
+pub splice-bytes : (d : List ℕ) (to : ℕ) (s : List ℕ) (at i m : ℕ) → to + (i + m) ≤ length d
+    → splice (splice d to (bytesAt s at i)) (to + i) (bytesAt s (at + 8 * i) m) ≡ splice d to (bytesAt s at (i + m))
+splice-bytes d to s at i m h =
+    rw (bytesAt-add s at i m) (splice-next d to _ _ i m (length-bytesAt s at i) (length-bytesAt s (at + 8 * i) m) h)
+
+-- nothing is stored yet
+pub splice-no-bytes : (d : List ℕ) (to : ℕ) (s : List ℕ) (at : ℕ) → d ≡ splice d to (bytesAt s at 0)
+unfolding bytesAt
+splice-no-bytes d to s at = sym (splice-nil d to)
