@@ -2,7 +2,7 @@
 -- and a field of a part of a string.
 -- Assumes nothing.
 use mathlib.Core.Path.{_≡_, refl, sym, _∙_}
-use mathlib.Core.List.{List, [], _∷_, _++_, append-assoc}
+use mathlib.Core.List.{List, [], _∷_, _++_, append-assoc, append-nil}
 use Prim.Native.Nat.{ℕ, zero, suc, _+_, _-_, _*_, _/_, _%_, _^_, _≤_, _<_}
 use native.Mathlib.Omega.{arith}
 use native.Mathlib.Numerals.{add-one}
@@ -12,7 +12,7 @@ use lib.Seq.{getD-at, set-at, drop-cons, length-take-le}
 use mathlib.Core.Logic.{⊎-elim}
 use lib.Pow.{pow-mono, high, low, shr-shr, mod-pow-add}
 use Rattle.laws.specs.Lists.{part, splice}
-use Rattle.laws.proofs.Splice.{getD-part, below?}
+use Rattle.laws.proofs.Splice.{getD-part, splice-after, splice-nil, below?}
 use Rattle.rules.specs.Bits.{bit, bits, bytesAt}
 use Rattle.rules.proofs.Bounds.{bits-lt}
 use Rattle.rules.proofs.Parts.{length-bytesAt}
@@ -108,6 +108,14 @@ pub bytesAt-more : (s : List ℕ) (at n : ℕ) → bytesAt s at (n + 1) ≡ byte
 unfolding bytesAt
 bytesAt-more s at n = rw add-one
 
+-- bytes more
+pub bytesAt-add : (s : List ℕ) (at n m : ℕ) → bytesAt s at (n + m) ≡ bytesAt s at n ++ bytesAt s (at + 8 * n) m
+unfolding bytesAt
+bytesAt-add s at n zero = rw (add-zero n) (sym (append-nil (bytesAt s at n)))
+bytesAt-add s at n (suc m) =
+    let e : at + 8 * (n + m) ≡ at + 8 * n + 8 * m = omega arith in
+    rw (add-suc n m, bytesAt-add s at n m, e, append-assoc)
+
 pub bytesAt-part : (s : List ℕ) (a n at m : ℕ) → at + 8 * m ≤ 8 * n → bytesAt (part s a n) at m ≡ bytesAt s (8 * a + at) m
 unfolding bytesAt
 bytesAt-part s a n at zero h = refl
@@ -126,3 +134,23 @@ splice-push d a l v h =
     rw (c, ← append-assoc (take a d) l (getD (drop a d) (length l) 0 ∷ drop (suc (length l)) (drop a d)))
     (set-at (take a d ++ l) (getD (drop a d) (length l) 0) (drop (suc (length l)) (drop a d)) v (a + length l) n
     ∙ simp (append-assoc, length-append, add-one))
+
+-- one byte more is stored
+pub splice-byte : (d : List ℕ) (to : ℕ) (s : List ℕ) (at i v : ℕ) → to + i < length d → v ≡ bits s (at + 8 * i) 8
+    → set (splice d to (bytesAt s at i)) (to + i) v ≡ splice d to (bytesAt s at (i + 1))
+splice-byte d to s at i v h e =
+    let n = length-bytesAt s at i in
+    let p = splice-push d to (bytesAt s at i) v (omega arith) in
+    rw (bytesAt-more, ← e) (rw n at p)
+
+-- m bytes more are stored
+pub splice-bytes : (d : List ℕ) (to : ℕ) (s : List ℕ) (at i m : ℕ) → to + (i + m) ≤ length d
+    → splice (splice d to (bytesAt s at i)) (to + i) (bytesAt s (at + 8 * i) m) ≡ splice d to (bytesAt s at (i + m))
+splice-bytes d to s at i m h =
+    rw (bytesAt-add s at i m)
+    (splice-after d to (to + i) (bytesAt s at i) (bytesAt s (at + 8 * i) m) (omega (arith, length-bytesAt s at i)) (omega (arith, length-bytesAt s (at + 8 * i) m)))
+
+-- nothing is stored yet
+pub splice-no-bytes : (d : List ℕ) (to : ℕ) (s : List ℕ) (at : ℕ) → d ≡ splice d to (bytesAt s at 0)
+unfolding bytesAt
+splice-no-bytes d to s at = sym (splice-nil d to)

@@ -58,7 +58,19 @@ fn byte_at(s: &[u8], k: usize, r: usize) -> u8
     ((pair >> (8 - r)) % 256) as u8
 }
 
-// The n bytes from bit `at` on into `out` from place `to`.
+// The 8 bytes from bit r of place k on into `out` from place `to`.
+fn bytes_block(s: &[u8], k: usize, r: usize, out: &mut [u8], to: usize)
+    requires { ⌜ (8 * k + r + 64 ≤ 8 * length (now s)) × ((r < 8) × (to + 8 ≤ length (now out))) ⌝ }
+    ensures { λ _. ⌜ now (out .exit) ≡ splice (now (out .entry)) to (bytesAt (now (s .entry)) (8 * k + r) 8) ⌝ }
+{
+    let mut j: usize = 0;
+    while j < 8 {
+        out[to + j] = byte_at(s, k + j, r);
+        j += 1;
+    }
+}
+
+// The n bytes from bit `at` on into `out` from place `to`: by blocks, as in `buffer`.
 pub fn bytes_to(s: &[u8], at: usize, n: usize, out: &mut [u8], to: usize)
     requires { ⌜ (at + 8 * n ≤ 8 * length (now s)) × (to + n ≤ length (now out)) ⌝ }
     ensures { λ _. ⌜ now (out .exit) ≡ splice (now (out .entry)) to (bytesAt (now (s .entry)) at n) ⌝ }
@@ -67,8 +79,13 @@ pub fn bytes_to(s: &[u8], at: usize, n: usize, out: &mut [u8], to: usize)
     let r = at % 8;
     let mut i: usize = 0;
     while i < n {
-        out[to + i] = byte_at(s, first + i, r);
-        i += 1;
+        if n - i >= 8 {
+            bytes_block(s, first + i, r, out, to + i);
+            i += 8;
+        } else {
+            out[to + i] = byte_at(s, first + i, r);
+            i += 1;
+        }
     }
 }
 

@@ -202,9 +202,10 @@ fn root_time_bad(c: &[u8]) -> bool
 
 // ---- widths
 
-const KEY_WIDTHS: [usize; 9] = [12, 13, 14, 15, 16, 20, 24, 28, 32];
+// Tables hold bytes: each use copies its table to the stack.
+const KEY_WIDTHS: [u8; 9] = [12, 13, 14, 15, 16, 20, 24, 28, 32];
 
-const TAG_WIDTHS: [u64; 10] = [10, 12, 14, 16, 18, 20, 24, 28, 32, 40];
+const TAG_WIDTHS: [u8; 10] = [10, 12, 14, 16, 18, 20, 24, 28, 32, 40];
 
 // Bytes of a key by its KS code (000, table 12).
 pub fn key_width(code: u8) -> usize
@@ -213,7 +214,7 @@ pub fn key_width(code: u8) -> usize
     if 8 < code {
         return 32;
     }
-    KEY_WIDTHS[code as usize]
+    KEY_WIDTHS[code as usize] as usize
 }
 
 // Bits of a tag by its MS code (000, table 13).
@@ -223,7 +224,7 @@ fn tag_width(code: u8) -> u64
     if 9 < code {
         return 40;
     }
-    TAG_WIDTHS[code as usize]
+    TAG_WIDTHS[code as usize] as u64
 }
 
 // Fields of a MACK block, for a key of ks bits and tags of ms bits.

@@ -101,9 +101,10 @@ pub fn drop_lower(pubkeys: &mut [u8], id: u8)
     buffer::fill(pubkeys, 0, (id as usize) * 68, 0);
 }
 
-const KEY_LENGTHS: [usize; 4] = [29, 33, 49, 67];
+// Tables hold bytes: each use copies its table to the stack.
+const KEY_LENGTHS: [u8; 4] = [29, 33, 49, 67];
 
-const SIGNATURE_LENGTHS: [usize; 4] = [56, 64, 96, 132];
+const SIGNATURE_LENGTHS: [u8; 4] = [56, 64, 96, 132];
 
 // Bytes of a key by its type.
 pub fn key_length(kind: u8) -> usize
@@ -112,7 +113,7 @@ pub fn key_length(kind: u8) -> usize
     if 3 < kind {
         return 67;
     }
-    KEY_LENGTHS[kind as usize]
+    KEY_LENGTHS[kind as usize] as usize
 }
 
 // Bytes of a signature by its key's type.
@@ -122,5 +123,5 @@ pub fn signature_length(kind: u8) -> usize
     if 3 < kind {
         return 132;
     }
-    SIGNATURE_LENGTHS[kind as usize]
+    SIGNATURE_LENGTHS[kind as usize] as usize
 }

@@ -1,17 +1,16 @@
--- `bitfields::bytes_to` meets its contract: after i turns the first i bytes are spliced in.
+-- `bitfields::bytes_to` meets its contract: after each turn the first i bytes are spliced in.
 -- Assumes nothing.
-use mathlib.Core.Path.{_≡_, sym, ap, _∙_}
-use mathlib.Core.List.{List}
-use Prim.Native.Nat.{ℕ, _+_, _-_, _*_, _/_, _%_, _≤_, _<_}
+use mathlib.Core.Path.{_≡_, ap, _∙_}
+use Prim.Native.Nat.{_+_, _-_, _*_, _/_, _%_, _≤_, _<_}
 use native.Mathlib.Omega.{arith}
 use borrow.Author.Needs.{needs}
-use lib.ListN.{length, set}
+use lib.ListN.{length}
 use denote.Ref.{now}
-use Rattle.rules.specs.Bits.{bits, bytesAt}
-use Rattle.rules.proofs.Parts.{length-bytesAt}
 use Rattle.laws.specs.Lists.{splice}
-use Rattle.bitfields.proofs.Fields.{bytesAt-more, splice-push}
-use Rattle.laws.proofs.Splice.{splice-nil, length-splice}
+use Rattle.laws.proofs.Splice.{length-splice}
+use Rattle.rules.specs.Bits.{bytesAt}
+use Rattle.rules.proofs.Parts.{length-bytesAt}
+use Rattle.bitfields.proofs.Fields.{splice-byte, splice-bytes, splice-no-bytes}
 use Rattle.bitfields.proofs.bytes_to.Statement.{statement}
 use Rattle.bitfields.proofs.bytes_to.Tie as tie
 
@@ -21,10 +20,6 @@ Inv-loop s at n out₀ to first r i₀ out i = (i ≤ n) × (out ≡ splice out�
 abbrev μ-loop : tie.MeasureT-loop
 μ-loop s at n out₀ to first r i₀ out i = n - i
 
-nothing : (d : List ℕ) (to : ℕ) (s : List ℕ) (at : ℕ) → d ≡ splice d to (bytesAt s at 0)
-unfolding bytesAt
-nothing d to s at = sym (splice-nil d to)
-
 -- the slice is as long as it was
 long : (c : tie.At-loop Inv-loop μ-loop) → length (c .loop .out) ≡ length (now (c .before .before .before .args .out))
 long c =
@@ -33,25 +28,32 @@ long c =
     ap length (c .loop .inv .1) ∙ length-splice (now (g .out)) (g .to) (bytesAt (now (g .s)) (g .at) (c .loop .i)) (omega arith)
 
 loop-holds : tie.Need-loop-holds Inv-loop μ-loop
-loop-holds c = (search needs, nothing _ _ _ _)
+loop-holds c = (search needs, splice-no-bytes _ _ _ _)
 
-slice-write-out : tie.Need-slice-write-out Inv-loop μ-loop
-slice-write-out c = omega (arith, long (c .before .before))
-
--- one byte more is stored
-stored : (d : List ℕ) (to : ℕ) (s : List ℕ) (at i v : ℕ) → to + i < length d → v ≡ bits s (8 * (at / 8 + i) + at % 8) 8
-    → set (splice d to (bytesAt s at i)) (to + i) v ≡ splice d to (bytesAt s at (i + 1))
-stored d to s at i v h e =
-    let n = length-bytesAt s at i in
-    let f : 8 * (at / 8 + i) + at % 8 ≡ at + 8 * i = omega arith in
-    let p = splice-push d to (bytesAt s at i) v (omega arith) in
-    rw (bytesAt-more, ← f, ← e) (rw n at p)
+bytes-block-requires : tie.Need-bytes-block-requires Inv-loop μ-loop
+bytes-block-requires c κs = (omega arith, (omega arith, omega (arith, long (c .before .before .before))))
 
 loop-again : tie.Need-loop-again Inv-loop μ-loop
 loop-again c =
-    let l = c .before .before .loop in
-    let g = c .before .before .before .before .before .args in
-    (search needs, rw (l .inv .1) (stored (now (g .out)) (g .to) (now (g .s)) (g .at) (l .i) (c .byte-at .result) (omega arith) (c .byte-at .ensures)))
+    let l = c .before .before .before .before .before .before .loop in
+    let g = c .before .before .before .before .before .before .before .before .before .args in
+    let e : 8 * (g .at / 8 + l .i) + g .at % 8 ≡ g .at + 8 * l .i = omega arith in (
+      omega arith,
+      c .before .before .bytes-block .ensures
+          ∙ rw (e, l .inv .1) (splice-bytes (now (g .out)) (g .to) (now (g .s)) (g .at) (l .i) 8 (omega arith)),
+    )
+
+slice-write-out : tie.Need-slice-write-out Inv-loop μ-loop
+slice-write-out c = omega (arith, long (c .before .before .before))
+
+loop-again-2 : tie.Need-loop-again-2 Inv-loop μ-loop
+loop-again-2 c =
+    let l = c .before .before .before .loop in
+    let g = c .before .before .before .before .before .before .args in
+    let e : 8 * (g .at / 8 + l .i) + g .at % 8 ≡ g .at + 8 * l .i = omega arith in (
+      omega arith,
+      rw (l .inv .1) (splice-byte (now (g .out)) (g .to) (now (g .s)) (g .at) (l .i) (c .byte-at .result) (omega arith) (c .byte-at .ensures ∙ rw e)),
+    )
 
 same-length : tie.Need-same-length Inv-loop μ-loop
 same-length c = long (c .before)
@@ -67,8 +69,14 @@ bytes-to-spec =
     (tie.spec
     Inv-loop
     μ-loop
-    loop-holds (λ c. search needs) (λ c κs. search needs) (λ c. search needs)
-    slice-write-out (λ c. search needs) (λ c. search needs)
+    loop-holds
+    (λ c. omega arith) (λ c. omega arith) (λ c. omega arith)
+    bytes-block-requires
+    (λ c. omega arith) (λ c. omega arith)
     loop-again
+    (λ c. omega arith) (λ c κs. (omega arith, omega arith)) (λ c. omega arith)
+    slice-write-out
+    (λ c. omega arith) (λ c. omega arith)
+    loop-again-2
     same-length
     returns)

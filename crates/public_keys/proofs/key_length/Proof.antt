@@ -4,7 +4,9 @@ use mathlib.Core.Path.{sym}
 use mathlib.Core.List.{[], _∷_}
 use native.Mathlib.Omega.{arith}
 use borrow.Author.Needs.{needs}
-use Rattle.laws.proofs.Table.{table-last, table-entry}
+use native.Mathlib.Nat.{lt-of-le-of-lt}
+use lib.Dec.{lit<}
+use Rattle.laws.proofs.Table.{table-last, table-entry, table-range}
 use Rattle.rules.specs.PublicKeys as S
 use Rattle.public_keys.proofs.key_length.Statement.{statement}
 use Rattle.public_keys.proofs.key_length.Tie as tie
@@ -17,5 +19,8 @@ returns-2 : tie.Need-returns-2
 unfolding S.keyLength
 returns-2 c = table-entry (29 ∷ 33 ∷ 49 ∷ 67 ∷ []) 0 67 (c .before .args .kind) (omega arith)
 
+fits : tie.Need-cast-result
+fits c = record { fits = lt-of-le-of-lt ((table-range 0 255 0 (29 ∷ 33 ∷ 49 ∷ 67 ∷ []) tt (omega arith) (omega arith) (c .before .args .kind)) .1) (lit< tt) }
+
 pub key-length-spec : {M : Type 1} → statement M
-key-length-spec = tie.close (tie.spec returns (λ c. search needs) (λ c. search needs) returns-2)
+key-length-spec = tie.close (tie.spec returns (λ c. search needs) fits returns-2)
