@@ -85,7 +85,7 @@ one-line-more d area at k room h =
 module _ (d w v area : List ℕ) (place first second count at n r : ℕ) where
   pub lines-put : (w ≡ splice d 0 (answerLine place first second count)) × ((at ≡ length (answerLine place first second count)) × (at ≤ 84))
       → (v ≡ splice w at (recordLines area n)) × (r ≡ at + length (recordLines area n)) → n ≡ count → 84 + count * 25 ≤ length d → count * 12 ≤ length area
-      → (v ≡ splice d 0 (linesOf place first second count area)) × (r ≡ length (linesOf place first second count area))
+      → (v ≡ splice d 0 (linesOf place first second count area)) × ((r ≡ length (linesOf place first second count area)) × (r ≤ 84 + count * 25))
   unfolding linesOf
   lines-put p q e room h =
       let k = length-record-lines area count h in
@@ -93,4 +93,4 @@ module _ (d w v area : List ℕ) (place first second count at n r : ℕ) where
       let y = p .1 .1 in
       let z : v ≡ splice w at (recordLines area count) = rw e at (q .0) in
       let u : r ≡ at + length (recordLines area count) = rw e at (q .1) in
-      (z ∙ rw (p .0) (joined d 0 at (answerLine place first second count) (recordLines area count) (rw zero-add x) (omega arith)), u ∙ simp length-append (omega arith))
+      (z ∙ rw (p .0) (joined d 0 at (answerLine place first second count) (recordLines area count) (rw zero-add x) (omega arith)), (u ∙ simp length-append (omega arith), omega arith))

@@ -27,7 +27,7 @@ pub fn put_lines(
     area: &[u8],
 ) -> usize
     requires { ⌜ (84 + count * 25 ≤ length (now out)) × (count * 12 ≤ length (now area)) ⌝ }
-    ensures { λ r. ⌜ (now (out .exit) ≡ splice (now (out .entry)) 0 (linesOf place first second count (now (area .entry)))) × (r ≡ length (linesOf place first second count (now (area .entry)))) ⌝ }
+    ensures { λ r. ⌜ (now (out .exit) ≡ splice (now (out .entry)) 0 (linesOf place first second count (now (area .entry)))) × ((r ≡ length (linesOf place first second count (now (area .entry)))) × (r ≤ 84 + count * 25)) ⌝ }
 {
     let at = answer_line(out, place, first, second, count);
     record_lines(out, at, area, index(count))

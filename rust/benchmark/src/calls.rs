@@ -10,7 +10,7 @@
 
 use crate::call_stacks::stacks;
 use crate::sky::{Answer, Gap, HalfMinutes, Who, ALL};
-use crate::time::{by_turns, timed, Work};
+use crate::time::{rows, timed, Work, HEADING};
 use leaves::chain::Chain;
 use leaves::times::Slots;
 use std::hint::black_box;
@@ -46,18 +46,6 @@ fn compare() -> Result<(), String> {
         }
     }
     Ok(())
-}
-
-/// Prints the rows of contenders whose slices are taken by turns.
-fn rows(row: &str, names: &[&str], slices: usize, mut works: Vec<Work<'_>>) {
-    for (name, told) in names.iter().zip(by_turns(slices, &mut works)) {
-        println!(
-            "| {row} | {name} | {:.2} | {:.3} | {:.3} |",
-            told.best * 1e6,
-            told.median,
-            told.best_ratio
-        );
-    }
 }
 
 fn half_minute(who: Who) -> Work<'static> {
@@ -128,8 +116,7 @@ fn walk() -> Work<'static> {
 
 fn times(slices: usize) {
     let names = ALL.map(|(_, name)| name);
-    println!("| Work | Contender | µs, best slice | proved / contender, median | proved / contender, best slices |");
-    println!("|---|---|---|---|---|");
+    println!("{HEADING}");
     let works = ALL.map(|(who, _)| half_minute(who)).into();
     rows("half minute of 36 satellites", &names, slices, works);
     let works = ALL.map(|(who, _)| section(who)).into();

@@ -9,6 +9,7 @@ mod chain;
 mod hash;
 #[cfg(has_openssl)]
 mod openssl;
+mod replay;
 mod sky;
 mod stack;
 mod tag;
@@ -22,6 +23,7 @@ fn command(words: &[&str]) -> Option<Result<(), String>> {
         ["chain", rest @ ..] => chain::command(rest),
         ["tag", rest @ ..] => tag::command(rest),
         ["calls", rest @ ..] => calls::command(rest),
+        ["replay", rest @ ..] => replay::command(rest),
         _ => None,
     }
 }
@@ -36,7 +38,13 @@ fn main() -> ExitCode {
             ExitCode::FAILURE
         }
         None => {
-            for usage in [hash::USAGE, chain::USAGE, tag::USAGE, calls::USAGE] {
+            for usage in [
+                hash::USAGE,
+                chain::USAGE,
+                tag::USAGE,
+                calls::USAGE,
+                replay::USAGE,
+            ] {
                 eprintln!("benchmark {usage}");
             }
             ExitCode::from(2)

@@ -48,3 +48,20 @@ pub fn by_turns(slices: usize, contenders: &mut [Work<'_>]) -> Vec<Compared> {
     });
     compared.collect()
 }
+
+/// The heading of [`rows`].
+pub const HEADING: &str = "\
+| Work | Contender | µs, best slice | proved / contender, median | proved / contender, best slices |
+|---|---|---|---|---|";
+
+/// Prints the rows of contenders whose slices are taken by turns.
+pub fn rows(row: &str, names: &[&str], slices: usize, mut works: Vec<Work<'_>>) {
+    for (name, told) in names.iter().zip(by_turns(slices, &mut works)) {
+        println!(
+            "| {row} | {name} | {:.2} | {:.3} | {:.3} |",
+            told.best * 1e6,
+            told.median,
+            told.best_ratio
+        );
+    }
+}

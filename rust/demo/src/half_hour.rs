@@ -2,6 +2,7 @@
 //! authentic before, while and after a repeater's older words came in.
 
 use crate::proved;
+use replay::replayed;
 use second_receiver::navdata::SET_LEN;
 use second_receiver::numbers::ACCEPTED;
 use second_receiver::replay::{replay, write_reads};
@@ -99,15 +100,19 @@ fn read(receiver: &Receiver, prn: u8) -> Result<Set, String> {
     }
 }
 
-/// The second receiver after the first records of a run, and the proved core's answers: every line
-/// and every authentic set of the two must be equal.
+/// The second receiver after the first records of a run, and the proved replay program's lines: every
+/// line of the two and of the proved core must be equal, and every authentic set of core and receiver.
 fn after(run: &Run, records: usize) -> Result<(Receiver, String), String> {
     let mut answers = Vec::new();
     let input = &run.bytes[..records * RECORD];
     let receiver = replay(input, &mut answers).map_err(|e| e.to_string())?;
+    let program = replayed(input)?;
+    require(program == answers, || {
+        "the proved replay program and the second receiver print different lines".into()
+    })?;
     let (core, lines) = proved::replayed(input)?;
-    require(lines.as_bytes() == answers, || {
-        "the proved core and the second receiver print different lines".into()
+    require(lines.as_bytes() == program, || {
+        "the proved replay program and the proved core have different lines".into()
     })?;
     for prn in 1..=36 {
         let mut bytes = [0; SET_LEN];
@@ -120,6 +125,7 @@ fn after(run: &Run, records: usize) -> Result<(Receiver, String), String> {
         };
         require(same, || format!("the two read different sets of E{prn:02}"))?;
     }
+    let lines = String::from_utf8(program).map_err(|e| e.to_string())?;
     Ok((receiver, lines))
 }
 

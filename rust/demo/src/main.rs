@@ -1,5 +1,6 @@
 //! What `./demo` shows: the proved library at published values, then half an hour of a signal with
-//! a repeater in it, heard by the proved core and by the second receiver. Fails if anything differs.
+//! a repeater in it, replayed by the proved program, the proved core and the second receiver. Fails if
+//! anything differs.
 
 #![forbid(unsafe_code)]
 
@@ -27,8 +28,11 @@ fn published_values() -> bool {
 }
 
 fn recorded_half_hour() -> bool {
-    println!("2. Half an hour beside a repeater, heard by the proved core (libosnma.a)");
-    println!("   (the second receiver, plain Rust, hears it too: every line and set is equal)");
+    println!(
+        "2. Half an hour beside a repeater, through the proved replay program (target/bin/replay)"
+    );
+    println!("   (every line is also the second receiver's, plain Rust, and the proved core's, libosnma.a;");
+    println!("   the sets below are read from both, and are equal)");
     println!();
     let story = find("fitter")
         .ok_or("no scenario `fitter`".to_string())

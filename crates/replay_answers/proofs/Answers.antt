@@ -1,0 +1,75 @@
+-- A call's contract as the answer to a record of its kind. Assumes nothing.
+use mathlib.Core.Path.{_≡_, refl, sym, ap, _∙_}
+use mathlib.Core.List.{List}
+use Prim.Native.Nat.{ℕ}
+use lib.ListN.{length}
+use borrow.Author.Tests.{eq-eqb, ne-eqb}
+use Rattle.laws.specs.Refusal.{unless}
+use Rattle.regions.specs.Told.{told}
+use Rattle.call_subframe.specs.Told.{subframeTold}
+use Rattle.rules.specs.Calls.{startCall, wordCall, subframeCall, verdictCall}
+use Rattle.rules.specs.State.{State}
+use Rattle.rules.specs.Replay.{startOf, wordOf, subframeOf, verdictOf, startAnswered, wordAnswered, subframeAnswered, verdictAnswered, answered, kindOf, recordLength, Session}
+use Rattle.replay_answers.specs.Answers.{session, gave}
+
+pub start-answered : (s s' : State) (area : List ℕ) (code started started' : ℕ) (input : List ℕ) → told code s' ≡ startCall s (startOf input)
+    → started' ≡ unless code 1 started → gave code 0 0 (session s' area started') ≡ startAnswered (session s area started) input
+unfolding startAnswered
+start-answered s s' area code started started' input e d = rw (← e, d)
+
+module _ (s s' : State) (area : List ℕ) (code started : ℕ) (input : List ℕ) (on : started ≡ 0 → ⊥) where
+  pub word-answered : told code s' ≡ wordCall s (wordOf input) → gave code 0 0 (session s' area started) ≡ wordAnswered (session s area started) input
+  unfolding wordAnswered
+  word-answered e = rw (ne-eqb started 0 on, ← e)
+
+  pub verdict-answered : told code s' ≡ verdictCall s (verdictOf input) → gave code 0 0 (session s' area started) ≡ verdictAnswered (session s area started) input
+  unfolding verdictAnswered
+  verdict-answered e = rw (ne-eqb started 0 on, ← e)
+
+module _ (s : State) (area : List ℕ) (started : ℕ) (input : List ℕ) (off : started ≡ 0) where
+  pub word-unstarted : gave 11 0 0 (session s area started) ≡ wordAnswered (session s area started) input
+  unfolding wordAnswered
+  word-unstarted = rw (eq-eqb started 0 off)
+
+  pub verdict-unstarted : gave 11 0 0 (session s area started) ≡ verdictAnswered (session s area started) input
+  unfolding verdictAnswered
+  verdict-unstarted = rw (eq-eqb started 0 off)
+
+pub subframe-unstarted : (s : State) (area : List ℕ) (started : ℕ) (input : List ℕ) → started ≡ 0
+    → gave 11 11 0 (session s area started) ≡ subframeAnswered (session s area started) input
+unfolding subframeAnswered
+subframe-unstarted s area started input off = rw (eq-eqb started 0 off)
+
+pub subframe-answered : (s s' : State) (area area' : List ℕ) (hkroot mack count started : ℕ) (input : List ℕ) → (started ≡ 0 → ⊥)
+    → subframeTold hkroot mack count s' area' ≡ subframeCall s area (subframeOf input)
+    → gave hkroot mack count (session s' area' started) ≡ subframeAnswered (session s area started) input
+unfolding subframeAnswered
+subframe-answered s s' area area' hkroot mack count started input on e = rw (ne-eqb started 0 on, ← e)
+
+-- ---- which kind
+
+pub short-record : (s : Session) (input : List ℕ) → (length input ≡ recordLength → ⊥) → gave 1 0 0 s ≡ answered s input
+unfolding answered
+short-record s input h = rw (ne-eqb (length input) recordLength h)
+
+module _ (s : Session) (input : List ℕ) (e : length input ≡ recordLength) where
+  pub start-kind : kindOf input ≡ 1 → startAnswered s input ≡ answered s input
+  unfolding answered
+  start-kind k = rw (eq-eqb (length input) recordLength e, k)
+
+  pub word-kind : kindOf input ≡ 2 → wordAnswered s input ≡ answered s input
+  unfolding answered
+  word-kind k = rw (eq-eqb (length input) recordLength e, k)
+
+  pub subframe-kind : kindOf input ≡ 3 → subframeAnswered s input ≡ answered s input
+  unfolding answered
+  subframe-kind k = rw (eq-eqb (length input) recordLength e, k)
+
+  pub verdict-kind : kindOf input ≡ 4 → verdictAnswered s input ≡ answered s input
+  unfolding answered
+  verdict-kind k = rw (eq-eqb (length input) recordLength e, k)
+
+  pub other-kind : (kindOf input ≡ 1 → ⊥) → (kindOf input ≡ 2 → ⊥) → (kindOf input ≡ 3 → ⊥) → (kindOf input ≡ 4 → ⊥) → gave 2 0 0 s ≡ answered s input
+  unfolding answered
+  other-kind a b c d =
+      rw (eq-eqb (length input) recordLength e, ne-eqb (kindOf input) 1 a, ne-eqb (kindOf input) 2 b, ne-eqb (kindOf input) 3 c, ne-eqb (kindOf input) 4 d)

@@ -1,0 +1,2 @@
+-- what the functions' proofs share
+pub mod Answers

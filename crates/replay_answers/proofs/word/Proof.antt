@@ -1,0 +1,21 @@
+-- `replay_answers::word` meets its contract: 11 before a start, or the call at the record's parts.
+-- Assumes nothing.
+use mathlib.Core.Path.{_∙_}
+use borrow.Author.Needs.{needs}
+use Rattle.laws.specs.Lists.{part}
+use Rattle.rules.specs.Replay.{wordOf}
+use Rattle.replay_answers.proofs.Answers.{word-answered, word-unstarted}
+use Rattle.replay_answers.proofs.word.Statement.{statement}
+use Rattle.replay_answers.proofs.word.Tie as tie
+
+returns : tie.Need-returns
+returns c = λ area. word-unstarted _ area _ _ (c .if1 .taken)
+
+returns-2 : tie.Need-returns-2
+unfolding wordOf part
+returns-2 c = λ area. word-answered _ _ area _ _ _ (c .before .before .before .before .before .before .before .before .before .before .before .before .before .if1 .left) (rw (← (c .before .before .before .before .before .before .before .before .before .before .before .before .get-u32 .ensures)) (c .before .before .before .before .before .before .osnma-regions-word .ensures))
+
+pub word-spec : {M : Type 1} → statement M
+word-spec =
+    tie.close
+    (tie.spec returns (λ c κs. search needs) (λ c. search needs) (λ c. search needs) (λ c. search needs) (λ c. search needs) (λ c κs. search needs) (λ c. search needs) (λ c. search needs) (λ c. search needs) returns-2)

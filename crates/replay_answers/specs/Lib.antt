@@ -1,0 +1,2 @@
+-- what the contracts of the answers cite
+pub mod Answers

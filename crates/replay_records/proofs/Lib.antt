@@ -1,0 +1,3 @@
+-- what the proof of `replay_record` uses
+mod Records
+mod Lines

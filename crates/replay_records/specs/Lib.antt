@@ -1,0 +1,2 @@
+-- what the contracts of the replay library cite
+pub mod Written
