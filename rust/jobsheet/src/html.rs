@@ -178,7 +178,8 @@ fn marked(out: &mut String, name: &str, run: &RunSheet) {
         "<p class=\"how\">Words 1 to 5 of the satellite: 549 bits and three zero bits, 69 bytes. \
          Each rests on a tag that matches these very bits, under the key of its slot; that key \
          hashes down to the root; a good verdict vouched for the root, under a public key that was \
-         given at the start or proved by the tree. {}</p>\n<div class=\"sets\">",
+         given at the start or proved by the tree. {} The check of all is over the sets at the end, \
+         one after another.</p>\n<div class=\"sets\">",
         escaped(phone::HOW)
     );
     for set in &run.marked {

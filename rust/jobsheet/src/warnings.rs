@@ -249,8 +249,8 @@ fn changed(run: &Run, clock: Clock) -> Option<Warning> {
                 "Data changed while slow tags waited: {}.",
                 which(run, &prns)
             ),
-            "Each slow tag was judged by the data held when it came, not by what came after, and \
-             that data alone was marked.",
+            "Each slow tag was judged by the data held when it came, never by what came after: it \
+             can mark that data alone.",
         )
     })
 }

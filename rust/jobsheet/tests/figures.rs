@@ -277,6 +277,30 @@ fn chain_in_force() {
     }
 }
 
+// After every verdict as many tags wait as in the second receiver: roots, chains and drops.
+#[test]
+fn tags_that_stay() {
+    let mut verdicts = 0;
+    for name in [
+        "waiting_tags",
+        "floating_root",
+        "chain_renewal",
+        "chain_revoked",
+    ] {
+        let bytes = recording(name);
+        for (place, record) in bytes.chunks_exact(RECORD_LEN).enumerate() {
+            if record[0] == 4 {
+                let so_far = &bytes[..(place + 1) * RECORD_LEN];
+                let waiting = history(so_far).runs.last().map(|run| run.waiting());
+                let other = second(so_far).2.waiting_tags().len();
+                assert_eq!(waiting, Some(other), "{name}, record {}", place + 1);
+                verdicts += 1;
+            }
+        }
+    }
+    assert!(verdicts > 10);
+}
+
 /// The signs of a satellite's strip in the page, without those laid over them.
 fn signs(page: &str, prn: u8) -> Vec<String> {
     let mut all = Vec::new();
