@@ -119,7 +119,7 @@ fn rows(out: &mut String, table: &Table) {
     for row in &table.rows {
         let fields: String = row
             .iter()
-            .map(|field| format!("<td>{}</td>", escaped(field)))
+            .map(|field| format!("<td>{}</td>", escaped(&field.replace('\n', "; "))))
             .collect();
         let _ = writeln!(out, "<tr>{fields}</tr>");
     }

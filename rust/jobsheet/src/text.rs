@@ -113,19 +113,23 @@ fn warnings(out: &mut String, run: &RunSheet) {
 
 fn rows(out: &mut String, table: &Table) {
     let head: Vec<String> = table.head.iter().map(|name| name.to_string()).collect();
-    let lines = || std::iter::once(&head).chain(&table.rows);
+    let all = || std::iter::once(&head).chain(&table.rows);
     let width = |column: usize| {
-        lines()
-            .map(|row| row[column].chars().count())
-            .max()
-            .unwrap_or(0)
+        let lines = all().flat_map(|row| row[column].lines());
+        lines.map(|line| line.chars().count()).max().unwrap_or(0)
     };
-    for row in lines() {
-        let fields = row.iter().enumerate();
-        let line: String = fields
-            .map(|(n, field)| format!("{field:<0$}  ", width(n)))
-            .collect();
-        let _ = writeln!(out, "    {}", line.trim_end());
+    let widths: Vec<usize> = (0..head.len()).map(width).collect();
+    for row in all() {
+        // The lines of its fields, side by side.
+        let height = row.iter().map(|field| field.lines().count()).max();
+        for n in 0..height.unwrap_or(0) {
+            let line: String = row
+                .iter()
+                .zip(&widths)
+                .map(|(field, width)| format!("{:<width$}  ", field.lines().nth(n).unwrap_or("")))
+                .collect();
+            let _ = writeln!(out, "    {}", line.trim_end());
+        }
     }
 }
 

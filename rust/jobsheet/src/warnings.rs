@@ -19,7 +19,7 @@ pub enum Grade {
 pub struct Table {
     /// What the columns are.
     pub head: Vec<&'static str>,
-    /// As many fields a row as the head has.
+    /// As many fields a row as the head has; a field may have several lines.
     pub rows: Vec<Vec<String>>,
 }
 
@@ -270,8 +270,8 @@ fn single_rows(run: &Run, clock: Clock, changes: &[&WordsChanged]) -> Vec<Vec<St
         let last = run.marked_last(prn).map(|set| set.iodnav);
         vec![
             format!("E{prn:02}"),
-            Vec::from_iter(changes.iter().map(when)).join(", "),
-            Vec::from_iter(changes.iter().map(then)).join("; "),
+            Vec::from_iter(changes.iter().map(when)).join("\n"),
+            Vec::from_iter(changes.iter().map(then)).join("\n"),
             issues(last.into_iter()),
         ]
     };

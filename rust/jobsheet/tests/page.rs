@@ -101,6 +101,14 @@ fn plain_words() {
     assert!(text::sheet(&sheet("nominal")).contains("Nothing to warn of."));
 }
 
+// The strips and tables of the fitter's half hour fit a terminal of 100 columns.
+#[test]
+fn text_is_narrow() {
+    for line in text::sheet(&sheet("fitter")).lines() {
+        assert!(line.chars().count() <= 100, "{line}");
+    }
+}
+
 // Warnings come before everything but the title.
 #[test]
 fn warnings_first() {
