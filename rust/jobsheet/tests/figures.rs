@@ -5,11 +5,11 @@ mod common;
 
 use common::{history, of_run, recording, recordings, second, Line};
 use jobsheet::history::History;
-use jobsheet::receiver::Receiver;
+use jobsheet::receiver::{Answer, Receiver};
 use jobsheet::recording::{Reader, Record, RECORD_LEN};
 use jobsheet::sheet::Sheet;
 use jobsheet::{csv, html, phone, text, time};
-use osnma::Refusal;
+use osnma::{Outcome, Refusal, TagRecord};
 use second_receiver::navdata::SET_LEN;
 use std::collections::{BTreeMap, BTreeSet};
 use std::fmt::Write;
@@ -157,6 +157,44 @@ fn marked_bytes_are_the_reads() {
         }
     }
     assert!(compared > 200);
+}
+
+// Other bits under the same IODnav are another set: it has an entry of its own. The core's memory is
+// written by hand here, since no scenario marks such a set.
+#[test]
+fn same_iodnav_other_bits() {
+    let bytes = recording("nominal");
+    let (mut receiver, mut all) = (Receiver::new(), History::default());
+    for record in Reader::new(&bytes[..]) {
+        let record = record.unwrap();
+        let answer = receiver.answer(&record);
+        all.note(&record, &answer, receiver.core());
+    }
+    let set = receiver.core().read_set(18).unwrap();
+    let before = all.runs[0].marked[&18].len();
+    let judged = all.runs[0].judged.iter().rev();
+    let is = |tag: &TagRecord| tag.prn == 18 && tag.outcome == Outcome::Authentic;
+    let record = judged
+        .map(|j| j.record)
+        .find(|tag| is(tag) && tag.time == set.time);
+    let mut other = receiver.core().clone();
+    other.regions_mut().sets[17 * SET_LEN + 40] ^= 1;
+    let subframe = Record::Subframe {
+        prn: 1,
+        time: set.time,
+        fields: [1; 75],
+    };
+    let answer = Answer {
+        first: Ok(()),
+        second: Ok(()),
+        tags: vec![record.unwrap()],
+    };
+    all.note(&subframe, &answer, &other);
+    let sets = &all.runs[0].marked[&18];
+    assert_eq!(sets.len(), before + 1);
+    assert_eq!(sets[before].iodnav, sets[before - 1].iodnav);
+    assert_eq!(sets[before].bytes, other.read_set(18).unwrap().bytes);
+    assert_eq!(sets[before - 1].bytes, set.bytes);
 }
 
 // The tag, its slot, its root and its verdict. The tag is found in the second receiver's lines: the
