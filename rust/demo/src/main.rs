@@ -1,10 +1,12 @@
 //! What `./demo` shows: the proved library at published values, then half an hour of a signal with
-//! a repeater in it, replayed by the proved program, the proved core and the second receiver. Fails if
+//! a repeater in it, replayed by the proved program, the proved core and the second receiver, and its
+//! job sheet. Fails if
 //! anything differs.
 
 #![forbid(unsafe_code)]
 
 mod half_hour;
+mod job_sheet;
 mod proved;
 mod published;
 
@@ -53,9 +55,30 @@ fn recorded_half_hour() -> bool {
     }
 }
 
+fn sheet_for_the_fitter() -> bool {
+    println!("3. The job sheet of that half hour, from the proved core's answers");
+    println!();
+    let sheet = find("fitter")
+        .ok_or("no scenario `fitter`".to_string())
+        .and_then(|scenario| job_sheet::written(&scenario.run(SEED).bytes));
+    let (lines, well) = match sheet {
+        Ok(lines) => (lines, true),
+        Err(text) => (vec![format!("FAILED: {text}")], false),
+    };
+    for line in lines {
+        println!("{}", format!("   {line}").trim_end());
+    }
+    println!();
+    well
+}
+
 fn main() -> ExitCode {
-    let results = [published_values(), recorded_half_hour()];
-    if results == [true; 2] {
+    let results = [
+        published_values(),
+        recorded_half_hour(),
+        sheet_for_the_fitter(),
+    ];
+    if results == [true; 3] {
         println!("All as it must be.");
         ExitCode::SUCCESS
     } else {

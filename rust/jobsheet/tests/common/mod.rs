@@ -1,0 +1,91 @@
+//! What the second receiver answers to a recording, and the sheet of the same.
+
+// Each test file uses some of this.
+#![allow(dead_code)]
+
+use jobsheet::history::History;
+use jobsheet::recording::RECORD_LEN;
+use second_receiver::replay::replay;
+use second_receiver::Receiver;
+use signal::scenario::{self, SEED};
+use std::sync::OnceLock;
+
+/// Chains of a million slots and more, which other tests walk.
+const LONG: [&str; 4] = ["sections", "gaps", "held_key", "gap_full"];
+
+/// The other named scenarios that end in a whole record, and some random runs.
+fn built() -> Vec<(String, Vec<u8>)> {
+    let left_out = |name| name == "short_record" || LONG.contains(&name);
+    let named = scenario::all().iter().filter(|s| !left_out(s.name));
+    let named = named.map(|s| (s.name.to_string(), s.run(SEED).bytes));
+    let random = (0..24).map(|seed| (format!("random {seed}"), scenario::random(seed).bytes));
+    named
+        .chain(random)
+        .map(|(name, mut bytes)| {
+            bytes.truncate(bytes.len() / RECORD_LEN * RECORD_LEN);
+            (name, bytes)
+        })
+        .collect()
+}
+
+/// Them all, built once.
+pub fn recordings() -> &'static [(String, Vec<u8>)] {
+    static ALL: OnceLock<Vec<(String, Vec<u8>)>> = OnceLock::new();
+    ALL.get_or_init(built)
+}
+
+pub fn recording(name: &str) -> Vec<u8> {
+    scenario::find(name).unwrap().run(SEED).bytes
+}
+
+/// What the core answered, through the program's own library.
+pub fn history(recording: &[u8]) -> History {
+    jobsheet::replay(recording, |_| ()).unwrap()
+}
+
+/// One line of the second receiver's replay and the tag records under it.
+#[derive(Debug)]
+pub struct Line {
+    pub place: u64,
+    pub first: u32,
+    pub second: u32,
+    pub tags: Vec<[u8; 12]>,
+}
+
+/// The second receiver's replay: its text, its lines taken apart, and the receiver after them.
+pub fn second(recording: &[u8]) -> (String, Vec<Line>, Receiver) {
+    let mut text = Vec::new();
+    let receiver = replay(recording, &mut text).unwrap();
+    let text = String::from_utf8(text).unwrap();
+    let mut lines: Vec<Line> = Vec::new();
+    for line in text.lines() {
+        let numbers: Vec<u64> = line.split(' ').flat_map(str::parse).collect();
+        if let ([place, first, second, _], true) = (&numbers[..], line.contains(' ')) {
+            lines.push(Line {
+                place: *place,
+                first: *first as u32,
+                second: *second as u32,
+                tags: Vec::new(),
+            });
+        } else {
+            let digit = |n: usize| u8::from_str_radix(&line[2 * n..2 * n + 2], 16).unwrap();
+            lines
+                .last_mut()
+                .unwrap()
+                .tags
+                .push(std::array::from_fn(digit));
+        }
+    }
+    (text, lines, receiver)
+}
+
+/// The records of one run. Its start forgets everything, so they alone are the same run again.
+pub fn of_run<'a>(recording: &'a [u8], history: &History, run: usize) -> &'a [u8] {
+    let from = history.runs[run].place as usize - 1;
+    let next = history
+        .runs
+        .get(run + 1)
+        .map(|next| next.place as usize - 1);
+    let to = next.unwrap_or(recording.len() / RECORD_LEN);
+    &recording[from * RECORD_LEN..to * RECORD_LEN]
+}
