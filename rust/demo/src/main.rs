@@ -1,7 +1,6 @@
 //! What `./demo` shows: the proved library at published values, then half an hour of a signal with
 //! a repeater in it, replayed by the proved program, the proved core and the second receiver, and its
-//! job sheet. Fails if
-//! anything differs.
+//! job sheet. Fails if anything differs.
 
 #![forbid(unsafe_code)]
 
