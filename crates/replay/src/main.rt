@@ -2,7 +2,7 @@
 // on a record; this program only reads and writes. It reads 16 records at a time and writes their lines at once, and stops where a write fails.
 use libc::STDIN_FILENO;
 use libc::STDOUT_FILENO;
-ghost use Prim.Native.Nat.{_+_, _*_, _<_, _≤_};
+ghost use Prim.Native.Nat.{_+_, _<_, _≤_};
 ghost use lib.ListN.{length};
 
 // The core's regions, the area for tag records, and room for 16 records and their lines.
