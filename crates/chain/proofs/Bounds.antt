@@ -2,23 +2,22 @@
 -- Assumes nothing.
 use mathlib.Core.Path.{_≡_, refl}
 use mathlib.Core.Bool.{false}
-use mathlib.Core.List.{List, [], _∷_}
+use mathlib.Core.List.{List}
 use Prim.Native.Nat.{ℕ, zero, suc, _+_, _-_, _*_, _/_, _%_, _^_, _≤_, _<_}
 use native.Mathlib.Omega.{arith}
 use native.Mathlib.Nat.{mul-le-mul, mod-lt}
 use lib.Dec.{T, ltb, eqb}
 use borrow.Author.Tests.{ltb-false, eqb-false}
 use Rattle.laws.specs.Refusal.{neb}
-use Rattle.laws.proofs.Table.{table-range}
 use Rattle.laws.proofs.Tests.{neither}
-use Rattle.times.proofs.Times.{seconds-bound, delay-bound, hour-bound}
+use Rattle.times.proofs.Times.{seconds-bound, hour-bound}
 use Rattle.rules.specs.Bits.{bits}
 use Rattle.rules.specs.Times as T
 use Rattle.rules.specs.Chain as S
 use Rattle.rules.specs.Kroot as K
 use Rattle.rules.specs.State.{macltOf}
 use Rattle.rules.specs.declared.Chain.{Chain}
-use Rattle.rules.proofs.Bounds.{bits-lt}
+use Rattle.rules.proofs.Bounds.{bits-lt, key-width-range, tag-width-bound}
 use Rattle.chain.specs.Sound.{Walks, Sound}
 
 -- ---- slots
@@ -39,21 +38,7 @@ sent-bound c g b p w h k =
     let s : (T.secondsOf g - c .root) / 30 ≤ 143165586 = omega (arith, seconds-bound g h) in
     slot-below (c .ns) (c .nmack) _ b p (w .ns-low) (w .ns-high) (w .nmack-high) s k
 
-pub tag-bound : (c : Chain) (g b adkd : ℕ) → Walks c → g < 2 ^ 32 → b < 256 → S.keySlot c g b adkd < 2 ^ 34
-unfolding S.keySlot T.tagSlot T.lowestSlot T.subframeAt T.keySeconds
-tag-bound c g b adkd w h k =
-    let s : (T.secondsOf g + 30 * T.delayOf adkd - c .root) / 30 ≤ 143165586 = omega (arith, seconds-bound g h, delay-bound adkd) in
-    slot-below (c .ns) (c .nmack) _ b 1 (w .ns-low) (w .ns-high) (w .nmack-high) s k
-
 -- ---- a chain in force
-
-key-widths : (code : ℕ) → (12 ≤ K.keyWidth code) × (K.keyWidth code ≤ 32)
-unfolding K.keyWidth
-key-widths code = table-range 12 32 32 (12 ∷ 13 ∷ 14 ∷ 15 ∷ 16 ∷ 20 ∷ 24 ∷ 28 ∷ 32 ∷ []) tt (omega arith) (omega arith) code
-
-tag-widths : (code : ℕ) → K.tagWidth code ≤ 40
-unfolding K.tagWidth
-tag-widths code = table-range 10 40 40 (10 ∷ 12 ∷ 14 ∷ 16 ∷ 18 ∷ 20 ∷ 24 ∷ 28 ∷ 32 ∷ 40 ∷ []) tt (omega arith) (omega arith) code .1
 
 -- parameters that are not bad: NMACK is not 0, and a block holds a field and the key
 params-good : (config d : List ℕ) → K.parametersBad config d ≡ false
@@ -82,7 +67,7 @@ pub chain-sound : (ns : ℕ) (config d : List ℕ) → 1 ≤ ns → ns ≤ 36 �
 unfolding K.chainWith K.rootSecondsOf K.rootWeekOf K.rootHourOf
 chain-sound ns config d h k e =
     let g = params-good config d e in
-    let w = key-widths (K.ksOf d) in
+    let w = key-width-range (K.ksOf d) in
     let n : K.nmackOf d < 4 = nmack-below d in
     record {
       walks = record {
@@ -94,7 +79,7 @@ chain-sound ns config d h k e =
         width-low = w .0;
         width-high = w .1;
       };
-      ms-high = tag-widths (K.msOf d);
+      ms-high = tag-width-bound (K.msOf d);
       fields-are = refl;
       block-fits = g .1;
     }

@@ -6,7 +6,6 @@ use mathlib.Core.Logic.{⊎-elim}
 use mathlib.Core.List.{List, _∷_, _++_, append-assoc, append-nil}
 use Prim.Native.Nat.{ℕ, zero, suc, _+_, _-_, _*_, _/_, _%_, _^_, _≤_, _<_}
 use native.Mathlib.Omega.{arith}
-use native.Mathlib.Nat.{add-zero, add-suc, add-assoc}
 use lib.ListN.{length, take, drop, set, replicate, length-append, length-replicate, length-drop, replicate-append-replicate, take-append-drop, drop-of-length-le}
 use lib.Seq.{take-at, drop-at, drop-drop, set-at, length-take-le, take-all}
 use borrow.Author.Tests.{lt-ltb, le-ltb}
@@ -20,6 +19,7 @@ use Rattle.sha256.proofs.Continued.{one-block, length-sha256}
 use Rattle.rules.specs.Chain as S
 use Rattle.rules.specs.declared.Chain.{Chain}
 use Rattle.laws.proofs.Same.{same-true}
+use Rattle.rules.proofs.Walks.{walk-add}
 use Rattle.chain.specs.Sound.{Framed, Met}
 
 -- ---- lengths
@@ -56,20 +56,13 @@ pub walked : (c : Chain) (n m i : ℕ) (b key out : List ℕ) → i ≤ 0 → S.
 unfolding part
 walked c n m i b key out h e p = p ∙ ap (splice key 0) (sym (walk-none c i m (take (c .width) b) (omega arith)) ∙ e)
 
--- a walk in two parts: first b steps, then a
-pub walk-add : (c : Chain) (a b m : ℕ) (k : List ℕ) → S.walk c (a + b) m k ≡ S.walk c a m (S.walk c b (m + a) k)
-unfolding S.walk
-walk-add c a zero m k = rw (add-zero a)
-walk-add c a (suc b) m k =
-    rw (add-suc a b, add-assoc m a b) (walk-add c a b m (S.keyStep c (m + (a + b)) k))
-
 -- a walk goes on from the key of a slot on its way
 pub walk-on : (c : Chain) (h : S.Held) (at m : ℕ) → m ≤ at → at ≤ h .slot → S.keyOfSlot c (S.held at (S.keyOfSlot c h at)) m ≡ S.keyOfSlot c h m
 unfolding S.keyOfSlot
 walk-on c h at m p q =
-    let e : at - m + (h .slot - at) ≡ h .slot - m = omega arith in
+    let e : h .slot - at + (at - m) ≡ h .slot - m = omega arith in
     let f : m + (at - m) ≡ at = omega arith in
-    sym (rw (← e) (walk-add c (at - m) (h .slot - at) m (h .key) ∙ ap (λ (i : ℕ). S.walk c (at - m) m (S.walk c (h .slot - at) i (h .key))) f))
+    sym (rw (← e) (walk-add c (h .slot - at) (at - m) m (h .key) ∙ ap (λ (i : ℕ). S.walk c (at - m) m (S.walk c (h .slot - at) i (h .key))) f))
 
 -- a key of a higher slot, walked down to a slot on its way, fits where the key itself does
 pub fits-on-the-way : (c : Chain) (h : S.Held) (slot stop : ℕ) (k : List ℕ) → stop ≤ slot → (h .slot < slot → h .slot ≤ stop) → (slot ≤ h .slot → stop ≡ slot)

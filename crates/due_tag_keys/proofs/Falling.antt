@@ -9,16 +9,16 @@ use Prim.Native.Nat.{ℕ, _+_, _-_, _≤_, _<_}
 use native.Mathlib.Omega.{arith}
 use lib.Dec.{ltb, eqb}
 use lib.ListN.{length, take, getD, set}
-use lib.Seq.{getD-set-same, getD-set-other, length-take-le}
+use lib.Seq.{getD-set-same, getD-set-other}
 use borrow.Author.Tests.{lt-ltb, le-ltb, le-leb, lt-leb, eq-eqb, ne-eqb}
 use Rattle.laws.specs.Lists.{splice}
-use Rattle.laws.proofs.Splice.{below?, length-splice}
+use Rattle.laws.proofs.Splice.{below?}
 use Rattle.rules.specs.Chain as S
 use Rattle.rules.specs.Times as T
 use Rattle.rules.specs.Tags.{entryAt, entryTag, entrySet, isDue, tagKey, tagMatches, tagMessage, macBits}
 use Rattle.rules.specs.declared.Chain.{Chain}
 use Rattle.rules.specs.declared.Tag.{Tag}
-use Rattle.chain.proofs.Steps.{walk-none, walk-on, walked-key, walked-length}
+use Rattle.chain.proofs.Steps.{walk-on, walked-key, walked-length}
 use Rattle.due_tag_keys.specs.Outcomes.{entrySlot, matchOutcome, dueOutcome, Outcomes, JudgedAt, JudgedAbove}
 
 -- ---- a list that is filled place by place

@@ -1,7 +1,6 @@
 -- One entry more of the sweep: its work adds to that of the entries before it, and the regions hold the sum.
 -- Assumes nothing.
 use mathlib.Core.Path.{_≡_, refl, sym, ap, _∙_}
-use mathlib.Core.Bool.{cond}
 use mathlib.Core.List.{List, _++_, append-nil}
 use Prim.Native.Nat.{ℕ, zero, suc, _+_, _-_, _*_, _≤_, _<_}
 use native.Mathlib.Omega.{arith}
@@ -10,7 +9,6 @@ use lib.ListN.{length, getD, length-append}
 use Rattle.laws.specs.Lists.{splice}
 use Rattle.laws.proofs.Splice.{splice-append, splice-nil}
 use Rattle.rules.specs.Tags.{Work, told, kept, recordIssue, entryAt, entryTag, entrySet}
-use Rattle.rules.specs.declared.Tag.{Tag}
 use Rattle.rules.proofs.Entries.{length-entry}
 use Rattle.rules.proofs.TagRecords.{length-record}
 use Rattle.waiting_tags.proofs.Entries.{untouched}

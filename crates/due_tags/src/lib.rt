@@ -1,16 +1,14 @@
 // The sweep of the waiting tags (01, "MACK": "Due tags are judged in arrival order before the section's own, and free their places").
 // A tag that is due gets its record, and for outcome 1 its set becomes the satellite's authentic one; the others close up, in order.
-// Public calls:
-//   judge_due   the whole: keys, outcomes, records, sets and places
-//   sweep       the same for outcomes that are known
+// `judge_due` is the public call: keys, outcomes, records, sets and places.
 use rules::Chain;
 use rules::Tag;
 ghost use mathlib.Core.Path.{_≡_};
-ghost use mathlib.Core.Bool.{true, cond};
 ghost use Prim.Native.Nat.{_+_, _-_, _*_, _^_, _≤_, _<_};
 ghost use lib.ListN.{length, take};
 ghost use Rattle.rules.specs.Chain.{held};
 ghost use Rattle.rules.specs.Tags.{entryAt, entryTag, entrySet, told, duesJudged};
+ghost use Rattle.rules.specs.State.{areaLength, satellites, setsLength, waitingLength};
 ghost use Rattle.chain.specs.Sound.{Sound, Met};
 ghost use Rattle.tag_records.specs.Told.{start, Tells, Leaves, Counts};
 ghost use Rattle.due_tags.specs.Swept.{sweptOne, swept};
@@ -27,7 +25,7 @@ fn tell_entry(
     area: &mut [u8],
     at: usize,
 )
-    requires { ⌜ ((length (now sets) ≡ 2484) × (length (now arrivals) ≡ 36)) × ((k * 84 + 84 ≤ length (now waiting)) × (at + 12 ≤ length (now area))) ⌝ }
+    requires { ⌜ ((length (now sets) ≡ setsLength) × (length (now arrivals) ≡ satellites)) × ((k * 84 + 84 ≤ length (now waiting)) × (at + 12 ≤ length (now area))) ⌝ }
     ensures { λ _. ⌜ Tells (told outcome (entryTag (entryAt (now (waiting .entry)) k)) (entrySet (entryAt (now (waiting .entry)) k)) (start 0 (now (sets .entry)) (now (arrivals .entry)))) at (now (area .entry)) (now (sets .exit)) (now (arrivals .exit)) (now (area .exit)) ⌝ }
 {
     let t = waiting_tags::entry_tag(waiting, k);
@@ -48,7 +46,7 @@ fn sweep_one(
     arrivals: &mut [u32],
     area: &mut [u8],
 ) -> usize
-    requires { ⌜ ((length (now sets) ≡ 2484) × (length (now arrivals) ≡ 36)) × ((length (now waiting) ≡ 21504) × (length (now area) ≡ 3240)) ⌝ }
+    requires { ⌜ ((length (now sets) ≡ setsLength) × (length (now arrivals) ≡ satellites)) × ((length (now waiting) ≡ waitingLength) × (length (now area) ≡ areaLength)) ⌝ }
     requires { ⌜ (kept ≤ k) × (k < 256) ⌝ }
     ensures { λ r. ⌜ Leaves (sweptOne outcome (entryAt (now (waiting .entry)) k) (start kept (now (sets .entry)) (now (arrivals .entry)))) kept (k - kept) (now (waiting .entry)) (now (area .entry)) (now (waiting .exit)) (now (sets .exit)) (now (arrivals .exit)) (now (area .exit)) r ⌝ }
 {
@@ -61,7 +59,7 @@ fn sweep_one(
 }
 
 // The first n entries, of these outcomes. Gives how many stay.
-pub fn sweep(
+fn sweep(
     outcomes: &[u8],
     waiting: &mut [u8],
     n: usize,
@@ -69,7 +67,7 @@ pub fn sweep(
     arrivals: &mut [u32],
     area: &mut [u8],
 ) -> usize
-    requires { ⌜ ((length (now sets) ≡ 2484) × (length (now arrivals) ≡ 36)) × ((length (now waiting) ≡ 21504) × (length (now area) ≡ 3240)) ⌝ }
+    requires { ⌜ ((length (now sets) ≡ setsLength) × (length (now arrivals) ≡ satellites)) × ((length (now waiting) ≡ waitingLength) × (length (now area) ≡ areaLength)) ⌝ }
     requires { ⌜ (length (now outcomes) ≡ 256) × (n ≤ 256) ⌝ }
     ensures { λ r. ⌜ Leaves (swept (now (outcomes .entry)) (now (waiting .entry)) n (start 0 (now (sets .entry)) (now (arrivals .entry)))) 0 0 (now (waiting .entry)) (now (area .entry)) (now (waiting .exit)) (now (sets .exit)) (now (arrivals .exit)) (now (area .exit)) r × Counts (swept (now (outcomes .entry)) (now (waiting .entry)) n (start 0 (now (sets .entry)) (now (arrivals .entry)))) n r ⌝ }
 {
@@ -97,7 +95,7 @@ pub fn judge_due(
     arrivals: &mut [u32],
     area: &mut [u8],
 ) -> usize
-    requires { ⌜ ((length (now sets) ≡ 2484) × (length (now arrivals) ≡ 36)) × ((length (now waiting) ≡ 21504) × (length (now area) ≡ 3240)) ⌝ }
+    requires { ⌜ ((length (now sets) ≡ setsLength) × (length (now arrivals) ≡ satellites)) × ((length (now waiting) ≡ waitingLength) × (length (now area) ≡ areaLength)) ⌝ }
     requires { ⌜ (Sound c × ((slot < 2 ^ 34) × (n ≤ 256))) × Met c (held slot (take (c .width) known)) near met ⌝ }
     ensures { λ r. ⌜ Leaves (duesJudged c (held slot (take (c .width) known)) (now (waiting .entry)) n (start 0 (now (sets .entry)) (now (arrivals .entry)))) 0 0 (now (waiting .entry)) (now (area .entry)) (now (waiting .exit)) (now (sets .exit)) (now (arrivals .exit)) (now (area .exit)) r × Counts (duesJudged c (held slot (take (c .width) known)) (now (waiting .entry)) n (start 0 (now (sets .entry)) (now (arrivals .entry)))) n r ⌝ }
 {

@@ -1,7 +1,7 @@
 -- A cursor that has taken off j fields in order stands at the place that the rules compute for field j, and likewise for blocks; fields and
 -- blocks end inside the section.
 -- Assumes nothing.
-use mathlib.Core.Path.{_≡_, refl, sym, _∙_, ap}
+use mathlib.Core.Path.{_≡_, ap}
 use mathlib.Core.Logic.{⊎-elim}
 use Prim.Native.Nat.{ℕ, zero, suc, _+_, _-_, _*_, _/_, _%_, _≤_, _<_}
 use native.Mathlib.Omega.{arith}

@@ -1,18 +1,17 @@
 -- The MACK half by its cases: the section is refused (11), a key refuses it (13 or 12), or it is taken.
 -- Assumes nothing.
-use mathlib.Core.Path.{_≡_, refl, sym, ap, _∙_}
-use mathlib.Core.Bool.{Bool, true, false, not, _&&_, _||_}
-use mathlib.Core.List.{List, [], _∷_}
+use mathlib.Core.Path.{_≡_, refl, sym}
+use mathlib.Core.Bool.{true, false, not}
+use mathlib.Core.List.{List, []}
 use Prim.Native.Nat.{ℕ, zero, suc, _*_, _<_, _≤_}
 use native.Mathlib.Omega.{arith}
-use lib.Dec.{leb, ltb, eqb}
-use lib.ListN.{length, getD, set}
+use lib.Dec.{ltb, eqb}
+use lib.ListN.{length, getD}
 use borrow.Author.Tests.{le-leb, lt-leb, eq-eqb, ne-eqb, not-true}
 use Rattle.laws.specs.Lists.{splice}
 use Rattle.laws.specs.Refusal.{unless}
 use Rattle.laws.proofs.Splice.{splice-nil}
 use Rattle.laws.proofs.Tests.{or-false, and-right}
-use Rattle.rules.specs.Bits.{within}
 use Rattle.rules.specs.Calls.{MackDone, chainOf, heldOf, sectionUnfit, sectionProved, tagsWorked, sectionTaken, mackHalf}
 use Rattle.rules.specs.Gather.{statusOf, cidOf}
 use Rattle.rules.specs.Kroot.{inForce, parametersBad, cidkrOf, rootSecondsOf, chainContents, chainWith}
@@ -100,10 +99,3 @@ unfolding inForce
 chain-fits config chain ns c e l h f =
     let b = not-true (parametersBad config (chainContents chain)) (and-right (eqb (getD chain 0 0) 1) (not (parametersBad config (chainContents chain))) f) in
     rw e (chain-sound ns config (chainContents chain) l h b, chain-laid ns config (chainContents chain) l h b)
-
--- two numbers are all of their region
-pub two-numbers : (l : List ℕ) (a b : ℕ) → length l ≡ 2 → set (set l 0 a) 1 b ≡ a ∷ b ∷ []
-two-numbers (x ∷ y ∷ []) a b e = refl
-two-numbers [] a b e = absurd (omega (arith, e))
-two-numbers (x ∷ []) a b e = absurd (omega (arith, e))
-two-numbers (x ∷ y ∷ z ∷ l) a b e = absurd (omega (arith, e))

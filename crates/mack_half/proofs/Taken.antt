@@ -1,12 +1,12 @@
 -- A section whose keys are judged over the lent regions: what the code reads of them is what the rule reads of the state, and what it leaves
 -- there is what the rule leaves.
 -- Assumes nothing.
-use mathlib.Core.Path.{_≡_, refl, sym, ap, _∙_}
+use mathlib.Core.Path.{_≡_, sym, ap, _∙_}
 use mathlib.Core.Bool.{false}
-use mathlib.Core.List.{List, [], _∷_, _++_}
+use mathlib.Core.List.{List, [], _∷_}
 use Prim.Native.Nat.{ℕ, _-_, _*_, _≤_}
 use native.Mathlib.Omega.{arith}
-use lib.ListN.{length, take, drop, replicate}
+use lib.ListN.{length, take, replicate}
 use lib.Seq.{take-at, drop-at, length-take-le}
 use Rattle.laws.specs.Lists.{splice}
 use Rattle.rules.specs.Bits.{filled}

@@ -14,7 +14,7 @@ ghost use Rattle.rules.specs.Calls.{sectionUnfit, mackHalf};
 ghost use Rattle.rules.specs.Chain.{held};
 ghost use Rattle.rules.specs.Kroot.{inForce, chainWith, chainContents};
 ghost use Rattle.rules.specs.Mack.{keysProved};
-ghost use Rattle.rules.specs.State.{State, nsOf, configLength, chainLength, numbersLength, heldkeyLength, waitingLength};
+ghost use Rattle.rules.specs.State.{State, nsOf, configLength, chainLength, numbersLength, heldkeyLength, waitingLength, areaLength, satellites, setsLength, stampsLength, wordsLength};
 ghost use Rattle.rules.specs.Tags.{ownsJudged, duesJudged};
 ghost use Rattle.authentic_sets.specs.Regions.{auth};
 ghost use Rattle.chain.specs.Sound.{Sound, Met};
@@ -126,8 +126,8 @@ fn judge_tags(
     arrivals: &mut [u32],
     area: &mut [u8],
 ) -> Judged
-    requires { ⌜ ((length (now config) ≡ 63) × (length (now words) ≡ 2880)) × ((length (now stamps) ≡ 180) × (length (now mack) ≡ 60)) ⌝ }
-    requires { ⌜ ((length (now sets) ≡ 2484) × (length (now arrivals) ≡ 36)) × ((length (now waiting) ≡ 21504) × (length (now area) ≡ 3240)) ⌝ }
+    requires { ⌜ ((length (now config) ≡ configLength) × (length (now words) ≡ wordsLength)) × ((length (now stamps) ≡ stampsLength) × (length (now mack) ≡ 60)) ⌝ }
+    requires { ⌜ ((length (now sets) ≡ setsLength) × (length (now arrivals) ≡ satellites)) × ((length (now waiting) ≡ waitingLength) × (length (now area) ≡ areaLength)) ⌝ }
     requires { ⌜ ((Sound c × Laid c) × ((slot < 2 ^ 34) × (n ≤ 256))) × Met c (held slot (take (c .width) key)) near met ⌝ }
     ensures { λ r. ⌜ Leaves (ownsJudged (now (config .entry)) (nav (now (words .entry)) (now (stamps .entry))) c (held slot (take (c .width) key)) (section prn time status (now (mack .entry))) (c .nmack * c .fields) (duesJudged c (held slot (take (c .width) key)) (now (waiting .entry)) n (start 0 (now (sets .entry)) (now (arrivals .entry))))) 0 0 (now (waiting .entry)) (now (area .entry)) (now (waiting .exit)) (now (sets .exit)) (now (arrivals .exit)) (now (area .exit)) (r .kept) × ((length ((ownsJudged (now (config .entry)) (nav (now (words .entry)) (now (stamps .entry))) c (held slot (take (c .width) key)) (section prn time status (now (mack .entry))) (c .nmack * c .fields) (duesJudged c (held slot (take (c .width) key)) (now (waiting .entry)) n (start 0 (now (sets .entry)) (now (arrivals .entry))))) .records) ≡ r .records * 12) × (r .records ≤ 270)) ⌝ }
 {
@@ -183,9 +183,9 @@ fn judge_section(
     header: u8,
     mack: &[u8],
 ) -> Mack
-    requires { ⌜ ((length (now config) ≡ 63) × (length (now words) ≡ 2880)) × ((length (now stamps) ≡ 180) × (length (now mack) ≡ 60)) ⌝ }
-    requires { ⌜ ((length (now sets) ≡ 2484) × (length (now arrivals) ≡ 36)) × ((length (now waiting) ≡ 21504) × (length (now area) ≡ 3240)) ⌝ }
-    requires { ⌜ ((length (now chain) ≡ 45) × (length (now numbers) ≡ 2)) × ((length (now heldkey) ≡ 32) × (inForce (now config) (now chain) ≡ true)) ⌝ }
+    requires { ⌜ ((length (now config) ≡ configLength) × (length (now words) ≡ wordsLength)) × ((length (now stamps) ≡ stampsLength) × (length (now mack) ≡ 60)) ⌝ }
+    requires { ⌜ ((length (now sets) ≡ setsLength) × (length (now arrivals) ≡ satellites)) × ((length (now waiting) ≡ waitingLength) × (length (now area) ≡ areaLength)) ⌝ }
+    requires { ⌜ ((length (now chain) ≡ chainLength) × (length (now numbers) ≡ numbersLength)) × ((length (now heldkey) ≡ heldkeyLength) × (inForce (now config) (now chain) ≡ true)) ⌝ }
     ensures { λ r. ⌜ ((s : State) → s .config ≡ now (config .entry) → s .nav ≡ nav (now (words .entry)) (now (stamps .entry)) → s .chain ≡ now (chain .entry) → s .tesla ≡ tesla (now (numbers .entry)) (now (heldkey .entry)) (now (waiting .entry)) → s .auth ≡ auth (now (sets .entry)) (now (arrivals .entry)) → sectionUnfit s time header ≡ false → Gives (mackHalf s prn time header (now (mack .entry))) (r .code) (r .count) (judging s (tesla (now (numbers .exit)) (now (heldkey .exit)) (now (waiting .exit))) (auth (now (sets .exit)) (now (arrivals .exit)))) (now (area .entry)) (now (area .exit))) × (r .count ≤ 270) ⌝ }
 {
     let c = chain_of(config, chain);
@@ -244,9 +244,9 @@ pub fn mack_half(
     header: u8,
     mack: &[u8],
 ) -> Mack
-    requires { ⌜ ((length (now config) ≡ 63) × (length (now words) ≡ 2880)) × ((length (now stamps) ≡ 180) × (length (now mack) ≡ 60)) ⌝ }
-    requires { ⌜ ((length (now sets) ≡ 2484) × (length (now arrivals) ≡ 36)) × ((length (now waiting) ≡ 21504) × (length (now area) ≡ 3240)) ⌝ }
-    requires { ⌜ (length (now chain) ≡ 45) × ((length (now numbers) ≡ 2) × (length (now heldkey) ≡ 32)) ⌝ }
+    requires { ⌜ ((length (now config) ≡ configLength) × (length (now words) ≡ wordsLength)) × ((length (now stamps) ≡ stampsLength) × (length (now mack) ≡ 60)) ⌝ }
+    requires { ⌜ ((length (now sets) ≡ setsLength) × (length (now arrivals) ≡ satellites)) × ((length (now waiting) ≡ waitingLength) × (length (now area) ≡ areaLength)) ⌝ }
+    requires { ⌜ (length (now chain) ≡ chainLength) × ((length (now numbers) ≡ numbersLength) × (length (now heldkey) ≡ heldkeyLength)) ⌝ }
     ensures { λ r. ⌜ ((s : State) → s .config ≡ now (config .entry) → s .nav ≡ nav (now (words .entry)) (now (stamps .entry)) → s .chain ≡ now (chain .entry) → s .tesla ≡ tesla (now (numbers .entry)) (now (heldkey .entry)) (now (waiting .entry)) → s .auth ≡ auth (now (sets .entry)) (now (arrivals .entry)) → Gives (mackHalf s prn time header (now (mack .entry))) (r .code) (r .count) (judging s (tesla (now (numbers .exit)) (now (heldkey .exit)) (now (waiting .exit))) (auth (now (sets .exit)) (now (arrivals .exit)))) (now (area .entry)) (now (area .exit))) × (r .count ≤ 270) ⌝ }
 {
     if section_unfit(config, chain, time, header) {

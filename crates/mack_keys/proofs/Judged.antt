@@ -16,20 +16,16 @@ use Rattle.laws.proofs.Refusal.{by-test, unless-refused}
 use Rattle.rules.specs.Chain.{Held, held, keyFits, keyOfSlot, higher, sentSlot}
 use Rattle.rules.specs.Mack as S
 use Rattle.rules.specs.declared.Chain.{Chain}
-use Rattle.rules.proofs.Parts.{length-bytesAt}
+use Rattle.rules.proofs.Walks.{key-width}
 use Rattle.chain.specs.Sound.{Met}
 use Rattle.chain.proofs.Steps.{front-splice, splice-front, walked-key, fits-on-the-way}
 use Rattle.mack_keys.specs.Keys.{Hands}
 
 -- ---- one block
 
-length-key : (c : Chain) (m : List ℕ) (b : ℕ) → length (S.blockKey c m b) ≡ c .width
-unfolding S.blockKey
-length-key c m b = length-bytesAt m (S.keyAt c b) (c .width)
-
 -- the key's bytes of those that were read
 pub sent-key : (c : Chain) (m sent : List ℕ) (b : ℕ) → sent ≡ splice (replicate 32 0) 0 (S.blockKey c m b) → take (c .width) sent ≡ S.blockKey c m b
-sent-key c m sent b e = ap (take (c .width)) e ∙ front-splice (replicate 32 0) (S.blockKey c m b) (c .width) (length-key c m b)
+sent-key c m sent b e = ap (take (c .width)) e ∙ front-splice (replicate 32 0) (S.blockKey c m b) (c .width) (key-width c m b)
 
 module _ (c : Chain) (g prn first high b slot : ℕ) (m key : List ℕ) (s : slot ≡ sentSlot c g b prn) where
   abbrev h : Held
@@ -140,7 +136,7 @@ pub length-block : (c : Chain) (g prn first : ℕ) (m : List ℕ) (h : Held) (b 
 unfolding S.blockProved
 length-block c g prn first m h b e =
     chosen (firstOf (S.blockChecks c g prn first m h b)) (c .width) (higher h (sentSlot c g b prn) (S.blockKey c m b)) h
-    (length-higher h (sentSlot c g b prn) (S.blockKey c m b) (c .width) e (length-key c m b)) e
+    (length-higher h (sentSlot c g b prn) (S.blockKey c m b) (c .width) e (key-width c m b)) e
 
 pub length-proved : (c : Chain) (g prn : ℕ) (m : List ℕ) (h : Held) (b : ℕ) → length (h .key) ≡ c .width → length ((S.keysProved c g prn m h b) .held .key) ≡ c .width
 unfolding S.keysProved

@@ -1,16 +1,14 @@
 -- Decimal digits: the bound of `digitsOf` does not matter once it suffices, and a number is written from its last digit to its first, at the end
 -- of twenty bytes. Assumes nothing.
 use mathlib.Core.Path.{_≡_, refl, sym, ap, subst, _∙_}
-use mathlib.Core.Bool.{cond}
 use mathlib.Core.List.{List, [], _∷_, _++_, append-assoc}
 use Prim.Native.Nat.{ℕ, zero, suc, _+_, _-_, _*_, _/_, _%_, _^_, _≤_, _<_}
 use native.Mathlib.Omega.{arith}
 use native.Mathlib.Nat.{pow-suc}
-use lib.Dec.{eqb}
 use lib.ListN.{length, take, drop, set, length-drop, length-set, drop-of-length-le}
 use lib.Seq.{set-split, drop-at, take-all, length-take-le}
 use borrow.Author.Tests.{ne-eqb}
-use Rattle.laws.specs.Lists.{part, splice}
+use Rattle.laws.specs.Lists.{part}
 use Rattle.rules.specs.Replay.{digit, digitsOf, decimal}
 
 none-of : (k : ℕ) → digitsOf k 0 ≡ []

@@ -1,11 +1,11 @@
 -- Hexadecimal digits of a part of a list, one byte more at a time; the lines of tag records, and all lines of a record. Assumes nothing.
-use mathlib.Core.Path.{_≡_, refl, sym, ap, _∙_}
-use mathlib.Core.List.{List, [], _∷_, _++_, append-assoc}
+use mathlib.Core.Path.{_≡_, refl, sym, _∙_}
+use mathlib.Core.List.{List, [], _∷_, _++_}
 use Prim.Native.Nat.{ℕ, zero, suc, _+_, _*_, _/_, _%_, _≤_, _<_}
 use native.Mathlib.Omega.{arith}
 use native.Mathlib.Numerals.{add-one}
 use native.Mathlib.Nat.{zero-add}
-use lib.ListN.{length, take, drop, getD, set, length-append, length-drop}
+use lib.ListN.{length, drop, getD, set, length-append, length-drop}
 use lib.Seq.{take-suc, getD-drop}
 use Rattle.laws.specs.Lists.{part, splice}
 use Rattle.laws.proofs.Splice.{length-part, length-splice, splice-nil, splice-one}

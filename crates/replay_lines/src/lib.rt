@@ -7,9 +7,9 @@
 ghost use mathlib.Core.Path.{_≡_};
 ghost use mathlib.Core.List.{[], _∷_};
 ghost use Prim.Native.Nat.{_+_, _*_, _/_, _%_, _≤_, _<_};
-ghost use lib.ListN.{length, getD};
-ghost use Rattle.laws.specs.Lists.{part, splice};
-ghost use Rattle.rules.specs.Replay.{decimal, ended, hexadecimal, answerLine, recordLine, recordLines, linesOf};
+ghost use lib.ListN.{length};
+ghost use Rattle.laws.specs.Lists.{splice};
+ghost use Rattle.rules.specs.Replay.{decimal, ended, answerLine, recordLine, recordLines, linesOf};
 ghost use Rattle.rules.specs.Replay as Replay;
 ghost use Rattle.replay_lines.specs.Put.{Put};
 
@@ -40,7 +40,7 @@ fn index(x: u32) -> usize
 }
 
 // The first line of a record, from the front of `out`.
-pub fn answer_line(out: &mut [u8], place: u64, first: u32, second: u32, count: u32) -> usize
+fn answer_line(out: &mut [u8], place: u64, first: u32, second: u32, count: u32) -> usize
     requires { ⌜ 84 ≤ length (now out) ⌝ }
     ensures { λ r. ⌜ (now (out .exit) ≡ splice (now (out .entry)) 0 (answerLine place first second count)) × ((r ≡ length (answerLine place first second count)) × (r ≤ 84)) ⌝ }
 {
@@ -51,7 +51,7 @@ pub fn answer_line(out: &mut [u8], place: u64, first: u32, second: u32, count: u
 }
 
 // The lines of the first n tag records of `area`, from place `at`.
-pub fn record_lines(out: &mut [u8], at: usize, area: &[u8], n: usize) -> usize
+fn record_lines(out: &mut [u8], at: usize, area: &[u8], n: usize) -> usize
     requires { ⌜ (at + n * 25 ≤ length (now out)) × (n * 12 ≤ length (now area)) ⌝ }
     ensures { λ r. ⌜ (now (out .exit) ≡ splice (now (out .entry)) at (recordLines (now (area .entry)) n)) × (r ≡ at + length (recordLines (now (area .entry)) n)) ⌝ }
 {

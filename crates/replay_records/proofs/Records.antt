@@ -1,22 +1,21 @@
 -- A record brings at most 270 tag records (A73), and they fit the area: 256 waiting tags and the 14 fields of a section, each with one record of 12
 -- bytes at most. Assumes nothing.
 use mathlib.Core.Path.{_≡_, refl, sym, subst, _∙_}
-use mathlib.Core.Bool.{Bool, true, false, cond, not, _&&_}
+use mathlib.Core.Bool.{true, false, cond, not}
 use mathlib.Core.Logic.{⊎-elim}
-use mathlib.Core.List.{List, [], _∷_, _++_}
-use Prim.Native.Nat.{ℕ, zero, suc, _+_, _*_, _/_, _≤_}
+use mathlib.Core.List.{List, []}
+use Prim.Native.Nat.{ℕ, zero, suc, _+_, _*_, _≤_}
 use native.Mathlib.Omega.{arith}
 use lib.Dec.{eqb}
 use lib.ListN.{length, getD, length-append}
 use borrow.Author.Tests.{eqb-true, not-false, not-true}
-use Rattle.laws.specs.Refusal.{firstOf, refuse, unless, neb}
+use Rattle.laws.specs.Refusal.{firstOf, neb}
 use Rattle.laws.proofs.Refusal.{by-test, clear}
 use Rattle.laws.proofs.Splice.{either}
 use Rattle.laws.proofs.Tests.{and-left, and-right, neither}
 use Rattle.rules.proofs.Bounds.{count-bound, ns-range}
 use Rattle.rules.proofs.Choices.{by-number}
-use Rattle.tags.specs.Layout.{Laid}
-use Rattle.tag_records.proofs.Told.{length-record}
+use Rattle.rules.proofs.TagRecords.{length-record}
 use Rattle.section_tags.proofs.Forced.{chain-laid}
 use Rattle.rules.specs.Calls.{Subframe, SubframeTold, MackDone, hkrootHalf, noted, chainOf, sectionUnfit, sectionProved, tagsWorked, mackHalf, halvesDone, subframeChecks, subframeCall}
 use Rattle.rules.specs.Chain.{Held}

@@ -93,9 +93,12 @@ total-least d k = ⊎-elim (λ e. absurd (omega arith)) (λ h. h .0) (total-case
 
 -- ---- widths
 
-pub key-width-bound : (code : ℕ) → keyWidth code ≤ 32
+pub key-width-range : (code : ℕ) → (12 ≤ keyWidth code) × (keyWidth code ≤ 32)
 unfolding keyWidth
-key-width-bound code = (table-range 12 32 32 (12 ∷ 13 ∷ 14 ∷ 15 ∷ 16 ∷ 20 ∷ 24 ∷ 28 ∷ 32 ∷ []) tt (omega arith) (omega arith) code) .1
+key-width-range code = table-range 12 32 32 (12 ∷ 13 ∷ 14 ∷ 15 ∷ 16 ∷ 20 ∷ 24 ∷ 28 ∷ 32 ∷ []) tt (omega arith) (omega arith) code
+
+pub key-width-bound : (code : ℕ) → keyWidth code ≤ 32
+key-width-bound code = key-width-range code .1
 
 pub tag-width-bound : (code : ℕ) → tagWidth code ≤ 40
 unfolding tagWidth

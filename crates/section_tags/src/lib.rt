@@ -11,7 +11,7 @@ ghost use lib.Dec.{eqb, ltb};
 ghost use lib.ListN.{length, take};
 ghost use Rattle.hmac.specs.Hmac.{keyOf};
 ghost use Rattle.rules.specs.Chain.{Held, held, keyOfSlot};
-ghost use Rattle.rules.specs.State.{prnValid};
+ghost use Rattle.rules.specs.State.{prnValid, areaLength, configLength, satellites, setsLength, stampsLength, waitingLength, wordsLength};
 ghost use Rattle.rules.specs.Tags.{notAllowed, flexible, macseqFits, tagMatches, ownJudged, ownsJudged};
 ghost use Rattle.rules.specs.Times.{delayOf};
 ghost use Rattle.rules.specs.Navdata.{usable};
@@ -100,7 +100,7 @@ fn outcome_of(
     set: &[u8],
     count: usize,
 ) -> u8
-    requires { ⌜ ((length (now config) ≡ 63) × (length (now words) ≡ 2880)) × ((length (now stamps) ≡ 180) × (length (now set) ≡ 69)) ⌝ }
+    requires { ⌜ ((length (now config) ≡ configLength) × (length (now words) ≡ wordsLength)) × ((length (now stamps) ≡ stampsLength) × (length (now set) ≡ 69)) ⌝ }
     requires { ⌜ ((c .ms ≤ 40) × (j < 14)) × ((1 ≤ p) × (p ≤ 36)) ⌝ }
     ensures { λ r. ⌜ (r ≡ 5 → count < 256) × ((h : Held) → key ≡ blockKey c h (t .time) (t .block - 1) → 1 ≤ t .block → r ≡ outcomeBy (notAllowed (now (config .entry)) j t) (flexible (now (config .entry)) (t .time) j && not fits) (not (usable (nav (now (words .entry)) (now (stamps .entry))) p (t .time))) (eqb (delayOf (t .adkd)) 0 && tagMatches c h (eqb j 0) t (now (set .entry))) (eqb (delayOf (t .adkd)) 0) (ltb count 256)) ⌝ }
 {
@@ -127,7 +127,7 @@ fn settle(
     area: &mut [u8],
     at: usize,
 ) -> usize
-    requires { ⌜ ((length (now sets) ≡ 2484) × (length (now arrivals) ≡ 36)) × ((length (now waiting) ≡ 21504) × (length (now area) ≡ 3240)) ⌝ }
+    requires { ⌜ ((length (now sets) ≡ setsLength) × (length (now arrivals) ≡ satellites)) × ((length (now waiting) ≡ waitingLength) × (length (now area) ≡ areaLength)) ⌝ }
     requires { ⌜ ((length (now set) ≡ 69) × (at < 270)) × ((count ≤ 256) × (outcome ≡ 5 → count < 256)) ⌝ }
     ensures { λ r. ⌜ Leaves (settled outcome t (now (set .entry)) (start count (now (sets .entry)) (now (arrivals .entry)))) count at (now (waiting .entry)) (now (area .entry)) (now (waiting .exit)) (now (sets .exit)) (now (arrivals .exit)) (now (area .exit)) r ⌝ }
 {
@@ -159,8 +159,8 @@ fn own_one(
     area: &mut [u8],
     at: usize,
 ) -> usize
-    requires { ⌜ ((length (now config) ≡ 63) × (length (now words) ≡ 2880)) × ((length (now stamps) ≡ 180) × (length (now mack) ≡ 60)) ⌝ }
-    requires { ⌜ ((length (now sets) ≡ 2484) × (length (now arrivals) ≡ 36)) × ((length (now waiting) ≡ 21504) × (length (now area) ≡ 3240)) ⌝ }
+    requires { ⌜ ((length (now config) ≡ configLength) × (length (now words) ≡ wordsLength)) × ((length (now stamps) ≡ stampsLength) × (length (now mack) ≡ 60)) ⌝ }
+    requires { ⌜ ((length (now sets) ≡ setsLength) × (length (now arrivals) ≡ satellites)) × ((length (now waiting) ≡ waitingLength) × (length (now area) ≡ areaLength)) ⌝ }
     requires { ⌜ (Laid c × (j < c .nmack * c .fields)) × ((count ≤ 256) × (at < 270)) ⌝ }
     ensures { λ r. ⌜ ((h : Held) → key ≡ blockKey c h time (j / c .fields) → fits ≡ macseqFits (now (config .entry)) c h (section prn time status (now (mack .entry))) → Leaves (ownJudged (now (config .entry)) (nav (now (words .entry)) (now (stamps .entry))) c h (section prn time status (now (mack .entry))) j (start count (now (sets .entry)) (now (arrivals .entry)))) count at (now (waiting .entry)) (now (area .entry)) (now (waiting .exit)) (now (sets .exit)) (now (arrivals .exit)) (now (area .exit)) r) ⌝ }
 {
@@ -192,8 +192,8 @@ pub fn judge_own(
     area: &mut [u8],
     at: usize,
 ) -> usize
-    requires { ⌜ ((length (now config) ≡ 63) × (length (now words) ≡ 2880)) × ((length (now stamps) ≡ 180) × (length (now mack) ≡ 60)) ⌝ }
-    requires { ⌜ ((length (now sets) ≡ 2484) × (length (now arrivals) ≡ 36)) × ((length (now waiting) ≡ 21504) × (length (now area) ≡ 3240)) ⌝ }
+    requires { ⌜ ((length (now config) ≡ configLength) × (length (now words) ≡ wordsLength)) × ((length (now stamps) ≡ stampsLength) × (length (now mack) ≡ 60)) ⌝ }
+    requires { ⌜ ((length (now sets) ≡ setsLength) × (length (now arrivals) ≡ satellites)) × ((length (now waiting) ≡ waitingLength) × (length (now area) ≡ areaLength)) ⌝ }
     requires { ⌜ (Walks c × Laid c) × ((slot < 2 ^ 34) × ((count ≤ 256) × (at + c .nmack * c .fields ≤ 270))) ⌝ }
     ensures { λ r. ⌜ Leaves (ownsJudged (now (config .entry)) (nav (now (words .entry)) (now (stamps .entry))) c (held slot (take (c .width) known)) (section prn time status (now (mack .entry))) (c .nmack * c .fields) (start count (now (sets .entry)) (now (arrivals .entry)))) count at (now (waiting .entry)) (now (area .entry)) (now (waiting .exit)) (now (sets .exit)) (now (arrivals .exit)) (now (area .exit)) r × Grows (ownsJudged (now (config .entry)) (nav (now (words .entry)) (now (stamps .entry))) c (held slot (take (c .width) known)) (section prn time status (now (mack .entry))) (c .nmack * c .fields) (start count (now (sets .entry)) (now (arrivals .entry)))) count (c .nmack * c .fields) r ⌝ }
 {

@@ -1,7 +1,7 @@
 -- `due_tag_keys::outcomes` meets its contract: at each turn the tags above slot m are judged, and the key of slot `at` is at hand.
 -- Assumes nothing.
-use mathlib.Core.Path.{_≡_, refl, sym}
-use Prim.Native.Nat.{_+_, _≤_}
+use mathlib.Core.Path.{_≡_, refl}
+use Prim.Native.Nat.{_≤_}
 use native.Mathlib.Omega.{arith}
 use lib.ListN.{length, take, replicate, getD-replicate}
 use denote.Ref.{now}

@@ -1,11 +1,10 @@
 -- `mack_half::chain_of` meets its contract: the contents are the bytes after the first.
 -- Assumes nothing.
-use mathlib.Core.Path.{_≡_, _∙_}
+use mathlib.Core.Path.{_≡_}
 use denote.Ref.{now}
 use borrow.Author.Needs.{needs}
 use Rattle.laws.specs.Lists.{part}
 use Rattle.rules.specs.Kroot.{chainWith, chainContents}
-use Rattle.rules.specs.State.{nsOf}
 use Rattle.mack_half.proofs.Sections.{chain-fits}
 use Rattle.mack_half.proofs.chain_of.Statement.{statement}
 use Rattle.mack_half.proofs.chain_of.Tie as tie

@@ -3,10 +3,10 @@
 use denote.Ref.{now}
 use mathlib.Core.Path.{_≡_, _∙_}
 use native.Mathlib.Omega.{arith}
-use lib.ListN.{length, set}
+use lib.ListN.{length}
 use borrow.Author.Needs.{needs}
 use Rattle.laws.proofs.Splice.{splice-whole}
-use Rattle.mack_half.proofs.Sections.{two-numbers}
+use Rattle.laws.proofs.Splice.{two-set}
 use Rattle.mack_half.proofs.hold.Statement.{statement}
 use Rattle.mack_half.proofs.hold.Tie as tie
 
@@ -18,7 +18,7 @@ returns : tie.Need-returns
 returns c =
     let s = c .before .before .before .before .before .before .before in
     let g = s .args in (
-      two-numbers (now (g .numbers)) (g .slot) (g .kept) (s .pre .0),
+      two-set (now (g .numbers)) (g .slot) (g .kept) (s .pre .0),
       c .before .before .copy-at .ensures ∙ splice-whole (now (g .heldkey)) (g .t5) (omega (arith, s .pre .1, long s)),
     )
 

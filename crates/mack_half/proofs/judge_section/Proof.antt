@@ -1,9 +1,6 @@
 -- `mack_half::judge_section` meets its contract: refused by a key, or taken.
 -- Assumes nothing.
-use mathlib.Core.Path.{_≡_, refl, sym, _∙_}
-use Prim.Native.Nat.{_≤_}
 use native.Mathlib.Omega.{arith}
-use lib.ListN.{length}
 use denote.Ref.{now}
 use Rattle.chain.specs.Sound.{Sound}
 use Rattle.tags.specs.Layout.{Laid}

@@ -1,6 +1,5 @@
 -- `mack_half::judge_tags` meets its contract: the own tags' work comes behind that of the due ones.
 -- Assumes nothing.
-use mathlib.Core.Path.{_≡_}
 use Prim.Native.Nat.{_-_, _*_, _≤_}
 use native.Mathlib.Omega.{arith}
 use lib.ListN.{take}

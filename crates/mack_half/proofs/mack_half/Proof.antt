@@ -1,6 +1,6 @@
 -- `mack_half::mack_half` meets its contract: row 11, or the section is judged.
 -- Assumes nothing.
-use mathlib.Core.Path.{_≡_, sym, _∙_}
+use mathlib.Core.Path.{sym, _∙_}
 use native.Mathlib.Omega.{arith}
 use denote.Ref.{now}
 use Rattle.authentic_sets.specs.Regions.{auth}

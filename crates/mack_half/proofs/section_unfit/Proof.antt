@@ -1,14 +1,13 @@
 -- `mack_half::section_unfit` meets its contract: the tests are the definition's own.
 -- Assumes nothing.
-use mathlib.Core.Path.{_≡_, sym, ap, _∙_}
-use mathlib.Core.Bool.{true, false}
+use mathlib.Core.Path.{_≡_, sym, _∙_}
+use mathlib.Core.Bool.{true}
 use denote.Ref.{now}
-use native.Mathlib.Omega.{arith}
-use borrow.Author.Tests.{not-true, not-false, lt-ltb, le-ltb}
+use borrow.Author.Tests.{not-true, not-false}
 use borrow.Author.Needs.{needs}
 use Rattle.laws.specs.Lists.{part}
 use Rattle.laws.proofs.Tests.{true-false}
-use Rattle.rules.specs.Kroot.{inForce, cidkrOf, rootSecondsOf, chainContents}
+use Rattle.rules.specs.Kroot.{inForce, chainContents}
 use Rattle.mack_half.proofs.Sections.{no-chain, status-low, status-high, other-cid, by-root}
 use Rattle.mack_half.proofs.section_unfit.Statement.{statement}
 use Rattle.mack_half.proofs.section_unfit.Tie as tie

@@ -6,7 +6,7 @@ use Prim.Native.Nat.{_+_, _-_, _≤_, _<_, _^_}
 use native.Mathlib.Omega.{arith}
 use borrow.Author.Needs.{needs}
 use denote.Ref.{now}
-use lib.ListN.{length, take}
+use lib.ListN.{take}
 use lib.Seq.{length-take-le}
 use Rattle.rules.specs.Chain.{held}
 use Rattle.rules.specs.Mack as S

@@ -1,7 +1,6 @@
 -- `replay_answers::answer` meets its contract: each kind by its own function.
 -- Assumes nothing.
-use mathlib.Core.Path.{sym, _∙_}
-use denote.Ref.{now}
+use mathlib.Core.Path.{_∙_}
 use borrow.Author.Needs.{needs}
 use Rattle.rules.specs.Replay.{kindOf}
 use Rattle.replay_answers.proofs.Answers.{short-record, start-kind, word-kind, subframe-kind, verdict-kind, other-kind}

@@ -1,7 +1,6 @@
 -- `replay_answers::begun` meets its contract.
 -- Assumes nothing.
-use mathlib.Core.Path.{refl, sym}
-use borrow.Author.Needs.{needs}
+use mathlib.Core.Path.{sym}
 use Rattle.laws.proofs.Refusal.{unless-refused, unless-accepted}
 use Rattle.replay_answers.proofs.begun.Statement.{statement}
 use Rattle.replay_answers.proofs.begun.Tie as tie

@@ -1,6 +1,5 @@
 -- `replay_answers::verdict` meets its contract: 11 before a start, or the call at the record's parts.
 -- Assumes nothing.
-use mathlib.Core.Path.{_∙_}
 use borrow.Author.Needs.{needs}
 use Rattle.laws.specs.Lists.{part}
 use Rattle.rules.specs.Replay.{verdictOf}

@@ -1,6 +1,6 @@
 -- `replay_lines::put_byte` meets its contract: two stores are one splice.
 -- Assumes nothing.
-use mathlib.Core.Path.{_≡_, ap, _∙_}
+use mathlib.Core.Path.{ap, _∙_}
 use lib.ListN.{length-set}
 use native.Mathlib.Omega.{arith}
 use Rattle.laws.specs.Lists.{splice}

@@ -1,6 +1,6 @@
 -- `replay_lines::put_decimal` meets its contract: the digits are written from the last to the first, then copied.
 -- Assumes nothing.
-use mathlib.Core.Path.{_≡_, refl, sym, ap, _∙_}
+use mathlib.Core.Path.{_≡_, refl, sym}
 use Prim.Native.Nat.{_-_}
 use lib.ListN.{length, replicate}
 use native.Mathlib.Omega.{arith}

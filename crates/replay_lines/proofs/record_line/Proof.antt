@@ -1,14 +1,13 @@
 -- `replay_lines::record_line` meets its contract: after i turns the digits of i bytes are written.
 -- Assumes nothing.
-use mathlib.Core.Path.{_≡_, refl, sym, ap, _∙_}
-use Prim.Native.Nat.{_-_, _≤_, _+_, _*_}
+use mathlib.Core.Path.{_≡_, ap, _∙_}
+use Prim.Native.Nat.{_-_, _≤_, _*_}
 use lib.ListN.{length, length-set}
 use denote.Ref.{now}
 use native.Mathlib.Omega.{arith}
-use borrow.Author.Needs.{needs}
 use Rattle.laws.specs.Lists.{part, splice}
 use Rattle.laws.proofs.Splice.{length-splice}
-use Rattle.rules.specs.Replay.{hexadecimal, recordLine}
+use Rattle.rules.specs.Replay.{hexadecimal}
 use Rattle.replay_lines.proofs.Hexadecimal.{none-yet, length-digits, one-byte-more, line-ended}
 use Rattle.replay_lines.proofs.record_line.Statement.{statement}
 use Rattle.replay_lines.proofs.record_line.Tie as tie
