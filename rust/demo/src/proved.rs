@@ -46,7 +46,11 @@ pub fn replayed(run: &[u8]) -> Result<(Core, String), String> {
             2 => (number(core.word(r[1], gst(r)?, &bytes(r, 6)?)), 0, 0),
             3 => {
                 let answer = core.subframe(r[1], gst(r)?, &bytes(r, 6)?, &mut area);
-                (number(answer.hkroot), number(answer.mack), answer.tags.len())
+                (
+                    number(answer.hkroot),
+                    number(answer.mack),
+                    answer.tags.len(),
+                )
             }
             4 => {
                 let verdict = core.verdict(r[1] == 1, r[2], &bytes(r, 3)?, &bytes(r, 48)?);

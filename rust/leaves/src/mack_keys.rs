@@ -32,7 +32,8 @@ impl Chain {
                     ns, nmack, root, alpha, width, ms, fields, g, prn, m, m_len, slot, via, key,
                 ),
                 raw::leaf_keys_slot(
-                    ns, nmack, root, alpha, width, ms, fields, g, prn, m, m_len, slot, 0, &mut again,
+                    ns, nmack, root, alpha, width, ms, fields, g, prn, m, m_len, slot, 0,
+                    &mut again,
                 ),
             )
         };
