@@ -104,7 +104,7 @@ fn mixed(rng: &mut Rng, records: usize) -> Vec<u8> {
         // Mostly a satellite, and a time of some week.
         if !rng.once_in(4) {
             record[1] = rng.range(1, 36) as u8;
-            let time = rng.range(940, 950) << 20 | 30 * rng.below(20_160);
+            let time = (rng.range(940, 950) << 20) | (30 * rng.below(20_160));
             record[2..6].copy_from_slice(&(time as u32).to_be_bytes());
         }
         input.extend(record);
