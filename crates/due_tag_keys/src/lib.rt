@@ -61,10 +61,11 @@ fn next_below(c: Chain, waiting: &[u8], n: usize, below: u64) -> u64
     best
 }
 
-// The slot whose key is worth keeping on the way from a key of slot `last` down to the one of slot `slot`: the highest that a waiting tag needs,
-// where the way is long. Which it is changes no answer.
+// The slot whose key is worth keeping on the way from a key of slot `last` down to the one of slot `slot`. Any slot serves, and changes no answer; of
+// all choices it is said that none is above `last`, and of this one that on a long way no tag that falls due has its slot above it.
 pub fn slot_to_keep(c: Chain, slot: u64, last: u64, waiting: &[u8], n: usize) -> u64
     requires { ⌜ (Walks c × ((slot < 2 ^ 34) × (last < 2 ^ 34))) × ((length (now waiting) ≡ waitingLength) × (n ≤ 256)) ⌝ }
+    ensures { λ r. ⌜ (r ≤ last) × (slot + 256 < last → (k : ℕ) → k < n → entrySlot c (entryAt (now (waiting .entry)) k) ≤ last → entrySlot c (entryAt (now (waiting .entry)) k) ≤ r) ⌝ }
 {
     if last <= slot + SHORT_WAY {
         return 0;

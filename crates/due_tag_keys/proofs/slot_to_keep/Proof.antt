@@ -1,0 +1,14 @@
+-- `due_tag_keys::slot_to_keep` meets its contract: a slot up to the last is below the one after it.
+-- Assumes nothing.
+use native.Mathlib.Omega.{arith}
+use borrow.Author.Needs.{needs}
+use Rattle.due_tag_keys.proofs.slot_to_keep.Statement.{statement}
+use Rattle.due_tag_keys.proofs.slot_to_keep.Tie as tie
+
+returns-2 : tie.Need-returns-2
+returns-2 c =
+    let r = c .next-below .ensures in
+    (omega (arith, r .0), λ far k l e. r .1 k l (omega arith))
+
+pub slot-to-keep-spec : {M : Type 1} → statement M
+slot-to-keep-spec = tie.close (tie.spec (λ c. search needs) (λ c. search needs) (λ c. search needs) (λ c κs. search needs) returns-2)
