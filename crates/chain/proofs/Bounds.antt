@@ -46,7 +46,7 @@ params-good : (config d : List ℕ) → K.parametersBad config d ≡ false
 unfolding K.parametersBad
 params-good config d e =
     let e1 = neither (neb (K.hfOf d) 0) _ e in
-    let e2 = neither (neb (K.mfOf d) 0) _ (e1 .1) in
+    let e2 = neither (K.mfBad d) _ (e1 .1) in
     let e3 = neither (neb (K.moOf d) 0) _ (e2 .1) in
     let e4 = neither (eqb (K.nmackOf d) 0) _ (e3 .1) in
     let e5 = neither (ltb 8 (K.ksOf d)) _ (e4 .1) in

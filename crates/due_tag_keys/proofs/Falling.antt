@@ -63,7 +63,7 @@ module _ (c : Chain) (h : S.Held) (e : List ℕ) where
 
 -- the test of an entry's tag under the key of its slot
 pub matches-is : (c : Chain) (h : S.Held) (e set : List ℕ) (t : Tag) (r : Bool) → t ≡ entryTag e → set ≡ entrySet e
-    → r ≡ eqb (macBits (c .ms) (S.keyOfSlot c h (entrySlot c e)) (tagMessage t set)) (t .bits) → r ≡ tagMatches c h false (entryTag e) (entrySet e)
+    → r ≡ eqb (macBits (c .mf) (c .ms) (S.keyOfSlot c h (entrySlot c e)) (tagMessage t set)) (t .bits) → r ≡ tagMatches c h false (entryTag e) (entrySet e)
 unfolding tagMatches tagKey entrySlot
 matches-is c h e set t r p q u = u ∙ rw (p, q)
 

@@ -4,14 +4,13 @@
 // Public calls:
 //   outcomes       one outcome for each entry
 //   slot_to_keep   the slot whose key is worth keeping while a key is proved
-use hmac::HmacKey;
 use rules::Chain;
 ghost use mathlib.Core.Path.{_≡_};
 ghost use mathlib.Core.Bool.{cond};
 ghost use Prim.Native.Nat.{ℕ, _+_, _*_, _^_, _≤_, _<_};
 ghost use lib.Dec.{eqb};
 ghost use lib.ListN.{length, take};
-ghost use Rattle.hmac.specs.Hmac.{keyOf};
+ghost use Rattle.mac.specs.Kept.{keptOf};
 ghost use Rattle.rules.specs.Chain.{Held, held, keyOfSlot};
 ghost use Rattle.rules.specs.Tags.{entryAt};
 ghost use Rattle.rules.specs.State.{waitingLength};
@@ -76,21 +75,21 @@ pub fn slot_to_keep(c: Chain, slot: u64, last: u64, waiting: &[u8], n: usize) ->
 // ---- the tags of one slot
 
 // The outcome of entry k's tag under the key of its slot.
-fn judge_entry(c: Chain, key: HmacKey, waiting: &[u8], k: usize) -> u8
+fn judge_entry(c: Chain, key: &[u8; 273], waiting: &[u8], k: usize) -> u8
     requires { ⌜ (c .ms ≤ 40) × (k * 84 + 84 ≤ length (now waiting)) ⌝ }
-    ensures { λ r. ⌜ ((h : Held) → key ≡ keyOf (keyOfSlot c h (entrySlot c (entryAt (now (waiting .entry)) k))) → r ≡ matchOutcome c h (entryAt (now (waiting .entry)) k)) ⌝ }
+    ensures { λ r. ⌜ ((h : Held) → now (key .entry) ≡ keptOf (c .mf) (keyOfSlot c h (entrySlot c (entryAt (now (waiting .entry)) k))) → r ≡ matchOutcome c h (entryAt (now (waiting .entry)) k)) ⌝ }
 {
     let t = waiting_tags::entry_tag(waiting, k);
     let mut set = [0u8; 69];
     waiting_tags::copy_set(waiting, k, &mut set);
-    let matches = tag_codes::tag_matches(c.ms, key, false, t, &set);
+    let matches = tag_codes::tag_matches(c.mf, c.ms, key, false, t, &set);
     tags::outcome_number(tags::judged(matches))
 }
 
 // The outcome of entry k once the tags of slot m are judged: where its slot is another, the one it had.
-fn outcome_at(c: Chain, key: HmacKey, m: u64, waiting: &[u8], k: usize, old: u8) -> u8
+fn outcome_at(c: Chain, key: &[u8; 273], m: u64, waiting: &[u8], k: usize, old: u8) -> u8
     requires { ⌜ (Walks c × (c .ms ≤ 40)) × (k * 84 + 84 ≤ length (now waiting)) ⌝ }
-    ensures { λ r. ⌜ ((h : Held) → key ≡ keyOf (keyOfSlot c h m) → r ≡ cond (eqb (entrySlot c (entryAt (now (waiting .entry)) k)) m) (matchOutcome c h (entryAt (now (waiting .entry)) k)) old) ⌝ }
+    ensures { λ r. ⌜ ((h : Held) → now (key .entry) ≡ keptOf (c .mf) (keyOfSlot c h m) → r ≡ cond (eqb (entrySlot c (entryAt (now (waiting .entry)) k)) m) (matchOutcome c h (entryAt (now (waiting .entry)) k)) old) ⌝ }
 {
     if entry_slot(c, waiting, k) != m {
         return old;
@@ -99,10 +98,10 @@ fn outcome_at(c: Chain, key: HmacKey, m: u64, waiting: &[u8], k: usize, old: u8)
 }
 
 // The outcomes of the tags of slot m among the first n entries.
-fn judge_slot(c: Chain, key: HmacKey, m: u64, waiting: &[u8], n: usize, outcomes: &mut [u8; 256])
+fn judge_slot(c: Chain, key: &[u8; 273], m: u64, waiting: &[u8], n: usize, outcomes: &mut [u8; 256])
     requires { ⌜ (Walks c × (c .ms ≤ 40)) × ((length (now waiting) ≡ waitingLength) × (n ≤ 256)) ⌝ }
     requires { ⌜ length (now outcomes) ≡ 256 ⌝ }
-    ensures { λ _. ⌜ (length (now (outcomes .exit)) ≡ 256) × ((h : Held) → key ≡ keyOf (keyOfSlot c h m) → JudgedAt c h (now (waiting .entry)) n m (now (outcomes .entry)) (now (outcomes .exit))) ⌝ }
+    ensures { λ _. ⌜ (length (now (outcomes .exit)) ≡ 256) × ((h : Held) → now (key .entry) ≡ keptOf (c .mf) (keyOfSlot c h m) → JudgedAt c h (now (waiting .entry)) n m (now (outcomes .entry)) (now (outcomes .exit))) ⌝ }
 {
     let mut k: usize = 0;
     while k < n {
@@ -113,12 +112,12 @@ fn judge_slot(c: Chain, key: HmacKey, m: u64, waiting: &[u8], n: usize, outcomes
 
 // ---- the way down
 
-// What HMAC keeps of a key, the first `width` bytes.
-fn kept_key(key: &[u8], width: usize) -> HmacKey
+// What is kept of a key, the first `width` bytes.
+fn keep_key(mf: u8, key: &[u8], width: usize, kept: &mut [u8; 273])
     requires { ⌜ (length (now key) ≡ 32) × (width ≤ 32) ⌝ }
-    ensures { λ r. ⌜ r ≡ keyOf (take width (now (key .entry))) ⌝ }
+    ensures { λ _. ⌜ now (kept .exit) ≡ keptOf mf (take width (now (key .entry))) ⌝ }
 {
-    hmac::hmac_key(&key[0..width])
+    mac::keep(mf, &key[0..width], kept);
 }
 
 // From the key of slot `at` down to that of slot m, and the outcomes of its tags.
@@ -136,8 +135,9 @@ fn judge_down(
     ensures { λ _. ⌜ ((length (now (key .exit)) ≡ 32) × (length (now (outcomes .exit)) ≡ 256)) × ((h : Held) → at ≤ h .slot → take (c .width) (now (key .entry)) ≡ keyOfSlot c h at → (take (c .width) (now (key .exit)) ≡ keyOfSlot c h m) × JudgedAt c h (now (waiting .entry)) n m (now (outcomes .entry)) (now (outcomes .exit))) ⌝ }
 {
     chain::key_of_slot(c, at, m, key);
-    let hashed = kept_key(key, c.width);
-    judge_slot(c, hashed, m, waiting, n, outcomes);
+    let mut kept = [0u8; 273];
+    keep_key(c.mf, key, c.width, &mut kept);
+    judge_slot(c, &kept, m, waiting, n, outcomes);
 }
 
 // Where the way down to slot m begins: at the key that was met, of slot `near`, unless m is above it; else at the held key. The key there goes to

@@ -106,11 +106,13 @@ pub fn chain_with(ns: u64, c: &[u8]) -> Chain
     let root = root_seconds(c);
     let fields = fields_for(blocks, 8 * (width as u64), bits);
     let alpha = alpha(c);
+    let mf = mf(c);
     Chain {
         ns: ns,
         nmack: blocks as u64,
         root: root,
         alpha: alpha,
+        mf: mf,
         width: width,
         ms: bits,
         fields: fields,
@@ -170,12 +172,29 @@ fn parameters_bad(config: &[u8], c: &[u8]) -> bool
     functions_bad(c) | (widths_bad(config, c) | root_time_bad(c))
 }
 
-// HF, MF or MO not 0; NMACK 0.
+// HF or MO not 0; MF that is refused; NMACK 0.
 fn functions_bad(c: &[u8]) -> bool
     requires { ⌜ 44 ≤ length (now c) ⌝ }
     ensures { λ r. ⌜ r ≡ G.functionsBad (now (c .entry)) ⌝ }
 {
-    (hf(c) != 0) | ((mf(c) != 0) | ((mo(c) != 0) | (nmack(c) == 0)))
+    (hf(c) != 0) | (mf_bad(c) | ((mo(c) != 0) | (nmack(c) == 0)))
+}
+
+// MF above 1, or 1 with a key that is none of AES.
+fn mf_bad(c: &[u8]) -> bool
+    requires { ⌜ 44 ≤ length (now c) ⌝ }
+    ensures { λ r. ⌜ r ≡ S.mfBad (now (c .entry)) ⌝ }
+{
+    let f = mf(c);
+    let width = key_width(ks(c));
+    (1 < f) | ((f == 1) & !aes_width(width))
+}
+
+// Whether a key of so many bytes is an AES key.
+fn aes_width(width: usize) -> bool
+    ensures { λ r. ⌜ r ≡ S.aesWidth width ⌝ }
+{
+    (width == 16) | ((width == 24) | (width == 32))
 }
 
 // KS code above 8, MS code above 9; other MACLT; block shorter than KS + MS + 16.

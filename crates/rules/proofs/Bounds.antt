@@ -12,7 +12,6 @@ use borrow.Author.Tests.{leb-true, ltb-true, ltb-false, eqb-false, lt-ltb}
 use Rattle.laws.proofs.Refusal.{by-test}
 use Rattle.laws.proofs.Table.{table-range}
 use Rattle.laws.proofs.Tests.{and-left, and-right, neither}
-use Rattle.hmac.specs.Hmac.{hmac}
 use Rattle.rules.specs.Bits.{bit, bits, within}
 use Rattle.rules.specs.Chain.{sentSlot}
 use Rattle.rules.specs.Gather.{dsmIdOf, blockIdOf, statusOf, totalOf, blocksFor}
@@ -20,7 +19,7 @@ use Rattle.rules.specs.Kroot.{keyWidth, tagWidth, pkidOf, offerId}
 use Rattle.rules.specs.Pkr.{newIdOf, newTypeOf, newKeyOf, emergency, pkrSizeBad}
 use Rattle.rules.specs.PublicKeys.{keyLength}
 use Rattle.rules.specs.State.{nsOf, heldSlot, waitingCount, prnValid}
-use Rattle.rules.specs.Tags.{macBits}
+use Rattle.rules.specs.Tags.{macCode, macBits}
 use Rattle.rules.specs.Times.{secondsOf, weekOf, secondOf, timeValid, slotOf, subframeAt}
 use Rattle.rules.specs.declared.Chain.{Chain}
 use Rattle.rules.proofs.Parts.{length-part-most}
@@ -63,9 +62,9 @@ unfolding pkidOf
 pkid-bound d = bits-lt d 4 4
 
 -- a tag of n bits is compared in n bits, not in whole bytes
-pub mac-bound : (n : ℕ) (key message : List ℕ) → macBits n key message < 2 ^ n
+pub mac-bound : (mf n : ℕ) (key message : List ℕ) → macBits mf n key message < 2 ^ n
 unfolding macBits
-mac-bound n key message = bits-lt (hmac key message) 0 n
+mac-bound mf n key message = bits-lt (macCode mf key message) 0 n
 
 -- ---- counts of blocks: none, or 7 to 16
 

@@ -179,7 +179,7 @@ pub record FourThings (origin : Start) (began : State) (t : Tag) (navdata : List
   pub key : List ℕ
   pub not-before : (chainBy origin force) .root ≤ keySeconds (t .time) (t .adkd)
   pub of-slot : KeyOfSlot (chainBy origin force) (slotOfTag (chainBy origin force) t) key (x ∷ older)
-  pub matches : macBits ((chainBy origin force) .ms) key (cond first (firstMessage t navdata) (tagMessage t navdata)) ≡ t .bits
+  pub matches : macBits ((chainBy origin force) .mf) ((chainBy origin force) .ms) key (cond first (firstMessage t navdata) (tagMessage t navdata)) ≡ t .bits
   -- "That key hashes, in exactly as many steps as its slot number, to the root of the chain in force when the tag was judged."
   pub to-root : walk (chainBy origin force) (slotOfTag (chainBy origin force) t) 0 key ≡ rootBy force
   -- "That root was vouched for by a good verdict on its exact message, under a public key given at that start or proved by its tree nodes."

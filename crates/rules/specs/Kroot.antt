@@ -2,7 +2,7 @@
 -- The contents of a message are its bytes after the NMA header, zeros after a short root: 44 bytes. A DSM has the same bytes from its
 -- byte 1 on, so one set of readers serves the DSM, the message that waits and the chain in force.
 use Prim.Native.Nat.{ℕ, _+_, _-_, _*_, _/_, _%_}
-use mathlib.Core.Bool.{Bool, cond, not, _&&_}
+use mathlib.Core.Bool.{Bool, cond, not, _&&_, _||_}
 use mathlib.Core.List.{List, [], _∷_, _++_}
 use lib.Dec.{leb, ltb, eqb}
 use lib.ListN.{length, getD, replicate}
@@ -71,13 +71,21 @@ blockBits nmack = cond (eqb nmack 3) 160 (cond (eqb nmack 2) 240 480)
 unfoldable pub fieldsFor : ℕ → ℕ → ℕ → ℕ
 fieldsFor nmack ks ms = (blockBits nmack - ks) / (ms + 16)
 
--- row 8 of the table: "HF, MF or MO not 0; NMACK 0; KS code above 8, MS code above 9; other MACLT; block shorter than KS + MS + 16; hour
+-- a key of this many bytes is an AES key: "KS must then be 128, 192 or 256 bits" (02, P1)
+unfoldable pub aesWidth : ℕ → Bool
+aesWidth width = eqb width 16 || (eqb width 24 || eqb width 32)
+
+-- MF 0 is HMAC-SHA-256, MF 1 CMAC-AES (000, table 11): "any other KS with MF 1 is answered 8"; 2 and 3 are reserved (B1a)
+unfoldable pub mfBad : List ℕ → Bool
+mfBad c = ltb 1 (mfOf c) || (eqb (mfOf c) 1 && not (aesWidth (keyWidth (ksOf c))))
+
+-- row 8 of the table, its MF as above: "HF, MF or MO not 0; NMACK 0; KS code above 8, MS code above 9; other MACLT; block shorter than KS + MS + 16; hour
 -- above 167; week 0 hour 0"
 unfoldable pub parametersBad : List ℕ → List ℕ → Bool
 parametersBad config c =
     anyOf
     (neb (hfOf c) 0
-    ∷ neb (mfOf c) 0
+    ∷ mfBad c
     ∷ neb (moOf c) 0
     ∷ eqb (nmackOf c) 0
     ∷ ltb 8 (ksOf c)
@@ -163,6 +171,7 @@ chainWith ns c =
       nmack = nmackOf c;
       root = rootSecondsOf c;
       alpha = alphaOf c;
+      mf = mfOf c;
       width = keyWidth (ksOf c);
       ms = tagWidth (msOf c);
       fields = fieldsFor (nmackOf c) (8 * keyWidth (ksOf c)) (tagWidth (msOf c));

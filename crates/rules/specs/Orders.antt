@@ -56,7 +56,7 @@ abbrev pub blockNumber : ℕ → ℕ
 blockNumber second =
     firstOf
     (blockChecks
-    (record { ns = 36; nmack = 2; root = 604800; alpha = replicate 6 0; width = 16; ms = 12; fields = 4 })
+    (record { ns = 36; nmack = 2; root = 604800; alpha = replicate 6 0; mf = 0; width = 16; ms = 12; fields = 4 })
     (gst 1 second) 1 0 (replicate 60 255) (held 0 (replicate 16 0)) 1)
 
 -- such a section at this second of week 4; a root of week 2 hour 1 is in force where `root` is 1, dropped where it is 2

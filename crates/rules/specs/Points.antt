@@ -51,7 +51,7 @@ numberForGap prn =
     firstOf
     (take 1
     (blockChecks
-    (record { ns = 36; nmack = 2; root = hourSeconds 1 0; alpha = replicate 6 0; width = 16; ms = 12; fields = 4 })
+    (record { ns = 36; nmack = 2; root = hourSeconds 1 0; alpha = replicate 6 0; mf = 0; width = 16; ms = 12; fields = 4 })
     (gst 1 416640) prn 0 (replicate 60 0) (held 0 (replicate 16 0)) 2))
 
 -- the GST_SF of a slot, with NS 36, NMACK 2 and the root of week 947 hour 120

@@ -7,6 +7,7 @@ use lib.ListN.{getD, set}
 use Rattle.laws.specs.Bytes.{be2, be4, u32at}
 use Rattle.laws.specs.Lists.{part, splice}
 use Rattle.laws.specs.Refusal.{refuse, firstOf, neb}
+use Rattle.cmac.specs.Cmac.{cmac}
 use Rattle.hmac.specs.Hmac.{hmac}
 use Rattle.rules.specs.Bits.{bits, bitList, packed, anyOf}
 use Rattle.rules.specs.Chain.{Held, keyOfSlot, keySlot}
@@ -19,9 +20,13 @@ use Rattle.rules.specs.declared.Tag.{Tag}
 
 -- ---- a tag's message and its match
 
--- the first n bits of HMAC-SHA-256 under the key
-unfoldable pub macBits : ℕ → List ℕ → List ℕ → ℕ
-macBits n key message = bits (hmac key message) 0 n
+-- the code of a message under the function that the chain's MF names: CMAC-AES for 1, else HMAC-SHA-256 (000, table 11; 02, P1; B1b)
+unfoldable pub macCode : ℕ → List ℕ → List ℕ → List ℕ
+macCode mf key message = cond (eqb mf 1) (cmac key message) (hmac key message)
+
+-- its first n bits
+unfoldable pub macBits : ℕ → ℕ → List ℕ → List ℕ → ℕ
+macBits mf n key message = bits (macCode mf key message) 0 n
 
 -- NMA status (2 bits), the set's 549 bits, and a zero bit: 69 bytes
 unfoldable pub statusAndSet : ℕ → List ℕ → List ℕ
@@ -42,7 +47,7 @@ tagKey c h t = keyOfSlot c h (keySlot c (t .time) (t .block) (t .adkd))
 -- the tag matches the set; tag0 is the first field of a section
 unfoldable pub tagMatches : Chain → Held → Bool → Tag → List ℕ → Bool
 tagMatches c h first t navdata =
-    eqb (macBits (c .ms) (tagKey c h t) (cond first (firstMessage t navdata) (tagMessage t navdata))) (t .bits)
+    eqb (macBits (c .mf) (c .ms) (tagKey c h t) (cond first (firstMessage t navdata) (tagMessage t navdata))) (t .bits)
 
 -- ---- records
 
@@ -175,7 +180,7 @@ macseqMessage config c x (suc j) =
 -- "MACSEQ uses the key of block 1's tags."
 unfoldable pub macseqFits : List ℕ → Chain → Held → Section → Bool
 macseqFits config c h x =
-    eqb (macBits 12 (keyOfSlot c h (keySlot c (x .time) 1 0)) (macseqMessage config c x (c .nmack * c .fields))) (macseqOf c (x .mack))
+    eqb (macBits (c .mf) 12 (keyOfSlot c h (keySlot c (x .time) 1 0)) (macseqMessage config c x (c .nmack * c .fields))) (macseqOf c (x .mack))
 
 -- "4 ADKD not 0, 11, 12, or not the fixed one, or PRN not 1 to 36"
 unfoldable pub notAllowed : List ℕ → ℕ → Tag → Bool

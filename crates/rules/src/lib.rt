@@ -10,6 +10,8 @@ pub struct Chain {
     pub root: u64,
     // the chain's pattern
     pub alpha: [u8; 6],
+    // the function of tags and MACSEQ: 0 HMAC-SHA-256, 1 CMAC-AES
+    pub mf: u8,
     // bytes of a key
     pub width: usize,
     // bits of a tag

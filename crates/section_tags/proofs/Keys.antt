@@ -12,8 +12,7 @@ use lib.Seq.{length-take-le}
 use borrow.Author.Tests.{eq-eqb}
 use Rattle.laws.specs.Lists.{splice}
 use Rattle.laws.proofs.Splice.{length-splice}
-use Rattle.hmac.specs.Hmac.{keyOf}
-use Rattle.hmac.specs.declared.HmacKey.{HmacKey}
+use Rattle.mac.specs.Kept.{keptOf}
 use Rattle.rules.specs.Chain.{Held, held, keyOfSlot, keySlot}
 use Rattle.rules.specs.Mack.{macseqOf}
 use Rattle.rules.specs.Tags.{Section, tagKey, tagMatches, macBits, firstMessage, tagMessage, ownTag, macseqMessage, macseqFits}
@@ -80,9 +79,9 @@ prompt-slot c g b adkd e h =
     rw (q, e, no-delay)
 
 -- a tag without delay under its block's key
-pub prompt-matches : (c : Chain) (h : Held) (key : HmacKey) (first : Bool) (t : Tag) (set : List ℕ) (r : Bool) → delayOf (t .adkd) ≡ 0
+pub prompt-matches : (c : Chain) (h : Held) (key : List ℕ) (first : Bool) (t : Tag) (set : List ℕ) (r : Bool) → delayOf (t .adkd) ≡ 0
     → key ≡ blockKey c h (t .time) (t .block - 1) → 1 ≤ t .block
-    → ((k : List ℕ) → key ≡ keyOf k → r ≡ eqb (macBits (c .ms) k (cond first (firstMessage t set) (tagMessage t set))) (t .bits))
+    → ((k : List ℕ) → key ≡ keptOf (c .mf) k → r ≡ eqb (macBits (c .mf) (c .ms) k (cond first (firstMessage t set) (tagMessage t set))) (t .bits))
     → r ≡ (eqb (delayOf (t .adkd)) 0 && tagMatches c h first t set)
 unfolding blockKey tagMatches tagKey
 prompt-matches c h key first t set r e k b m =
@@ -94,7 +93,7 @@ pub tag-block : (c : Chain) (x : Section) (j : ℕ) (t : Tag) → t ≡ ownTag c
 unfolding ownTag
 tag-block c x j t e = rw e (omega arith)
 
-pub tag-key : (c : Chain) (h : Held) (x : Section) (j : ℕ) (t : Tag) (key : HmacKey) → t ≡ ownTag c x j → key ≡ blockKey c h (x .time) (j / c .fields)
+pub tag-key : (c : Chain) (h : Held) (x : Section) (j : ℕ) (t : Tag) (key : List ℕ) → t ≡ ownTag c x j → key ≡ blockKey c h (x .time) (j / c .fields)
     → key ≡ blockKey c h (t .time) (t .block - 1)
 unfolding ownTag
 tag-key c h x j t key e k =
@@ -104,8 +103,8 @@ tag-key c h x j t key e k =
 -- ---- MACSEQ
 
 -- "MACSEQ uses the key of block 1's tags."
-pub macseq-is : (config : List ℕ) (c : Chain) (h : Held) (x : Section) (key : HmacKey) (r : Bool) → key ≡ blockKey c h (x .time) (0 / c .fields)
-    → ((k : List ℕ) → key ≡ keyOf k → r ≡ eqb (macBits 12 k (macseqMessage config c x (c .nmack * c .fields))) (macseqOf c (x .mack)))
+pub macseq-is : (config : List ℕ) (c : Chain) (h : Held) (x : Section) (key : List ℕ) (r : Bool) → key ≡ blockKey c h (x .time) (0 / c .fields)
+    → ((k : List ℕ) → key ≡ keptOf (c .mf) k → r ≡ eqb (macBits (c .mf) 12 k (macseqMessage config c x (c .nmack * c .fields))) (macseqOf c (x .mack)))
     → r ≡ macseqFits config c h x
 unfolding blockKey macseqFits
 macseq-is config c h x key r k m =

@@ -7,16 +7,15 @@ use mathlib.Core.List.{List, [], _∷_, _++_}
 use lib.Dec.{eqb}
 use lib.ListN.{length}
 use Rattle.laws.specs.Refusal.{refuse, firstOf}
-use Rattle.hmac.specs.Hmac.{keyOf}
-use Rattle.hmac.specs.declared.HmacKey.{HmacKey}
+use Rattle.mac.specs.Kept.{keptOf}
 use Rattle.rules.specs.Chain.{Held, keyOfSlot, keySlot}
 use Rattle.rules.specs.Tags.{Work, told, kept, tagEntry}
 use Rattle.rules.specs.declared.Chain.{Chain}
 use Rattle.rules.specs.declared.Tag.{Tag}
 
--- what HMAC keeps of the key of the tags without delay of block b + 1
-unfoldable pub blockKey : Chain → Held → ℕ → ℕ → HmacKey
-blockKey c h time b = keyOf (keyOfSlot c h (keySlot c time (b + 1) 0))
+-- what is kept of the key of the tags without delay of block b + 1
+unfoldable pub blockKey : Chain → Held → ℕ → ℕ → List ℕ
+blockKey c h time b = keptOf (c .mf) (keyOfSlot c h (keySlot c time (b + 1) 0))
 
 -- the tests of `ownOutcome` in their order: not allowed, flexible and MACSEQ fails, no usable set, authentic, without delay, a place is free
 abbrev pub outcomeBy : Bool → Bool → Bool → Bool → Bool → Bool → ℕ

@@ -1,7 +1,6 @@
 // The section's own tags (01, "MACK", "Tag outcomes"): field by field, each gets its outcome, its record, and for outcome 1 its set becomes
 // the satellite's authentic one; a tag whose key is still to come waits with a copy of its set. `judge_own` is the public call.
 // All tags without delay of a block use one key; it is made once for the block.
-use hmac::HmacKey;
 use rules::Chain;
 use rules::Tag;
 ghost use mathlib.Core.Path.{_≡_};
@@ -9,7 +8,7 @@ ghost use mathlib.Core.Bool.{true, not, _&&_};
 ghost use Prim.Native.Nat.{_+_, _-_, _*_, _/_, _^_, _≤_, _<_};
 ghost use lib.Dec.{eqb, ltb};
 ghost use lib.ListN.{length, take};
-ghost use Rattle.hmac.specs.Hmac.{keyOf};
+ghost use Rattle.mac.specs.Kept.{keptOf};
 ghost use Rattle.rules.specs.Chain.{Held, held, keyOfSlot};
 ghost use Rattle.rules.specs.State.{prnValid, areaLength, configLength, satellites, setsLength, stampsLength, waitingLength, wordsLength};
 ghost use Rattle.rules.specs.Tags.{notAllowed, flexible, macseqFits, tagMatches, ownJudged, ownsJudged};
@@ -23,41 +22,41 @@ ghost use Rattle.section_tags.specs.Own.{blockKey, outcomeBy, settled, G
 
 // ---- keys
 
-// What HMAC keeps of the key of slot m, from the held key.
-fn slot_key(c: Chain, slot: u64, known: [u8; 32], m: u64) -> HmacKey
+// What is kept of the key of slot m, from the held key.
+fn slot_key(c: Chain, slot: u64, known: [u8; 32], m: u64, kept: &mut [u8; 273])
     requires { ⌜ Walks c × (slot < 2 ^ 34) ⌝ }
-    ensures { λ r. ⌜ r ≡ keyOf (keyOfSlot c (held slot (take (c .width) known)) m) ⌝ }
+    ensures { λ _. ⌜ now (kept .exit) ≡ keptOf (c .mf) (keyOfSlot c (held slot (take (c .width) known)) m) ⌝ }
 {
     let mut key = known;
     chain::key_of_slot(c, slot, m, &mut key);
     let width = c.width;
-    hmac::hmac_key(&key[0..width])
+    mac::keep(c.mf, &key[0..width], kept);
 }
 
 // The same for the tags without delay of field j's block.
-fn block_key(c: Chain, slot: u64, known: [u8; 32], time: u32, j: usize) -> HmacKey
+fn block_key(c: Chain, slot: u64, known: [u8; 32], time: u32, j: usize, kept: &mut [u8; 273])
     requires { ⌜ Walks c × ((slot < 2 ^ 34) × ((1 ≤ c .fields) × (j < 14))) ⌝ }
-    ensures { λ r. ⌜ r ≡ blockKey c (held slot (take (c .width) known)) time (j / c .fields) ⌝ }
+    ensures { λ _. ⌜ now (kept .exit) ≡ blockKey c (held slot (take (c .width) known)) time (j / c .fields) ⌝ }
 {
     let fields = c.fields as usize;
     let block = (j / fields + 1) as u8;
-    slot_key(c, slot, known, chain::key_slot(c, time, block, 0))
+    slot_key(c, slot, known, chain::key_slot(c, time, block, 0), kept);
 }
 
-// The key of field j's block, where `old` is that of the field before it: a new one is made where a block begins.
-fn next_key(c: Chain, slot: u64, known: [u8; 32], time: u32, j: usize, old: HmacKey) -> HmacKey
+// The key of field j's block, in place of that of the field before it: a new one is made where a block begins.
+fn next_key(c: Chain, slot: u64, known: [u8; 32], time: u32, j: usize, kept: &mut [u8; 273])
     requires { ⌜ Walks c × ((slot < 2 ^ 34) × ((1 ≤ c .fields) × (j < 14))) ⌝ }
-    requires { ⌜ old ≡ blockKey c (held slot (take (c .width) known)) time ((j - 1) / c .fields) ⌝ }
-    ensures { λ r. ⌜ r ≡ blockKey c (held slot (take (c .width) known)) time (j / c .fields) ⌝ }
+    requires { ⌜ now kept ≡ blockKey c (held slot (take (c .width) known)) time ((j - 1) / c .fields) ⌝ }
+    ensures { λ _. ⌜ now (kept .exit) ≡ blockKey c (held slot (take (c .width) known)) time (j / c .fields) ⌝ }
 {
     let fields = c.fields as usize;
     if j == 0 {
-        return old;
+        return;
     }
     if j % fields != 0 {
-        return old;
+        return;
     }
-    block_key(c, slot, known, time, j)
+    block_key(c, slot, known, time, j, kept);
 }
 
 // ---- outcomes
@@ -76,14 +75,14 @@ fn heard(prn: u8) -> usize
 }
 
 // A tag without delay that matches the set under its block's key.
-fn prompt_match(c: Chain, key: HmacKey, first: bool, t: Tag, set: &[u8]) -> bool
+fn prompt_match(c: Chain, key: &[u8; 273], first: bool, t: Tag, set: &[u8]) -> bool
     requires { ⌜ (c .ms ≤ 40) × (length (now set) ≡ 69) ⌝ }
-    ensures { λ r. ⌜ ((h : Held) → key ≡ blockKey c h (t .time) (t .block - 1) → 1 ≤ t .block → r ≡ (eqb (delayOf (t .adkd)) 0 && tagMatches c h first t (now (set .entry)))) ⌝ }
+    ensures { λ r. ⌜ ((h : Held) → now (key .entry) ≡ blockKey c h (t .time) (t .block - 1) → 1 ≤ t .block → r ≡ (eqb (delayOf (t .adkd)) 0 && tagMatches c h first t (now (set .entry)))) ⌝ }
 {
     if times::delay_of(t.adkd) != 0 {
         return false;
     }
-    tag_codes::tag_matches(c.ms, key, first, t, set)
+    tag_codes::tag_matches(c.mf, c.ms, key, first, t, set)
 }
 
 // The outcome of field j, the tag t, by the words of satellite p and their set; `fits` says that MACSEQ fits.
@@ -92,7 +91,7 @@ fn outcome_of(
     words: &[u8],
     stamps: &[u32],
     c: Chain,
-    key: HmacKey,
+    key: &[u8; 273],
     fits: bool,
     j: usize,
     t: Tag,
@@ -102,7 +101,7 @@ fn outcome_of(
 ) -> u8
     requires { ⌜ ((length (now config) ≡ configLength) × (length (now words) ≡ wordsLength)) × ((length (now stamps) ≡ stampsLength) × (length (now set) ≡ 69)) ⌝ }
     requires { ⌜ ((c .ms ≤ 40) × (j < 14)) × ((1 ≤ p) × (p ≤ 36)) ⌝ }
-    ensures { λ r. ⌜ (r ≡ 5 → count < 256) × ((h : Held) → key ≡ blockKey c h (t .time) (t .block - 1) → 1 ≤ t .block → r ≡ outcomeBy (notAllowed (now (config .entry)) j t) (flexible (now (config .entry)) (t .time) j && not fits) (not (usable (nav (now (words .entry)) (now (stamps .entry))) p (t .time))) (eqb (delayOf (t .adkd)) 0 && tagMatches c h (eqb j 0) t (now (set .entry))) (eqb (delayOf (t .adkd)) 0) (ltb count 256)) ⌝ }
+    ensures { λ r. ⌜ (r ≡ 5 → count < 256) × ((h : Held) → now (key .entry) ≡ blockKey c h (t .time) (t .block - 1) → 1 ≤ t .block → r ≡ outcomeBy (notAllowed (now (config .entry)) j t) (flexible (now (config .entry)) (t .time) j && not fits) (not (usable (nav (now (words .entry)) (now (stamps .entry))) p (t .time))) (eqb (delayOf (t .adkd)) 0 && tagMatches c h (eqb j 0) t (now (set .entry))) (eqb (delayOf (t .adkd)) 0) (ltb count 256)) ⌝ }
 {
     let refused = tags::not_allowed(config, j, t);
     let unfit = bools::both(tags::flexible(config, t.time, j), !fits);
@@ -145,7 +144,7 @@ fn own_one(
     words: &[u8],
     stamps: &[u32],
     c: Chain,
-    key: HmacKey,
+    key: &[u8; 273],
     fits: bool,
     prn: u8,
     time: u32,
@@ -162,7 +161,7 @@ fn own_one(
     requires { ⌜ ((length (now config) ≡ configLength) × (length (now words) ≡ wordsLength)) × ((length (now stamps) ≡ stampsLength) × (length (now mack) ≡ 60)) ⌝ }
     requires { ⌜ ((length (now sets) ≡ setsLength) × (length (now arrivals) ≡ satellites)) × ((length (now waiting) ≡ waitingLength) × (length (now area) ≡ areaLength)) ⌝ }
     requires { ⌜ (Laid c × (j < c .nmack * c .fields)) × ((count ≤ 256) × (at < 270)) ⌝ }
-    ensures { λ r. ⌜ ((h : Held) → key ≡ blockKey c h time (j / c .fields) → fits ≡ macseqFits (now (config .entry)) c h (section prn time status (now (mack .entry))) → Leaves (ownJudged (now (config .entry)) (nav (now (words .entry)) (now (stamps .entry))) c h (section prn time status (now (mack .entry))) j (start count (now (sets .entry)) (now (arrivals .entry)))) count at (now (waiting .entry)) (now (area .entry)) (now (waiting .exit)) (now (sets .exit)) (now (arrivals .exit)) (now (area .exit)) r) ⌝ }
+    ensures { λ r. ⌜ ((h : Held) → now (key .entry) ≡ blockKey c h time (j / c .fields) → fits ≡ macseqFits (now (config .entry)) c h (section prn time status (now (mack .entry))) → Leaves (ownJudged (now (config .entry)) (nav (now (words .entry)) (now (stamps .entry))) c h (section prn time status (now (mack .entry))) j (start count (now (sets .entry)) (now (arrivals .entry)))) count at (now (waiting .entry)) (now (area .entry)) (now (waiting .exit)) (now (sets .exit)) (now (arrivals .exit)) (now (area .exit)) r) ⌝ }
 {
     let t = tags::own_tag(c, prn, time, status, mack, j);
     let p = heard(t.prn);
@@ -198,18 +197,19 @@ pub fn judge_own(
     ensures { λ r. ⌜ Leaves (ownsJudged (now (config .entry)) (nav (now (words .entry)) (now (stamps .entry))) c (held slot (take (c .width) known)) (section prn time status (now (mack .entry))) (c .nmack * c .fields) (start count (now (sets .entry)) (now (arrivals .entry)))) count at (now (waiting .entry)) (now (area .entry)) (now (waiting .exit)) (now (sets .exit)) (now (arrivals .exit)) (now (area .exit)) r × Grows (ownsJudged (now (config .entry)) (nav (now (words .entry)) (now (stamps .entry))) c (held slot (take (c .width) known)) (section prn time status (now (mack .entry))) (c .nmack * c .fields) (start count (now (sets .entry)) (now (arrivals .entry)))) count (c .nmack * c .fields) r ⌝ }
 {
     let n = (c.nmack * c.fields) as usize;
-    let mut key = block_key(c, slot, known, time, 0);
-    let fits = tag_codes::macseq_fits(config, c, prn, time, mack, key);
+    let mut key = [0u8; 273];
+    block_key(c, slot, known, time, 0, &mut key);
+    let fits = tag_codes::macseq_fits(config, c, prn, time, mack, &key);
     let mut r = count;
     let mut j: usize = 0;
     while j < n {
-        key = next_key(c, slot, known, time, j, key);
+        next_key(c, slot, known, time, j, &mut key);
         r = own_one(
             config,
             words,
             stamps,
             c,
-            key,
+            &key,
             fits,
             prn,
             time,

@@ -1,9 +1,8 @@
-// Tag and MACSEQ messages and their codes (000, 5.5 and 5.6; 01, "MACK"). A key is given as what HMAC keeps of it, made once for all
-// tags of a slot. A code is compared by its first bits as a number; one proof serves every tag width.
+// Tag and MACSEQ messages and their codes (000, 5.5 and 5.6; 01, "MACK"), by the function that the chain's MF names. A key is given as what `mac`
+// keeps of it, made once for all tags of a slot. A code is compared by its first bits as a number; one proof serves every tag width.
 // Public calls:
 //   tag_matches   whether a tag matches a set under a key
 //   macseq_fits   whether MACSEQ fits the flexible fields of a section
-use hmac::HmacKey;
 use mack::Cursor;
 use rules::Chain;
 use rules::Tag;
@@ -15,20 +14,11 @@ ghost use lib.Dec.{eqb};
 ghost use lib.ListN.{length, take};
 ghost use Rattle.laws.specs.Lists.{splice};
 ghost use Rattle.laws.specs.Bytes.{be2};
-ghost use Rattle.hmac.specs.Hmac.{keyOf};
+ghost use Rattle.mac.specs.Kept.{keptOf};
 ghost use Rattle.rules.specs.Mack.{macseqOf};
 ghost use Rattle.rules.specs.Tags.{macBits, firstMessage, tagMessage, macseqMessage, flexible};
 ghost use Rattle.rules.specs.State.{configLength};
 ghost use Rattle.tags.specs.Layout.{Laid, section};
-
-// The first n bits of the code of a message, as a number.
-pub fn mac_bits(n: usize, key: HmacKey, message: &[u8]) -> u64
-    requires { ⌜ (n ≤ 56) × (length (now message) ≤ 76) ⌝ }
-    ensures { λ r. ⌜ ((k : List ℕ) → key ≡ keyOf k → r ≡ macBits n k (now (message .entry))) ⌝ }
-{
-    let code = hmac::hmac_with(key, message);
-    bitfields::bits_at(&code, 0, n)
-}
 
 // ---- tags
 
@@ -52,25 +42,25 @@ fn tag_message(t: Tag, set: &[u8], out: &mut [u8])
 }
 
 // The code of a tag's message, to the tag's width; tag0's message has no PRN_N.
-fn tag_code(ms: u64, key: HmacKey, first: bool, message: &[u8]) -> u64
+fn tag_code(mf: u8, ms: u64, key: &[u8; 273], first: bool, message: &[u8]) -> u64
     requires { ⌜ (ms ≤ 40) × (length (now message) ≡ 76) ⌝ }
-    ensures { λ r. ⌜ ((k : List ℕ) (t : Tag) (navdata : List ℕ) → key ≡ keyOf k → now (message .entry) ≡ tagMessage t navdata → r ≡ macBits ms k (cond first (firstMessage t navdata) (tagMessage t navdata))) ⌝ }
+    ensures { λ r. ⌜ ((k : List ℕ) (t : Tag) (navdata : List ℕ) → now (key .entry) ≡ keptOf mf k → now (message .entry) ≡ tagMessage t navdata → r ≡ macBits mf ms k (cond first (firstMessage t navdata) (tagMessage t navdata))) ⌝ }
 {
     if first {
-        return mac_bits(ms as usize, key, &message[1..76]);
+        return mac::mac_bits(mf, ms as usize, key, &message[1..76]);
     }
-    mac_bits(ms as usize, key, message)
+    mac::mac_bits(mf, ms as usize, key, message)
 }
 
 // The tag matches the set under the key; tag0 is the first field of a section.
-pub fn tag_matches(ms: u64, key: HmacKey, first: bool, t: Tag, set: &[u8]) -> bool
+pub fn tag_matches(mf: u8, ms: u64, key: &[u8; 273], first: bool, t: Tag, set: &[u8]) -> bool
     requires { ⌜ (ms ≤ 40) × (length (now set) ≡ 69) ⌝ }
-    ensures { λ r. ⌜ ((k : List ℕ) → key ≡ keyOf k → r ≡ eqb (macBits ms k (cond first (firstMessage t (now (set .entry))) (tagMessage t (now (set .entry))))) (t .bits)) ⌝ }
+    ensures { λ r. ⌜ ((k : List ℕ) → now (key .entry) ≡ keptOf mf k → r ≡ eqb (macBits mf ms k (cond first (firstMessage t (now (set .entry))) (tagMessage t (now (set .entry))))) (t .bits)) ⌝ }
 {
     let bits = t.bits;
     let mut message = [0u8; 76];
     tag_message(t, set, &mut message);
-    tag_code(ms, key, first, &message) == bits
+    tag_code(mf, ms, key, first, &message) == bits
 }
 
 // ---- MACSEQ
@@ -114,19 +104,19 @@ fn macseq_message(config: &[u8], c: Chain, prn: u8, time: u32, mack: &[u8], out:
 }
 
 // The first 12 bits of the code of the first n bytes.
-fn macseq_code(key: HmacKey, message: &[u8], n: usize) -> u64
+fn macseq_code(mf: u8, key: &[u8; 273], message: &[u8], n: usize) -> u64
     requires { ⌜ (length (now message) ≡ 33) × (n ≤ 33) ⌝ }
-    ensures { λ r. ⌜ ((k : List ℕ) → key ≡ keyOf k → r ≡ macBits 12 k (take n (now (message .entry)))) ⌝ }
+    ensures { λ r. ⌜ ((k : List ℕ) → now (key .entry) ≡ keptOf mf k → r ≡ macBits mf 12 k (take n (now (message .entry)))) ⌝ }
 {
-    mac_bits(12, key, &message[0..n])
+    mac::mac_bits(mf, 12, key, &message[0..n])
 }
 
 // MACSEQ fits the flexible fields of the section, under the key of block 1's tags.
-pub fn macseq_fits(config: &[u8], c: Chain, prn: u8, time: u32, mack: &[u8], key: HmacKey) -> bool
+pub fn macseq_fits(config: &[u8], c: Chain, prn: u8, time: u32, mack: &[u8], key: &[u8; 273]) -> bool
     requires { ⌜ Laid c × ((length (now config) ≡ configLength) × (length (now mack) ≡ 60)) ⌝ }
-    ensures { λ r. ⌜ ((k : List ℕ) (status : ℕ) → key ≡ keyOf k → r ≡ eqb (macBits 12 k (macseqMessage (now (config .entry)) c (section prn time status (now (mack .entry))) (c .nmack * c .fields))) (macseqOf c (now (mack .entry)))) ⌝ }
+    ensures { λ r. ⌜ ((k : List ℕ) (status : ℕ) → now (key .entry) ≡ keptOf (c .mf) k → r ≡ eqb (macBits (c .mf) 12 k (macseqMessage (now (config .entry)) c (section prn time status (now (mack .entry))) (c .nmack * c .fields))) (macseqOf c (now (mack .entry)))) ⌝ }
 {
     let mut message = [0u8; 33];
     let n = macseq_message(config, c, prn, time, mack, &mut message);
-    macseq_code(key, &message, n) == mack::macseq_of(c, mack)
+    macseq_code(c.mf, key, &message, n) == mack::macseq_of(c, mack)
 }

@@ -7,7 +7,7 @@ use native.Mathlib.Omega.{arith}
 use lib.Dec.{eqb}
 use lib.ListN.{length, getD, length-set}
 use denote.Ref.{now}
-use Rattle.hmac.specs.Hmac.{keyOf}
+use Rattle.mac.specs.Kept.{keptOf}
 use Rattle.rules.specs.Chain.{Held, keyOfSlot}
 use Rattle.rules.specs.Tags.{entryAt}
 use Rattle.due_tag_keys.specs.Outcomes.{entrySlot, matchOutcome, JudgedAt}
@@ -19,7 +19,7 @@ use Rattle.due_tag_keys.proofs.judge_slot.Tie as tie
 abbrev Inv-loop : tie.InvT-loop
 Inv-loop c key m waiting n outcomes₀ k₀ outcomes k =
     (k ≤ n) × ((length outcomes ≡ 256) × (((j : ℕ) → k ≤ j → getD outcomes j 0 ≡ getD outcomes₀ j 0)
-    × ((h : Held) → key ≡ keyOf (keyOfSlot c h m) → JudgedAt c h waiting k m outcomes₀ outcomes)))
+    × ((h : Held) → key ≡ keptOf (c .mf) (keyOfSlot c h m) → JudgedAt c h waiting k m outcomes₀ outcomes)))
 
 abbrev μ-loop : tie.MeasureT-loop
 μ-loop c key m waiting n outcomes₀ k₀ outcomes k = n - k

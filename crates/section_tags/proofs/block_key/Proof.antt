@@ -15,7 +15,7 @@ cast-block c = omega (arith, block-small (c .args .j) (c .args .c .fields) (c .p
 
 returns : tie.Need-returns
 unfolding blockKey
-returns c = rw (c .slot-key .ensures, c .before .key-slot .ensures)
+returns c = rw (c .slot-key .ensures, c .before .before .key-slot .ensures)
 
 pub block-key-spec : {M : Type 1} → statement M
 block-key-spec =

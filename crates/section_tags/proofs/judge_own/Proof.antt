@@ -31,18 +31,18 @@ mul-n c = omega (arith, c .before .before .before .before .before .before .befor
 
 block-key-requires : tie.Need-block-key-requires Inv-loop μ-loop
 block-key-requires c κs =
-    let q = c .before .before .before .before .before .before .before .before .before .pre .1 .1 in
+    let q = c .before .before .before .before .before .before .before .before .before .before .pre .1 .1 in
     (q .0 .0, (q .1 .0, (q .0 .1 .fields-low, omega arith)))
 
 macseq-fits-requires : tie.Need-macseq-fits-requires Inv-loop μ-loop
 macseq-fits-requires c κs =
-    let q = c .before .before .before .before .before .before .before .before .before .before .pre in
+    let q = c .before .before .before .before .before .before .before .before .before .before .before .before .pre in
     (q .1 .1 .0 .1, (q .0 .0 .0, q .0 .1 .1))
 
 loop-holds : tie.Need-loop-holds Inv-loop μ-loop
 loop-holds c =
-    let k = c .before in
-    let a = k .before .before .before .before .before .before .before .before .before .before in
+    let k = c .before .before in
+    let a = k .before .before .before .before .before .before .before .before .before .before .before in
     let g = a .args in
     let q = a .pre .1 .0 in (
       (omega arith, (q .1 .0, (q .0 .0, (q .0 .1, q .1 .1)))),
@@ -55,21 +55,21 @@ loop-holds c =
 
 next-key-requires : tie.Need-next-key-requires Inv-loop μ-loop
 next-key-requires c κs =
-    let l = c .before in
-    let q = l .before .before .before .before .before .before .before .before .before .before .before .before .pre .1 .1 in
-    ((q .0 .0, (q .1 .0, (q .0 .1 .fields-low, omega (arith, q .0 .1 .few, c .loop-test .taken)))), l .loop .inv .1 .0)
+    let l = c .before .before in
+    let q = l .before .before .before .before .before .before .before .before .before .before .before .before .before .before .pre .1 .1 in
+    ((q .0 .0, (q .1 .0, (q .0 .1 .fields-low, omega (arith, q .0 .1 .few, c .before .loop-test .taken)))), l .loop .inv .1 .0)
 
 add-own-one : tie.Need-add-own-one Inv-loop μ-loop
 add-own-one c =
-    let i = c .before .before .before .before .before in
-    let q = i .before .before .before .before .before .before .before .before .before .before .before .before .before .pre .1 .1 in
+    let i = c .before .before .before .before .before .before .before in
+    let q = i .before .before .before .before .before .before .before .before .before .before .before .before .before .before .before .pre .1 .1 in
     omega (arith, q .1 .1 .1, i .loop-test .taken)
 
 own-one-requires : tie.Need-own-one-requires Inv-loop μ-loop
 own-one-requires c κs =
-    let i = c .before .before .before .before .before in
+    let i = c .before .before .before .before .before .before .before in
     let v = i .before .loop .inv in
-    let q = i .before .before .before .before .before .before .before .before .before .before .before .before .before .pre in (
+    let q = i .before .before .before .before .before .before .before .before .before .before .before .before .before .before .before .pre in (
       q .0,
       (
         ((v .0 .1 .1 .0, v .0 .1 .1 .1 .0), (v .0 .1 .0, v .0 .1 .1 .1 .1)),
@@ -79,25 +79,25 @@ own-one-requires c κs =
 
 add-j : tie.Need-add-j Inv-loop μ-loop
 add-j c =
-    let i = c .before .before .before .before .before .before .before .before .before .before .before .before .before .before in
-    let q = i .before .before .before .before .before .before .before .before .before .before .before .before .before .pre .1 .1 in
+    let i = c .before .before .before .before .before .before .before .before .before .before .before .before .before .before .before .before in
+    let q = i .before .before .before .before .before .before .before .before .before .before .before .before .before .before .before .pre .1 .1 in
     omega (arith, q .0 .1 .few, i .loop-test .taken)
 
 loop-less : tie.Need-loop-less Inv-loop μ-loop
 loop-less c =
-    let i = c .before .before .before .before .before .before .before .before .before .before .before .before .before .before in
+    let i = c .before .before .before .before .before .before .before .before .before .before .before .before .before .before .before .before in
     omega (arith, i .loop-test .taken)
 
 loop-again : tie.Need-loop-again Inv-loop μ-loop
 loop-again c =
     let o = c .before .before .before .before .before .before .before .before in
     let p = o .«own-one» in
-    let k = o .before .before .before .before .before in
-    let i = k .before in
+    let k = o .before .before .before .before .before .before in
+    let i = k .before .before in
     let l = i .before .loop in
     let f = i .before .before in
-    let s = f .before in
-    let a = s .before .before .before .before .before .before .before .before .before .before in
+    let s = f .before .before in
+    let a = s .before .before .before .before .before .before .before .before .before .before .before in
     let g = a .args in
     let h = held (g .slot) (take (g .c .width) (g .known)) in
     let x = section (g .prn) (g .time) (g .status) (now (g .mack)) in
@@ -113,26 +113,26 @@ loop-again c =
             (g .count) (g .at) (l .j) (l .r) (p .result) (start (g .count) (now (g .sets)) (now (g .arrivals)))
             (omega (arith, q .1 .1 .1 .1 .1, i .loop-test .taken)) (q .1 .0 .1 .0) (q .1 .0 .1 .1) (l .inv .1 .1 .0) (l .inv .1 .1 .1)
             (p .ensures h (k .next-key .ensures)
-            (macseq-is (now (g .config)) (g .c) h x (s .block-key .result) (f .macseq-fits .result) (s .block-key .ensures) (λ v e. f .macseq-fits .ensures v (g .status) e))),
+            (macseq-is (now (g .config)) (g .c) h x _ (f .macseq-fits .result) (s .block-key .ensures) (λ v e. f .macseq-fits .ensures v (g .status) e))),
       ),
     )
 
 same-length : tie.Need-same-length Inv-loop μ-loop
-same-length c = c .before .loop .inv .0 .1 .0 ∙ sym (c .before .before .before .before .before .before .before .before .before .before .before .before .before .pre .1 .0 .1 .0)
+same-length c = c .before .loop .inv .0 .1 .0 ∙ sym (c .before .before .before .before .before .before .before .before .before .before .before .before .before .before .before .pre .1 .0 .1 .0)
 
 same-length-2 : tie.Need-same-length-2 Inv-loop μ-loop
-same-length-2 c = c .before .loop .inv .0 .1 .1 .0 ∙ sym (c .before .before .before .before .before .before .before .before .before .before .before .before .before .pre .1 .0 .0 .0)
+same-length-2 c = c .before .loop .inv .0 .1 .1 .0 ∙ sym (c .before .before .before .before .before .before .before .before .before .before .before .before .before .before .before .pre .1 .0 .0 .0)
 
 same-length-3 : tie.Need-same-length-3 Inv-loop μ-loop
-same-length-3 c = c .before .loop .inv .0 .1 .1 .1 .0 ∙ sym (c .before .before .before .before .before .before .before .before .before .before .before .before .before .pre .1 .0 .0 .1)
+same-length-3 c = c .before .loop .inv .0 .1 .1 .1 .0 ∙ sym (c .before .before .before .before .before .before .before .before .before .before .before .before .before .before .before .pre .1 .0 .0 .1)
 
 same-length-4 : tie.Need-same-length-4 Inv-loop μ-loop
-same-length-4 c = c .before .loop .inv .0 .1 .1 .1 .1 ∙ sym (c .before .before .before .before .before .before .before .before .before .before .before .before .before .pre .1 .0 .1 .1)
+same-length-4 c = c .before .loop .inv .0 .1 .1 .1 .1 ∙ sym (c .before .before .before .before .before .before .before .before .before .before .before .before .before .before .before .pre .1 .0 .1 .1)
 
 returns : tie.Need-returns Inv-loop μ-loop
 returns c =
     let l = c .before .loop in
-    let g = c .before .before .before .before .before .before .before .before .before .before .before .before .before .args in
+    let g = c .before .before .before .before .before .before .before .before .before .before .before .before .before .before .before .args in
     let h : l .j ≡ g .c .nmack * g .c .fields = omega (arith, c .loop-test .left, l .inv .0 .0) in
     rw (← h) (l .inv .1 .1)
 

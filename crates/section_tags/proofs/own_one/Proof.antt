@@ -44,7 +44,7 @@ returns c h k f =
     let is = t .own-tag .ensures in
     let e = one-judged (now (g .config)) (nav (now (g .words)) (now (g .stamps))) (g .c) h x (g .j) (g .fits) (start (g .count) (now (g .sets)) (now (g .arrivals)))
     (p .heard .result) (o .outcome-of .result) (n .set-of .result) tag is f (n .set-of .ensures) (p .heard .ensures .1)
-    (o .outcome-of .ensures .1 h (tag-key (g .c) h x (g .j) tag (g .key) is k) (tag-block (g .c) x (g .j) tag is)) in
+    (o .outcome-of .ensures .1 h (tag-key (g .c) h x (g .j) tag (now (g .key)) is k) (tag-block (g .c) x (g .j) tag is)) in
     rw (← e) (s .settle .ensures)
 
 pub own-one-spec : {M : Type 1} → statement M

@@ -15,7 +15,7 @@ returns-2 : tie.Need-returns-2
 returns-2 c h k b =
     let d = c .before .before in
     let g = d .before .before .args in
-    prompt-matches (g .c) h (g .key) (g .first) (g .t) (now (g .set)) (c .tag-matches .result) (sym (d .delay-of .ensures) ∙ c .before .if1 .left) k b (c .tag-matches .ensures)
+    prompt-matches (g .c) h (now (g .key)) (g .first) (g .t) (now (g .set)) (c .tag-matches .result) (sym (d .delay-of .ensures) ∙ c .before .if1 .left) k b (c .tag-matches .ensures)
 
 pub prompt-match-spec : {M : Type 1} → statement M
 prompt-match-spec = tie.close (tie.spec (λ c κs. search needs) returns (λ c κs. search needs) returns-2)

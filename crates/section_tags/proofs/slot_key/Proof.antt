@@ -5,7 +5,7 @@ use Prim.Native.Nat.{ℕ}
 use native.Mathlib.Omega.{arith}
 use native.Mathlib.Nat.{sub-zero}
 use lib.ListN.{length, take}
-use Rattle.hmac.specs.Hmac.{keyOf}
+use Rattle.mac.specs.Kept.{keptOf}
 use Rattle.section_tags.proofs.Keys.{key-front, key-long}
 use borrow.Author.Needs.{needs}
 use Rattle.section_tags.proofs.slot_key.Statement.{statement}
@@ -20,22 +20,22 @@ long c =
     let g = a .args in
     key-long (g .c) (g .slot) (g .m) (g .known) (c .key-of-slot .last .1 .1 .1 .0) (a .pre .0 .width-high) (length-known a) (c .key-of-slot .ensures)
 
-part-hmac-key-end : tie.Need-part-hmac-key-end
-part-hmac-key-end c = omega (arith, long (c .before), c .before .before .before .pre .0 .width-high)
+part-keep-end : tie.Need-part-keep-end
+part-keep-end c = omega (arith, long (c .before), c .before .before .before .pre .0 .width-high)
 
 returns : tie.Need-returns
 returns c =
-    let k = c .before .before .before in
+    let k = c .before .before .before .before in
     let a = k .before .before in
     let g = a .args in
     let out = k .key-of-slot .last .1 .1 .1 .0 in
-    c .hmac-key .ensures
-    ∙ ap (λ (i : ℕ). keyOf (take i out)) (sub-zero (g .c .width))
-    ∙ ap keyOf (key-front (g .c) (g .slot) (g .m) (g .known) out (a .pre .0 .width-high) (length-known a) (k .key-of-slot .ensures))
+    c .keep .ensures
+    ∙ ap (λ (i : ℕ). keptOf (g .c .mf) (take i out)) (sub-zero (g .c .width))
+    ∙ ap (keptOf (g .c .mf)) (key-front (g .c) (g .slot) (g .m) (g .known) out (a .pre .0 .width-high) (length-known a) (k .key-of-slot .ensures))
 
 pub slot-key-spec : {M : Type 1} → statement M
 slot-key-spec =
     tie.close
     (tie.spec (λ c κs. search needs) (λ c. search needs) (λ c. search needs)
-    part-hmac-key-end (λ c κs. search needs)
+    part-keep-end (λ c κs. search needs)
     returns)

@@ -13,7 +13,7 @@ use Rattle.tag_codes.proofs.macseq_code.Tie as tie
 returns : tie.Need-returns
 returns c k e =
     let g = c .before .before .before .args in
-    c .mac-bits .ensures k e ∙ ap (λ (i : ℕ). macBits 12 k (take i (now (g .message)))) (sub-zero (g .n))
+    c .mac-bits .ensures k e ∙ ap (λ (i : ℕ). macBits (g .mf) 12 k (take i (now (g .message)))) (sub-zero (g .n))
 
 pub macseq-code-spec : {M : Type 1} → statement M
 macseq-code-spec =

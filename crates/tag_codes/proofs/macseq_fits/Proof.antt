@@ -18,7 +18,7 @@ returns c k status e =
     rw (c .macseq-of .ensures)
     (ap (λ (v : ℕ). eqb v (macseqOf (g .c) (now (g .mack))))
     (c .before .macseq-code .ensures k e
-    ∙ ap (λ (l : List ℕ). macBits 12 k l)
+    ∙ ap (λ (l : List ℕ). macBits (g .c .mf) 12 k l)
     (c .before .before .before .before .macseq-message .ensures .0 ∙ any-status (now (g .config)) (g .c) (g .prn) (g .time) (now (g .mack)) status (g .c .nmack * g .c .fields))))
 
 pub macseq-fits-spec : {M : Type 1} → statement M

@@ -13,12 +13,12 @@ use Rattle.tag_codes.proofs.tag_code.Tie as tie
 returns : tie.Need-returns
 returns c k t navdata e m =
     let g = c .before .before .before .before .args in
-    rw (c .before .before .if1 .taken) (c .mac-bits .ensures k e ∙ ap (λ (l : List ℕ). macBits (g .ms) k l) (rest-of-message (now (g .message)) t navdata m))
+    rw (c .before .before .if1 .taken) (c .mac-bits .ensures k e ∙ ap (λ (l : List ℕ). macBits (g .mf) (g .ms) k l) (rest-of-message (now (g .message)) t navdata m))
 
 returns-2 : tie.Need-returns-2
 returns-2 c k t navdata e m =
     let g = c .before .before .before .args in
-    rw (c .before .if1 .left) (c .mac-bits2 .ensures k e ∙ ap (λ (l : List ℕ). macBits (g .ms) k l) m)
+    rw (c .before .if1 .left) (c .mac-bits2 .ensures k e ∙ ap (λ (l : List ℕ). macBits (g .mf) (g .ms) k l) m)
 
 pub tag-code-spec : {M : Type 1} → statement M
 tag-code-spec =

@@ -1,0 +1,3 @@
+-- Laws of what is kept of a key.
+mod HmacBytes
+mod Functions

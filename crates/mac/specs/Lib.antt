@@ -1,0 +1,2 @@
+-- What the contracts of `mac` cite.
+pub mod Kept
