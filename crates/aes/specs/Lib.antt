@@ -1,0 +1,2 @@
+-- What the contracts of `aes` cite.
+pub mod Aes
