@@ -137,14 +137,14 @@ addRoundKey s w r = xored s (part w (16 * r) 16)
 unfoldable pub round : List ℕ → List ℕ → ℕ → List ℕ
 round w s r = addRoundKey (mixColumns (shiftRows (subBytes s))) w r
 
--- the state of the block b after n rounds
+-- the state after s, by the rounds 1 to n
 unfoldable pub rounds : List ℕ → List ℕ → ℕ → List ℕ
-rounds w b zero = addRoundKey b w 0
-rounds w b (suc n) = round w (rounds w b n) (suc n)
+rounds w s zero = s
+rounds w s (suc n) = round w (rounds w s n) (suc n)
 
 -- the block b after nr rounds with the round keys w; the last round has no MixColumns
 unfoldable pub cipher : ℕ → List ℕ → List ℕ → List ℕ
-cipher nr w b = addRoundKey (shiftRows (subBytes (rounds w b (nr - 1)))) w nr
+cipher nr w b = addRoundKey (shiftRows (subBytes (rounds w (addRoundKey b w 0) (nr - 1)))) w nr
 
 -- ---- 5.2: KeyExpansion (Algorithm 2)
 
@@ -187,9 +187,9 @@ unfoldable pub keyWords : ℕ → List ℕ → ℕ → List ℕ
 keyWords nk k zero = k
 keyWords nk k (suc n) = let w = keyWords nk k n in w ++ nextWord nk w (nk + n)
 
--- the bytes of the key k that count
+-- the bytes of the key k that count, and zeros to 16 where it is shorter
 unfoldable pub keyBytes : List ℕ → List ℕ
-keyBytes k = take (4 * nkOf (length k)) (k ++ replicate 16 0)
+keyBytes k = take (4 * nkOf (length k)) k ++ replicate (16 - length k) 0
 
 -- the 4 (Nr + 1) words of the key k
 unfoldable pub keySchedule : List ℕ → List ℕ
