@@ -1,6 +1,6 @@
 -- KeyExpansion, word by word.
 -- Assumes nothing.
-use mathlib.Core.Path.{_≡_, refl, sym, ap, _∙_}
+use mathlib.Core.Path.{_≡_, refl, sym, ap, ap₂, subst, _∙_}
 use mathlib.Core.Bool.{Bool, true, false, cond, _&&_}
 use mathlib.Core.List.{List, [], _∷_, _++_, map, append-assoc}
 use Prim.Native.Nat.{ℕ, zero, suc, _+_, _-_, _*_, _/_, _%_, _≤_, _<_}
@@ -12,8 +12,10 @@ use lib.Dec.{eqb, ltb}
 use lib.ListN.{length, length-map, getD, take, drop, replicate, length-append, length-replicate}
 use Rattle.laws.specs.Lists.{part, splice}
 use Rattle.laws.proofs.Elements.{written-out}
+use Rattle.laws.proofs.Splice.{length-part, getD-part}
 use Rattle.aes.specs.Aes as S
 use Rattle.aes.specs.Steps as C
+use Rattle.aes.proofs.States.{four-equal}
 
 -- ---- Rcon
 
@@ -78,3 +80,43 @@ length-temp nk i t e = go (eqb (i % nk) 0) (ltb 6 nk && eqb (i % nk) 4)
     go true b = added-length t (i / nk)
     go false true = substituted-length t ∙ e
     go false false = e
+
+-- ---- word i
+
+pub quotient-positive : (i n : ℕ) → 0 < n → n ≤ i → 1 ≤ i / n
+quotient-positive i n h g = ?
+
+pub part-four : (w : List ℕ) (a : ℕ) → a + 4 ≤ length w → part w a 4 ≡ getD w a 0 ∷ getD w (a + 1) 0 ∷ getD w (a + 2) 0 ∷ getD w (a + 3) 0 ∷ []
+part-four w a h =
+    let e : a + 0 ≡ a = omega arith in
+    written-out 4 (part w a 4) (length-part w a 4 h)
+    ∙ four-equal (getD-part w a 4 0 (omega arith) ∙ ap (λ (i : ℕ). getD w i 0) e) (getD-part w a 4 1 (omega arith)) (getD-part w a 4 2 (omega arith)) (getD-part w a 4 3 (omega arith))
+
+xored-out : (a b c d e f g h : ℕ) → bitXor a e ∷ bitXor b f ∷ bitXor c g ∷ bitXor d h ∷ [] ≡ S.xored (a ∷ b ∷ c ∷ d ∷ []) (e ∷ f ∷ g ∷ h ∷ [])
+unfolding S.xored
+xored-out a b c d e f g h = refl
+
+xored-four : (a b c d : ℕ) (v : List ℕ) → length v ≡ 4
+    → bitXor a (getD v 0 0) ∷ bitXor b (getD v 1 0) ∷ bitXor c (getD v 2 0) ∷ bitXor d (getD v 3 0) ∷ [] ≡ S.xored (a ∷ b ∷ c ∷ d ∷ []) v
+xored-four a b c d v e =
+    subst (λ (l : List ℕ). bitXor a (getD l 0 0) ∷ bitXor b (getD l 1 0) ∷ bitXor c (getD l 2 0) ∷ bitXor d (getD l 3 0) ∷ [] ≡ S.xored (a ∷ b ∷ c ∷ d ∷ []) l)
+    (sym (written-out 4 v e)) (xored-out a b c d _ _ _ _)
+
+before : (w : List ℕ) (i : ℕ) → 1 ≤ i → 4 * i ≤ length w
+    → getD w (4 * i - 4) 0 ∷ getD w (4 * i - 3) 0 ∷ getD w (4 * i - 2) 0 ∷ getD w (4 * i - 1) 0 ∷ [] ≡ S.word w (i - 1)
+unfolding S.word
+before w i h g =
+    let e0 : 4 * i - 4 ≡ 4 * (i - 1) = omega arith in
+    let e1 : 4 * i - 3 ≡ 4 * (i - 1) + 1 = omega arith in
+    let e2 : 4 * i - 2 ≡ 4 * (i - 1) + 2 = omega arith in
+    let e3 : 4 * i - 1 ≡ 4 * (i - 1) + 3 = omega arith in
+    rw (e0, e1, e2, e3) (sym (part-four w (4 * (i - 1)) (omega arith)))
+
+pub next-is : (w : List ℕ) (nk i : ℕ) (v : List ℕ) → 0 < nk → nk ≤ i → 4 * i ≤ length w → length v ≡ 4
+    → v ≡ S.temp nk i (getD w (4 * i - 4) 0 ∷ getD w (4 * i - 3) 0 ∷ getD w (4 * i - 2) 0 ∷ getD w (4 * i - 1) 0 ∷ [])
+    → bitXor (getD w (4 * (i - nk)) 0) (getD v 0 0) ∷ bitXor (getD w (4 * (i - nk) + 1) 0) (getD v 1 0) ∷ bitXor (getD w (4 * (i - nk) + 2) 0) (getD v 2 0)
+    ∷ bitXor (getD w (4 * (i - nk) + 3) 0) (getD v 3 0) ∷ [] ≡ S.nextWord nk w i
+unfolding S.nextWord S.word
+next-is w nk i v g h l e p =
+    xored-four _ _ _ _ v e
+    ∙ ap₂ S.xored (sym (part-four w (4 * (i - nk)) (omega arith))) (p ∙ ap (S.temp nk i) (before w i (omega arith) l))

@@ -73,7 +73,7 @@ turn w x y z =
     xor-comm (bitXor (bitXor x y) z) w ∙ sym (xor-assoc w (bitXor x y) z)
     ∙ ap (λ (t : ℕ). bitXor t z) (sym (xor-assoc w x y))
 
-four-equal : {a b c d a′ b′ c′ d′ : ℕ} → a ≡ a′ → b ≡ b′ → c ≡ c′ → d ≡ d′ → a ∷ b ∷ c ∷ d ∷ [] ≡ a′ ∷ b′ ∷ c′ ∷ d′ ∷ []
+pub four-equal : {a b c d a′ b′ c′ d′ : ℕ} → a ≡ a′ → b ≡ b′ → c ≡ c′ → d ≡ d′ → a ∷ b ∷ c ∷ d ∷ [] ≡ a′ ∷ b′ ∷ c′ ∷ d′ ∷ []
 four-equal p q r s = cc
 
 -- a byte of a column, from it and the three below it

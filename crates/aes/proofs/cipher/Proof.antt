@@ -3,14 +3,11 @@
 use mathlib.Core.Path.{_≡_}
 use Prim.Native.Nat.{_≤_, _-_}
 use borrow.Author.Needs.{needs}
-use denote.Ref.{now}
 use native.Mathlib.Omega.{arith}
 use Rattle.aes.specs.Aes as S
 use Rattle.aes.proofs.States.{no-round, one-more, cipher-is}
 use Rattle.aes.proofs.cipher.Statement.{statement}
 use Rattle.aes.proofs.cipher.Tie as tie
-use Rattle.aes.proofs.cipher.Reads as reads
-use Rattle.aes.proofs.cipher.Lts as lts
 
 abbrev Inv-loop : tie.InvT-loop
 Inv-loop rounds w t s₀ i₀ s i = (1 ≤ i) × ((i ≤ rounds) × (s ≡ S.rounds w s₀ (i - 1)))
@@ -22,7 +19,7 @@ loop-holds : tie.Need-loop-holds Inv-loop μ-loop
 loop-holds c = (omega arith, (omega arith, no-round _ _))
 
 sub-shift-requires : tie.Need-sub-shift-requires Inv-loop μ-loop
-sub-shift-requires c κs = ?
+sub-shift-requires c κs = c .before .before .before .before .sbox .ensures
 
 loop-again : tie.Need-loop-again Inv-loop μ-loop
 loop-again c =
@@ -31,7 +28,7 @@ loop-again c =
     (omega arith, (omega arith, one-more _ _ (l .s) (l .i) (l .inv .0) (l .inv .1 .1) (c1 .sub-shift .ensures) (c .before .mix-columns .ensures) (c .add-round-key2 .ensures)))
 
 sub-shift-requires-2 : tie.Need-sub-shift-requires-2 Inv-loop μ-loop
-sub-shift-requires-2 c κs = ?
+sub-shift-requires-2 c κs = c .before .before .before .before .sbox .ensures
 
 returns : tie.Need-returns Inv-loop μ-loop
 returns c =

@@ -1,107 +1,46 @@
+-- `aes::temp` meets its contract, branch by branch.
+-- Assumes nothing.
 use borrow.Author.Needs.{needs}
+use native.Mathlib.Omega.{arith}
+use Rattle.aes.proofs.Keys.{quotient-positive, first-case, second-case, other-case, short-case}
 use Rattle.aes.proofs.temp.Statement.{statement}
 use Rattle.aes.proofs.temp.Tie as tie
-use Rattle.aes.proofs.temp.Reads as reads
-use Rattle.aes.proofs.temp.Lts as lts
-use Rattle.aes.proofs.sub_word.Reads as sub-word-reads
-use Rattle.aes.proofs.x_power.Reads as x-power-reads
 
--- src/lib.rt:489:8
-rem-if1 : tie.Need-rem-if1
-rem-if1 c = search needs
-
--- src/lib.rt:490:30
-array-read-t12 : tie.Need-array-read-t12
-array-read-t12 c = search needs
-
--- src/lib.rt:490:36
-array-read-t15 : tie.Need-array-read-t15
-array-read-t15 c = search needs
-
--- src/lib.rt:490:42
-array-read-t18 : tie.Need-array-read-t18
-array-read-t18 c = search needs
-
--- src/lib.rt:490:48
-array-read-t21 : tie.Need-array-read-t21
-array-read-t21 c = search needs
-
--- src/lib.rt:490:17
-sub-word-requires : tie.Need-sub-word-requires
-sub-word-requires c κs = search needs
-
--- src/lib.rt:491:17
-array-read-t12-2 : tie.Need-array-read-t12-2
-array-read-t12-2 c = search needs
-
--- src/lib.rt:491:32
-div-x-power : tie.Need-div-x-power
-div-x-power c = search needs
-
--- src/lib.rt:491:32
 sub-x-power : tie.Need-sub-x-power
-sub-x-power c = ?
+sub-x-power c =
+    let s = c .before .before in
+    quotient-positive (s .args .i) (s .args .nk) (s .pre .1 .0) (s .pre .1 .1)
 
--- src/lib.rt:491:24
-x-power-requires : tie.Need-x-power-requires
-x-power-requires c κs = search needs
-
--- src/lib.rt:491:45
-array-read-t18-2 : tie.Need-array-read-t18-2
-array-read-t18-2 c = search needs
-
--- src/lib.rt:491:51
-array-read-t31 : tie.Need-array-read-t31
-array-read-t31 c = search needs
-
--- src/lib.rt:491:57
-array-read-t34 : tie.Need-array-read-t34
-array-read-t34 c = search needs
-
--- src/lib.rt:491:9
 returns : tie.Need-returns
-returns c = ?
+returns c =
+    let s = c .before .before .before .args in
+    first-case (s .nk) (s .i) _ (s .t4) _ (c .before .before .if1 .taken) (c .before .sub-word .ensures) (c .x-power .ensures)
 
--- src/lib.rt:494:12
-rem-if3 : tie.Need-rem-if3
-rem-if3 c = search needs
-
--- src/lib.rt:495:13
-sub-word-requires-2 : tie.Need-sub-word-requires-2
-sub-word-requires-2 c κs = search needs
-
--- src/lib.rt:495:13
 returns-2 : tie.Need-returns-2
-returns-2 c = ?
+returns-2 c =
+    let s = c .before .before .before .before .args in
+    second-case (s .nk) (s .i) (s .t4) _ (c .before .before .if2 .taken) (c .before .if3 .taken) (c .sub-word2 .ensures)
 
--- src/lib.rt:485:1
 returns-3 : tie.Need-returns-3
-returns-3 c = ?
+returns-3 c =
+    let s = c .before .before .before .args in
+    other-case (s .nk) (s .i) (s .t4) (c .before .before .if1 .left) (c .if3 .left)
 
--- src/lib.rt:485:1
 returns-4 : tie.Need-returns-4
-returns-4 c = ?
+returns-4 c =
+    let s = c .before .before .args in
+    short-case (s .nk) (s .i) (s .t4) (c .before .if1 .left) (c .if2 .left)
 
 pub temp-spec : {M : Type 1} → statement M
 temp-spec =
     tie.close
     (tie.spec
-    rem-if1
-    array-read-t12
-    array-read-t15
-    array-read-t18
-    array-read-t21
-    sub-word-requires
-    array-read-t12-2
-    div-x-power
+    (λ c. search needs) (λ c. search needs) (λ c. search needs) (λ c. search needs) (λ c. search needs) (λ c κs. search needs)
+    (λ c. search needs) (λ c. search needs)
     sub-x-power
-    x-power-requires
-    array-read-t18-2
-    array-read-t31
-    array-read-t34
+    (λ c κs. search needs) (λ c. search needs) (λ c. search needs) (λ c. search needs)
     returns
-    rem-if3
-    sub-word-requires-2
+    (λ c. search needs) (λ c κs. search needs)
     returns-2
     returns-3
     returns-4)
