@@ -2,20 +2,24 @@
 -- Assumes nothing.
 use mathlib.Core.Path.{_≡_, refl, sym, ap, ap₂, subst, _∙_}
 use mathlib.Core.Bool.{Bool, true, false, cond, _&&_}
+use mathlib.Core.Logic.{_⊎_, ⊎-elim}
 use mathlib.Core.List.{List, [], _∷_, _++_, map, append-assoc}
 use Prim.Native.Nat.{ℕ, zero, suc, _+_, _-_, _*_, _/_, _%_, _≤_, _<_}
+use native.Mathlib.Nat.{div-eq-sub-div}
 use native.Mathlib.Numerals.{add-one}
 use native.Mathlib.Omega.{arith}
 use borrow.Author.Tests.{lt-ltb, le-ltb, eq-eqb, ne-eqb}
 use lib.Bits.{bitXor, xor-zero-r}
 use lib.Dec.{eqb, ltb}
-use lib.ListN.{length, length-map, getD, take, drop, replicate, length-append, length-replicate}
+use lib.ListN.{length, length-map, getD, take, drop, replicate, length-append, length-replicate, length-take, replicate-append-replicate}
+use lib.Seq.{take-all, take-at, drop-at}
 use Rattle.laws.specs.Lists.{part, splice}
 use Rattle.laws.proofs.Elements.{written-out}
-use Rattle.laws.proofs.Splice.{length-part, getD-part}
+use Rattle.laws.proofs.Splice.{length-part, getD-part, part-first, splice-whole, splice-start, drop-replicate, below?}
 use Rattle.aes.specs.Aes as S
 use Rattle.aes.specs.Steps as C
 use Rattle.aes.proofs.States.{four-equal}
+use Rattle.aes.proofs.Lengths.{length-xored, nk-range, rounds-range}
 
 -- ---- Rcon
 
@@ -84,7 +88,9 @@ length-temp nk i t e = go (eqb (i % nk) 0) (ltb 6 nk && eqb (i % nk) 4)
 -- ---- word i
 
 pub quotient-positive : (i n : ℕ) → 0 < n → n ≤ i → 1 ≤ i / n
-quotient-positive i n h g = ?
+quotient-positive i n h g =
+    let e = div-eq-sub-div h g in
+    omega arith
 
 pub part-four : (w : List ℕ) (a : ℕ) → a + 4 ≤ length w → part w a 4 ≡ getD w a 0 ∷ getD w (a + 1) 0 ∷ getD w (a + 2) 0 ∷ getD w (a + 3) 0 ∷ []
 part-four w a h =
@@ -120,3 +126,119 @@ unfolding S.nextWord S.word
 next-is w nk i v g h l e p =
     xored-four _ _ _ _ v e
     ∙ ap₂ S.xored (sym (part-four w (4 * (i - nk)) (omega arith))) (p ∙ ap (S.temp nk i) (before w i (omega arith) l))
+
+-- ---- how long the words are
+
+length-nextWord : (nk : ℕ) (w : List ℕ) (i : ℕ) → 0 < nk → nk ≤ i → 4 * i ≤ length w → length (S.nextWord nk w i) ≡ 4
+unfolding S.nextWord S.word
+length-nextWord nk w i g h l =
+    let a = length-part w (4 * (i - nk)) 4 (omega arith) in
+    let b = length-temp nk i (part w (4 * (i - 1)) 4) (length-part w (4 * (i - 1)) 4 (omega arith)) in
+    length-xored (part w (4 * (i - nk)) 4) (S.temp nk i (part w (4 * (i - 1)) 4)) (omega arith) ∙ a
+
+length-keyWords : (nk : ℕ) (k : List ℕ) (n : ℕ) → 0 < nk → length k ≡ 4 * nk → length (S.keyWords nk k n) ≡ 4 * (nk + n)
+unfolding S.keyWords
+length-keyWords nk k zero h e = omega arith
+length-keyWords nk k (suc n) h e =
+    let l = length-keyWords nk k n h e in
+    let m = length-nextWord nk (S.keyWords nk k n) (nk + n) h (omega arith) (omega arith) in
+    simp length-append (omega arith)
+
+length-keyBytes : (k : List ℕ) → length (S.keyBytes k) ≡ 4 * S.nkOf (length k)
+unfolding S.keyBytes
+length-keyBytes k =
+    simp (length-append, length-take, length-replicate)
+    (⊎-elim
+    (λ l.
+    let e = nk-range (length k) .1 .1 .1 l in
+    omega arith)
+    (λ g.
+    let e = nk-range (length k) .1 .1 .0 g in
+    omega arith)
+    (below? (length k) 16))
+
+length-keySchedule : (k : List ℕ) → length (S.keySchedule k) ≡ 16 * (S.roundsOf (length k) + 1)
+unfolding S.keySchedule S.roundsOf
+length-keySchedule k =
+    let r = nk-range (length k) in
+    let nk = S.nkOf (length k) in
+    let l = length-keyWords nk (S.keyBytes k) (4 * (nk + 6 + 1) - nk) (omega arith) (length-keyBytes k) in
+    omega arith
+
+-- ---- the round keys and zeros, 240 bytes
+
+pub length-expanded : (k : List ℕ) → length (S.expanded k) ≡ 240
+unfolding S.expanded
+length-expanded k =
+    let l = length-keySchedule k in
+    let r = rounds-range (length k) in
+    simp (length-append, length-replicate) (omega arith)
+
+padded : (m j : ℕ) (p : List ℕ) → length p + j ≤ m → (p ++ replicate j 0) ++ replicate (m - length (p ++ replicate j 0)) 0 ≡ p ++ replicate (m - length p) 0
+padded m j p h =
+    let e : j + (m - (length p + j)) ≡ m - length p = omega arith in
+    simp (length-append, length-replicate, append-assoc, replicate-append-replicate, e)
+
+zeros-whole : (m : ℕ) (w : List ℕ) → length w ≡ m → splice w 0 (replicate m 0) ≡ replicate m 0
+zeros-whole m w e = splice-whole w (replicate m 0) (length-replicate m 0 ∙ sym e)
+
+taken : (m n : ℕ) (l : List ℕ) → n ≤ m → (m ≤ n) ⊎ (length l ≤ n) → take n l ≡ take m l
+taken m n l h u =
+    ⊎-elim
+    (λ g.
+    let e : n ≡ m = omega arith in
+    ap (λ (i : ℕ). take i l) e)
+    (λ g. take-all n l g ∙ sym (take-all m l (omega arith)))
+    u
+
+-- the key laid at the start of zeros
+pub laid : (key w w1 w2 : List ℕ) (nk n : ℕ) → nk ≡ S.nkOf (length key) → length w ≡ 240 → n ≤ 4 * nk → (4 * nk ≤ n) ⊎ (length key ≤ n) → w1 ≡ splice w 0 (replicate 240 0)
+    → w2 ≡ splice w1 0 (part key 0 n) → w2 ≡ C.filled nk (S.keyBytes key) 0
+unfolding C.filled S.keyWords S.keyBytes part
+laid key w w1 w2 nk n e l h u p q =
+    let r = nk-range (length key) in
+    let t = length-take (4 * nk) key in
+    q
+    ∙ rw (p, zeros-whole 240 w l, splice-start 240 0 (take n key), taken (4 * nk) n key h u)
+    (rw (← e) (sym (padded 240 (16 - length key) (take (4 * nk) key) (omega arith))))
+
+-- one word more
+seam : (m : ℕ) (v x : List ℕ) (a : ℕ) → length v ≡ a → splice (v ++ replicate (m - length v) 0) a x ≡ (v ++ x) ++ replicate (m - length (v ++ x)) 0
+unfolding splice
+seam m v x a e =
+    let z : List ℕ = replicate (m - length v) 0 in
+    let d : m - length v - length x ≡ m - (length v + length x) = omega arith in
+    rw (take-at v z a e, drop-at v z a e, drop-replicate (length x) (m - length v) 0) (simp (length-append, append-assoc, d))
+
+same-word : (nk : ℕ) (v z : List ℕ) (i : ℕ) → 0 < nk → nk ≤ i → 4 * i ≤ length v → S.nextWord nk (v ++ z) i ≡ S.nextWord nk v i
+unfolding S.nextWord S.word
+same-word nk v z i g h l = rw (part-first v z (4 * (i - nk)) 4 (omega arith), part-first v z (4 * (i - 1)) 4 (omega arith))
+
+more : (nk : ℕ) (k : List ℕ) (n : ℕ) → 0 < nk → length k ≡ 4 * nk
+    → splice (C.filled nk k n) (4 * (nk + n)) (S.nextWord nk (C.filled nk k n) (nk + n)) ≡ C.filled nk k (suc n)
+unfolding C.filled S.keyWords
+more nk k n h e =
+    let v = S.keyWords nk k n in
+    let l : length v ≡ 4 * (nk + n) = length-keyWords nk k n h e in
+    rw (same-word nk v (replicate (240 - length v) 0) (nk + n) h (omega arith) (omega arith)) (seam 240 v (S.nextWord nk v (nk + n)) (4 * (nk + n)) l)
+
+pub grown : (key w v : List ℕ) (nk i : ℕ) → nk ≡ S.nkOf (length key) → nk ≤ i → w ≡ C.filled nk (S.keyBytes key) (i - nk)
+    → v ≡ splice w (4 * i) (S.nextWord nk w i) → v ≡ C.filled nk (S.keyBytes key) (i + 1 - nk)
+grown key w v nk i e g p q =
+    let r = nk-range (length key) in
+    let k = S.keyBytes key in
+    let n = i - nk in
+    let l : length k ≡ 4 * nk = rw e (length-keyBytes key) in
+    let a : i ≡ nk + n = omega arith in
+    let b : suc n ≡ i + 1 - nk = omega arith in
+    q
+    ∙ ap₂ (λ (x : List ℕ) (j : ℕ). splice x (4 * j) (S.nextWord nk x j)) p a
+    ∙ more nk k n (omega arith) l
+    ∙ ap (C.filled nk k) b
+
+-- all words
+pub all-words : (key w : List ℕ) (nk i : ℕ) → nk ≡ S.nkOf (length key) → i ≤ 4 * (nk + 7) → 4 * (nk + 7) ≤ i → w ≡ C.filled nk (S.keyBytes key) (i - nk) → w ≡ S.expanded key
+unfolding C.filled S.expanded S.keySchedule S.roundsOf
+all-words key w nk i e g h p =
+    let d : i - nk ≡ 4 * (nk + 6 + 1) - nk = omega arith in
+    p ∙ rw (d, e)
