@@ -1,5 +1,5 @@
--- Laws of AES's definitions; those of `Table` (the S-box) and `Lengths` are for callers.
+-- Laws of AES's definitions; those of `Table` (the S-box), `Lengths` and `Keys` are for callers.
 pub mod Table
 pub mod Lengths
 mod States
-mod Keys
+pub mod Keys
