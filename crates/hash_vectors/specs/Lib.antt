@@ -1,3 +1,4 @@
--- SHA-256 and HMAC at published examples.
+-- SHA-256, HMAC and AES at published examples.
 pub mod Sha
 pub mod Mac
+pub mod Aes

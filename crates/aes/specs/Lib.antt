@@ -1,0 +1,3 @@
+-- What the contracts of `aes` cite.
+pub mod Aes
+pub mod Steps
