@@ -29,11 +29,11 @@ pub fn mac_bits(mf: u8, n: usize, kept: &[u8; 273], message: &[u8]) -> u64
     requires { ⌜ (n ≤ 56) × (length (now message) ≤ 76) ⌝ }
     ensures { λ r. ⌜ ((k : List ℕ) → now (kept .entry) ≡ keptOf mf k → r ≡ macBits mf n k (now (message .entry))) ⌝ }
 {
-    if mf == 1 {
-        let code = cmac::cmac_with(kept, message);
+    if mf != 1 {
+        let code = hmac::hmac_with(hmac_key_in(kept), message);
         return bitfields::bits_at(&code, 0, n);
     }
-    let code = hmac::hmac_with(hmac_key_in(kept), message);
+    let code = cmac::cmac_with(kept, message);
     bitfields::bits_at(&code, 0, n)
 }
 

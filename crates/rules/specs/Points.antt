@@ -1,4 +1,4 @@
--- The points that 01 marks P ("Known points"): what the rules give, and what 01 says. One table; proofs/Points.antt shows that it is right.
+-- The points that 01 marks P ("Known points") and some beside them: what the rules give, and what 01 or 02 says. One table; proofs/Points.antt shows that it is right.
 use Prim.Native.Nat.{ℕ, _+_, _*_}
 use mathlib.Core.Path.{_≡_}
 use mathlib.Core.List.{List, [], _∷_}
@@ -43,6 +43,11 @@ numberForBlocks nb =
 abbrev pub numberForTagSize : ℕ → ℕ
 numberForTagSize ms =
     firstOf (krootChecks (1 ∷ []) [] (0x10 ∷ 0x30 ∷ (4 * 16 + ms) ∷ 0 ∷ 0x03 ∷ 0xB3 ∷ 0x78 ∷ replicate 84 0))
+
+-- the number that the first two checks (7, 8) of a DSM-KROOT give, with this MF and KS code, NMACK 1, MS 10, the rest zeros
+abbrev pub numberForFunction : ℕ → ℕ → ℕ
+numberForFunction mf ks =
+    firstOf (take 2 (krootChecks (1 ∷ []) [] (0x10 ∷ (0x10 + mf) ∷ (ks * 16) ∷ 0 ∷ 0x03 ∷ 0xB3 ∷ 0x78 ∷ replicate 84 0)))
 
 -- the number that a block's own list gives by its first check, for block 2 of E`prn` at 1/416640, with NS 36, NMACK 2, and the root of week 1 hour 0
 -- held: E28's key has slot 1,000,000, E29's slot 1,000,001
@@ -102,6 +107,16 @@ points =
     ∷ point (setAfterTag 70) 7
     ∷ point (setAfterTag 100) 9
     ∷ point (setAfterTag 130) 9
+    -- 02, P1: "KS must then be 128, 192 or 256 bits; any other KS with MF 1 is answered 8."; MF 0 has every KS, MF 2 and 3 none
+    ∷ point (numberForFunction 1 4) 0
+    ∷ point (numberForFunction 1 6) 0
+    ∷ point (numberForFunction 1 8) 0
+    ∷ point (numberForFunction 1 0) 8
+    ∷ point (numberForFunction 1 5) 8
+    ∷ point (numberForFunction 1 7) 8
+    ∷ point (numberForFunction 0 0) 0
+    ∷ point (numberForFunction 2 4) 8
+    ∷ point (numberForFunction 3 4) 8
     ∷ []
 
 abbrev pub Right : Point → Type 0

@@ -11,14 +11,19 @@ use Rattle.gather.specs.declared.Gathered.the-variants.{Stored, Complete, Refus
 
 -- ---- a chain
 
--- in the order of its fields
+-- in the order of its fields; MF is 0 where no code is made
 abbrev pub chainOf : ℕ → ℕ → ℕ → List ℕ → ℕ → ℕ → ℕ → Chain
 chainOf ns nmack root alpha width ms fields =
-    record { ns = ns; nmack = nmack; root = root; alpha = alpha; width = width; ms = ms; fields = fields }
+    record { ns = ns; nmack = nmack; root = root; alpha = alpha; mf = 0; width = width; ms = ms; fields = fields }
 
 -- of which the layout of its sections is read alone
 abbrev pub laidOut : ℕ → ℕ → ℕ → Chain
 laidOut nmack ms fields = chainOf 0 nmack 0 (0 ∷ 0 ∷ 0 ∷ 0 ∷ 0 ∷ 0 ∷ []) 0 ms fields
+
+-- the same, and the function of its codes
+abbrev pub codedBy : ℕ → ℕ → ℕ → ℕ → Chain
+codedBy mf nmack ms fields =
+    record { ns = 0; nmack = nmack; root = 0; alpha = 0 ∷ 0 ∷ 0 ∷ 0 ∷ 0 ∷ 0 ∷ []; mf = mf; width = 0; ms = ms; fields = fields }
 
 -- of which the slots are counted alone
 abbrev pub counted : ℕ → ℕ → ℕ → Chain
@@ -26,7 +31,7 @@ counted ns nmack root = chainOf ns nmack root (0 ∷ 0 ∷ 0 ∷ 0 ∷ 0 ∷ 0 �
 
 -- in the order of its fields, without α
 abbrev pub chainNumbers : Chain → List ℕ
-chainNumbers c = c .ns ∷ c .nmack ∷ c .root ∷ c .width ∷ c .ms ∷ c .fields ∷ []
+chainNumbers c = c .ns ∷ c .nmack ∷ c .root ∷ c .mf ∷ c .width ∷ c .ms ∷ c .fields ∷ []
 
 -- ---- a tag, in the order of its fields
 

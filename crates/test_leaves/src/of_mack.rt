@@ -16,6 +16,7 @@ pub fn laid_out(nmack: u64, ms: u64, fields: u64) -> Chain
         nmack: nmack,
         root: 0,
         alpha: [0, 0, 0, 0, 0, 0],
+        mf: 0,
         width: 0,
         ms: ms,
         fields: fields,

@@ -1,30 +1,32 @@
-// The codes of tags and of MACSEQ (crates/tag_codes). Each function makes the kept key and calls its leaf once.
+// The codes of tags and of MACSEQ (crates/mac, crates/tag_codes), by the function that MF names. Each function makes the kept key and calls its leaf once.
 use rules::Chain;
 use rules::Tag;
 ghost use mathlib.Core.Path.{_≡_};
 ghost use mathlib.Core.Bool.{cond};
-ghost use Prim.Native.Nat.{ℕ, _*_, _^_, _≤_, _<_};
+ghost use Prim.Native.Nat.{ℕ, _*_, _≤_};
 ghost use lib.Dec.{eqb};
 ghost use lib.ListN.{length};
 ghost use Rattle.rules.specs.Mack.{macseqOf};
 ghost use Rattle.rules.specs.Tags.{macBits, firstMessage, tagMessage, macseqMessage};
 ghost use Rattle.rules.specs.State.{configLength};
 ghost use Rattle.tags.specs.Layout.{Laid, section};
-ghost use Rattle.test_leaves.specs.Numbers.{laidOut, tagOf};
+ghost use Rattle.test_leaves.specs.Numbers.{codedBy, tagOf};
 
 // The first n bits of the code of a message under a key.
 #[no_mangle]
-pub extern "C" fn leaf_mac_bits(n: usize, key: &[u8], message: &[u8]) -> u64
-    requires { ⌜ ((n ≤ 56) × (length (now message) ≤ 76)) × (length (now key) < 2 ^ 61) ⌝ }
-    ensures { λ r. ⌜ r ≡ macBits n (now (key .entry)) (now (message .entry)) ⌝ }
+pub extern "C" fn leaf_mac_bits(mf: u8, n: usize, key: &[u8], message: &[u8]) -> u64
+    requires { ⌜ ((n ≤ 56) × (length (now message) ≤ 76)) × (length (now key) ≤ 32) ⌝ }
+    ensures { λ r. ⌜ r ≡ macBits mf n (now (key .entry)) (now (message .entry)) ⌝ }
 {
-    let kept = hmac::hmac_key(key);
-    tag_codes::mac_bits(n, kept, message)
+    let mut kept = [0u8; 273];
+    mac::keep(mf, key, &mut kept);
+    mac::mac_bits(mf, n, &kept, message)
 }
 
 // Whether a tag of ms bits matches a set under a key: 1 where it does. `first` is 1 for tag0, whose message has no PRN_N.
 #[no_mangle]
 pub extern "C" fn leaf_tag_matches(
+    mf: u8,
     ms: u64,
     key: &[u8],
     first: u32,
@@ -36,8 +38,8 @@ pub extern "C" fn leaf_tag_matches(
     bits: u64,
     set: &[u8],
 ) -> u32
-    requires { ⌜ ((ms ≤ 40) × (length (now set) ≡ 69)) × (length (now key) < 2 ^ 61) ⌝ }
-    ensures { λ r. ⌜ r ≡ cond (eqb (macBits ms (now (key .entry)) (cond (eqb first 1) (firstMessage (tagOf sender prn 0 1 position time status bits) (now (set .entry))) (tagMessage (tagOf sender prn 0 1 position time status bits) (now (set .entry))))) bits) 1 0 ⌝ }
+    requires { ⌜ ((ms ≤ 40) × (length (now set) ≡ 69)) × (length (now key) ≤ 32) ⌝ }
+    ensures { λ r. ⌜ r ≡ cond (eqb (macBits mf ms (now (key .entry)) (cond (eqb first 1) (firstMessage (tagOf sender prn 0 1 position time status bits) (now (set .entry))) (tagMessage (tagOf sender prn 0 1 position time status bits) (now (set .entry))))) bits) 1 0 ⌝ }
 {
     let t = Tag {
         sender: sender,
@@ -49,14 +51,16 @@ pub extern "C" fn leaf_tag_matches(
         status: status,
         bits: bits,
     };
-    let kept = hmac::hmac_key(key);
-    bools::number(tag_codes::tag_matches(ms, kept, first == 1, t, set))
+    let mut kept = [0u8; 273];
+    mac::keep(mf, key, &mut kept);
+    bools::number(tag_codes::tag_matches(mf, ms, &kept, first == 1, t, set))
 }
 
 // Whether MACSEQ fits under a key: 1 where it does. The message has no status in it.
 #[no_mangle]
 pub extern "C" fn leaf_macseq_fits(
     config: &[u8],
+    mf: u8,
     nmack: u64,
     ms: u64,
     fields: u64,
@@ -65,19 +69,21 @@ pub extern "C" fn leaf_macseq_fits(
     mack: &[u8],
     key: &[u8],
 ) -> u32
-    requires { ⌜ Laid (laidOut nmack ms fields) × ((length (now config) ≡ configLength) × (length (now mack) ≡ 60)) ⌝ }
-    requires { ⌜ length (now key) < 2 ^ 61 ⌝ }
-    ensures { λ r. ⌜ ((status : ℕ) → r ≡ cond (eqb (macBits 12 (now (key .entry)) (macseqMessage (now (config .entry)) (laidOut nmack ms fields) (section prn time status (now (mack .entry))) (nmack * fields))) (macseqOf (laidOut nmack ms fields) (now (mack .entry)))) 1 0) ⌝ }
+    requires { ⌜ Laid (codedBy mf nmack ms fields) × ((length (now config) ≡ configLength) × (length (now mack) ≡ 60)) ⌝ }
+    requires { ⌜ length (now key) ≤ 32 ⌝ }
+    ensures { λ r. ⌜ ((status : ℕ) → r ≡ cond (eqb (macBits mf 12 (now (key .entry)) (macseqMessage (now (config .entry)) (codedBy mf nmack ms fields) (section prn time status (now (mack .entry))) (nmack * fields))) (macseqOf (codedBy mf nmack ms fields) (now (mack .entry)))) 1 0) ⌝ }
 {
     let c = Chain {
         ns: 0,
         nmack: nmack,
         root: 0,
         alpha: [0, 0, 0, 0, 0, 0],
+        mf: mf,
         width: 0,
         ms: ms,
         fields: fields,
     };
-    let kept = hmac::hmac_key(key);
-    bools::number(tag_codes::macseq_fits(config, c, prn, time, mack, kept))
+    let mut kept = [0u8; 273];
+    mac::keep(mf, key, &mut kept);
+    bools::number(tag_codes::macseq_fits(config, c, prn, time, mack, &kept))
 }

@@ -70,6 +70,7 @@ pub extern "C" fn leaf_is_due(
         nmack: nmack,
         root: root,
         alpha: [0, 0, 0, 0, 0, 0],
+        mf: 0,
         width: 0,
         ms: 0,
         fields: 0,
