@@ -220,7 +220,7 @@ fn doubled(block: State) -> State {
         block[0] << 1 | carry(0),
         block[1] << 1 | carry(1),
         block[2] << 1 | carry(2),
-        block[3] << 1 ^ carry(3) * 0x87,
+        (block[3] << 1) ^ (carry(3) * 0x87),
     ]
 }
 
