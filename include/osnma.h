@@ -100,7 +100,8 @@ enum osnma_answer {
     OSNMA_BLOCK_UNFIT = 6,
     /* Sub-frame: a DSM-KROOT under a public key that is not held. */
     OSNMA_KEY_NOT_HELD = 7,
-    /* Sub-frame: a DSM-KROOT with parameters that are not taken. */
+    /* Sub-frame: a DSM-KROOT with parameters that are not taken. The MAC function may be HMAC-SHA-256 with
+       every key size, or CMAC-AES with keys of 128, 192 or 256 bits. */
     OSNMA_PARAMETERS_UNFIT = 8,
     /* Verdict: a root that is not newer. Sub-frame: a public key with an ID not above all held. */
     OSNMA_NOT_NEWER = 9,

@@ -6,6 +6,7 @@
 use leaves::tag_codes::tag_matches;
 use leaves::tags::Tag;
 use portable_hash::HmacKey;
+use second_receiver::mac::MacKey;
 use second_receiver::navdata::NavSet;
 use second_receiver::tags;
 use second_receiver::times::Gst;
@@ -47,7 +48,7 @@ fn right() -> u64 {
 fn judged(who: &str, bits: u64) -> Option<bool> {
     match who {
         "proved" => tag_matches(40, &KEY, false, &Tag { bits, ..TAG }, &SET),
-        "second" => Some(theirs(bits).matches(&NavSet(SET), &HmacKey::new(&KEY), 40)),
+        "second" => Some(theirs(bits).matches(&NavSet(SET), &MacKey::new(0, &KEY)?, 40)),
         _ => None,
     }
 }

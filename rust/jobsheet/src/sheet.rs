@@ -313,9 +313,9 @@ fn tags_told(run: &Run) -> String {
 
 fn chain_told(root: &Root) -> [(&'static str, String); 3] {
     let chain = &root.chain;
-    let name = |code, name: &str| match code {
-        0 => name.to_string(),
-        code => format!("function {code}"),
+    let name = |code: u8, names: &[&str]| match names.get(usize::from(code)) {
+        Some(name) => name.to_string(),
+        None => format!("function {code}"),
     };
     let alpha: String = chain
         .alpha
@@ -329,8 +329,8 @@ fn chain_told(root: &Root) -> [(&'static str, String); 3] {
             format!(
                 "CID {}, {}, {}, keys of {} bits, tags of {} bits, {} a section, α {alpha}",
                 chain.cid,
-                name(chain.hf, "SHA-256"),
-                name(chain.mf, "HMAC-SHA-256"),
+                name(chain.hf, &["SHA-256"]),
+                name(chain.mf, &["HMAC-SHA-256", "CMAC-AES"]),
                 chain.key_bits,
                 chain.tag_bits,
                 count(usize::from(chain.nmack), "block"),

@@ -21,7 +21,7 @@ pub struct Chain {
     pub nmack: u8,
     /// The hash function's code; only 0, SHA-256, is taken.
     pub hf: u8,
-    /// The MAC function's code; only 0, HMAC-SHA-256, is taken.
+    /// The MAC function's code: 0, HMAC-SHA-256, or 1, CMAC-AES; others are not taken.
     pub mf: u8,
     /// Bits of a key.
     pub key_bits: u16,

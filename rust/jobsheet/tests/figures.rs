@@ -279,7 +279,7 @@ fn chain_in_force() {
             let bits = (usize::from(chain.key_bits), usize::from(chain.tag_bits));
             let start = (root.week, root.hour, root.start());
             (
-                chain.cid,
+                (chain.cid, chain.mf),
                 chain.nmack,
                 bits,
                 chain.alpha,
@@ -292,7 +292,7 @@ fn chain_in_force() {
             let bits = (p.key_bits().unwrap(), p.tag_bits().unwrap());
             let start = (chain.time.week, chain.time.hour, chain.slots.start);
             let key = chain.contents[12..12 + bits.0 / 8].to_vec();
-            (p.cid, p.nmack, bits, p.alpha, start, key)
+            ((p.cid, p.mf), p.nmack, bits, p.alpha, start, key)
         });
         assert_eq!(mine, other, "{name}");
         let (page, text) = run_page(name, &all, all.runs.len() - 1);
@@ -301,8 +301,9 @@ fn chain_in_force() {
             .map_or("none in force at the end".into(), |chain| {
                 let p = &chain.parameters;
                 let bits = (p.key_bits().unwrap(), p.tag_bits().unwrap());
+                let function = ["HMAC-SHA-256", "CMAC-AES"][usize::from(p.mf)];
                 format!(
-                    "CID {}, SHA-256, HMAC-SHA-256, keys of {} bits, tags of {} bits",
+                    "CID {}, SHA-256, {function}, keys of {} bits, tags of {} bits",
                     p.cid, bits.0, bits.1
                 )
             });
@@ -324,6 +325,7 @@ fn tags_that_stay() {
         "floating_root",
         "chain_renewal",
         "chain_revoked",
+        "mf_changes",
     ] {
         let bytes = recording(name);
         for (place, record) in bytes.chunks_exact(RECORD_LEN).enumerate() {

@@ -4,7 +4,7 @@ mod case;
 
 use case::{any_case, any_tag, any_time, layouts, of_leaf, region, with_macseq};
 use leaves::tag_codes::tag_matches;
-use portable_hash::HmacKey;
+use second_receiver::mac::MacKey;
 use second_receiver::navdata::NavSet;
 use second_receiver::tags;
 use second_receiver::times::Gst;
@@ -31,7 +31,7 @@ fn macseq_fits_alike() {
         let marks = case.marks.at(time);
         let right = case
             .proved(&section)
-            .macseq_holds(marks, &HmacKey::new(&key));
+            .macseq_holds(marks, &MacKey::new(0, &key).unwrap());
         let config = region(&mut rng, 36, &case.marks);
         let ours = case.of_leaf(&mut rng);
         let given = of_leaf(&layout).macseq_fits(&config, &ours, &key);
@@ -63,9 +63,8 @@ fn tags_match_as_the_second_receiver_says() {
             status: tag.status,
             bits,
         };
-        let kept = HmacKey::new(&key);
-        let mac = kept.mac(&theirs(0).message(&NavSet(set)));
-        let right = mac[..5].iter().fold(0u64, |n, b| n << 8 | u64::from(*b)) >> (40 - ms);
+        let kept = MacKey::new(0, &key).unwrap();
+        let right = kept.code(&theirs(0).message(&NavSet(set)), ms as usize);
         for bits in [right, right ^ 1 << rng.below(ms)] {
             tag.bits = bits;
             let want = theirs(bits).matches(&NavSet(set), &kept, ms as usize);

@@ -22,7 +22,8 @@ pub enum Refusal {
     BlockUnfit,
     /// 7: a DSM-KROOT under a public key that is not held.
     KeyNotHeld,
-    /// 8: a DSM-KROOT with parameters that are not taken.
+    /// 8: a DSM-KROOT with parameters that are not taken. The MAC function may be HMAC-SHA-256 with
+    /// every key size, or CMAC-AES with keys of 128, 192 or 256 bits.
     ParametersUnfit,
     /// 9: a root that is not later than the last put in force; a public key whose ID is not above
     /// all held.

@@ -15,6 +15,7 @@ use second_receiver::chain::{Chain, TeslaKey};
 use second_receiver::mack::Layout;
 use second_receiver::Receiver;
 use signal::rng::Rng;
+use signal::scenario::MacFunctions;
 use signal::subframe;
 use signal::time::Gst;
 use std::collections::BTreeMap;
@@ -291,7 +292,8 @@ fn any_contents() {
         let rules = Rules::load(&crates, Hashes::Portable).unwrap_or_else(|e| panic!("{e}"));
         let mut rng = Rng::new(11);
         let tree = draw::tree(&mut rng);
-        let states = driver::states(11, 2).unwrap_or_else(|error| panic!("{error}"));
+        let states =
+            driver::states(11, 2, MacFunctions::Both).unwrap_or_else(|error| panic!("{error}"));
         let mut answers: BTreeMap<(Kind, [u64; 2]), u64> = BTreeMap::new();
         for at in 0..CALLS {
             let mut regions = match rng.below(8) {

@@ -11,7 +11,7 @@ use common::{draw, driver};
 use osnma::regions::Regions;
 use osnma::{Core, Gst, Refusal};
 use signal::rng::Rng;
-use signal::scenario;
+use signal::scenario::{self, MacFunctions};
 
 /// Runs of long key walks, which take seconds.
 const LONG: [&str; 4] = ["sections", "gaps", "held_key", "gap_full"];
@@ -62,7 +62,8 @@ fn long_named_runs() {
 // Calls drawn at random, from a fixed seed; every answer that a call can give comes.
 #[test]
 fn random_calls() {
-    let mut driver = Driver::new(1, 12).unwrap_or_else(|error| panic!("{error}"));
+    let mut driver =
+        Driver::new(1, 12, MacFunctions::Both).unwrap_or_else(|error| panic!("{error}"));
     let result = driver.run(CALLS);
     println!("{} states, {}", driver.states(), driver.tally);
     assert_eq!(result, Ok(()));
@@ -77,7 +78,7 @@ fn random_calls() {
 fn wrong_lengths() {
     let mut rng = Rng::new(3);
     let tree = draw::tree(&mut rng);
-    let states = driver::states(3, 0).unwrap_or_else(|error| panic!("{error}"));
+    let states = driver::states(3, 0, MacFunctions::Both).unwrap_or_else(|error| panic!("{error}"));
     for round in 0..40 {
         let twin = rng.pick(&states).twin.clone();
         let receiver = &twin.receiver;
@@ -154,7 +155,7 @@ fn before_a_start() {
 #[test]
 fn one_bit_changed_is_seen() {
     let mut rng = Rng::new(6);
-    let states = driver::states(6, 0).unwrap_or_else(|error| panic!("{error}"));
+    let states = driver::states(6, 0, MacFunctions::Both).unwrap_or_else(|error| panic!("{error}"));
     for state in &states {
         let mut twin = state.twin.clone();
         assert_eq!(twin.compare(), Ok(()));
@@ -197,7 +198,7 @@ fn one_bit_changed_is_seen() {
 #[test]
 fn a_call_does_not_hide_a_change() {
     let mut rng = Rng::new(7);
-    let states = driver::states(7, 0).unwrap_or_else(|error| panic!("{error}"));
+    let states = driver::states(7, 0, MacFunctions::Both).unwrap_or_else(|error| panic!("{error}"));
     for state in &states {
         let mut twin = state.twin.clone();
         let place = rng.below(21504) as usize;

@@ -2,6 +2,7 @@
 
 use crate::program::{Expr, Native, Pattern, Primitive, Program};
 use crate::value::{Closure, Delayed, List, Record, Value};
+use portable_aes::cmac;
 use portable_hash::{hmac_sha256, sha256};
 use std::cell::RefCell;
 use std::rc::Rc;
@@ -40,6 +41,18 @@ fn bytes(list: &List) -> Option<Vec<u8>> {
         .iter()
         .map(|&number| u8::try_from(number).ok())
         .collect()
+}
+
+/// The bytes of an AES key that count (crates/aes/specs/Aes.antt, keyBytes): the first 16, 24 or 32, and zeros after a
+/// key that is shorter than all.
+fn aes_key(mut key: Vec<u8>) -> Vec<u8> {
+    let len = match key.len() {
+        0..24 => 16,
+        24..32 => 24,
+        _ => 32,
+    };
+    key.resize(len, 0);
+    key
 }
 
 fn of_bytes(bytes: &[u8]) -> Value {
@@ -229,6 +242,10 @@ impl<'p> Machine<'p> {
                 let key = argument(0)?;
                 Some(of_bytes(&hmac_sha256(&key, &argument(1)?)))
             }
+            Native::Cmac => {
+                let key = aes_key(argument(0)?);
+                cmac(&key, &argument(1)?).map(|code| of_bytes(&code))
+            }
         }
     }
 
@@ -317,6 +334,12 @@ impl<'p> Machine<'p> {
                     self.slots.push(value);
                 }
                 self.enter(*function, top)
+            }
+            Expr::Apply(function, arguments) => {
+                let function = self.function(function, base);
+                let values = arguments.iter().map(|argument| self.eval(argument, base));
+                let values = values.collect();
+                self.apply(&function, values)
             }
             Expr::Primitive(primitive, arguments) => self.primitive(*primitive, arguments, base),
             Expr::List(elements, rest) => {
@@ -423,23 +446,28 @@ impl<'p> Machine<'p> {
                 Value::List(left.append(&right))
             }
             Map => {
-                let Value::Function(function) = self.eval(at(0), base) else {
-                    panic!("what is mapped is no function");
-                };
+                let function = self.function(at(0), base);
                 let list = self.list(at(1), base);
                 let values = list.values().into_iter();
-                let values = values.map(|value| self.apply(&function, value));
+                let values = values.map(|value| self.apply(&function, vec![value]));
                 Value::List(List::of_values(values))
             }
         }
     }
 
-    fn apply(&mut self, function: &Closure, value: Value) -> Value {
+    fn function(&mut self, expr: &'p Expr, base: usize) -> Rc<Closure> {
+        match self.eval(expr, base) {
+            Value::Function(function) => function,
+            value => panic!("{value:?} is no function"),
+        }
+    }
+
+    fn apply(&mut self, function: &Closure, arguments: Vec<Value>) -> Value {
         let delay = &self.program.delays[function.code];
-        assert_eq!(delay.parameters, 1);
+        assert_eq!(delay.parameters, arguments.len());
         let base = self.slots.len();
         self.slots.extend(function.captured.iter().cloned());
-        self.slots.push(value);
+        self.slots.extend(arguments);
         self.slots.resize(base + delay.frame, Value::Number(0));
         self.body(&delay.body, base)
     }

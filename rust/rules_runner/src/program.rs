@@ -44,6 +44,7 @@ pub enum Primitive {
 pub enum Native {
     Sha256,
     Hmac,
+    Cmac,
 }
 
 #[derive(Debug)]
@@ -69,6 +70,8 @@ pub enum Expr {
     And(Box<Expr>, Box<Expr>),
     Or(Box<Expr>, Box<Expr>),
     Call(usize, Vec<Expr>),
+    /// A variable that is a function, and all its arguments.
+    Apply(Box<Expr>, Vec<Expr>),
     Primitive(Primitive, Vec<Expr>),
     /// Elements, then a list.
     List(Vec<Expr>, Option<Box<Expr>>),
@@ -482,14 +485,11 @@ impl Frame<'_> {
     fn name(&mut self, line: usize, path: &[String], arguments: Vec<Expr>) -> Result<Expr> {
         let first = &path[0];
         if let Some(slot) = self.variable(first) {
-            if !arguments.is_empty() {
-                return fail(
-                    self.file,
-                    line,
-                    format!("the variable '{first}' is applied"),
-                );
-            }
-            return Ok(self.projected(Expr::Slot(slot), &path[1..]));
+            let value = self.projected(Expr::Slot(slot), &path[1..]);
+            return Ok(match arguments.is_empty() {
+                true => value,
+                false => Expr::Apply(Box::new(value), arguments),
+            });
         }
         if path.len() == 1 || self.scope.contains_key(first) {
             let meaning = self.known(line, first)?;
@@ -510,8 +510,35 @@ impl Frame<'_> {
         })
     }
 
+    /// A definition with fewer arguments than it takes: a function of the others.
+    fn partly_applied(&mut self, at: usize, arity: usize, given: Vec<Expr>) -> Expr {
+        let mut bound = Vec::new();
+        let mut arguments = Vec::new();
+        for argument in given {
+            arguments.push(match argument {
+                Expr::Slot(slot) => Expr::Slot(slot),
+                // Computed once, however often the function is applied.
+                argument => {
+                    bound.push((self.size, argument));
+                    self.size += 1;
+                    Expr::Slot(self.size - 1)
+                }
+            });
+        }
+        let parameters: Vec<usize> = (self.size..self.size + arity - arguments.len()).collect();
+        self.size += parameters.len();
+        arguments.extend(parameters.iter().map(|&slot| Expr::Slot(slot)));
+        let function = Expr::Lambda(parameters, Box::new(Expr::Call(at, arguments)));
+        bound
+            .into_iter()
+            .rev()
+            .fold(function, |body, (slot, value)| {
+                Expr::Let(slot, Box::new(value), Box::new(body))
+            })
+    }
+
     fn applied(
-        &self,
+        &mut self,
         line: usize,
         name: &str,
         meaning: Meaning,
@@ -525,6 +552,11 @@ impl Frame<'_> {
             Meaning::Cond => 3,
             Meaning::Type => return fail(self.file, line, format!("'{name}' is a type")),
         };
+        if let Meaning::Function(at) = meaning {
+            if arguments.len() < arity {
+                return Ok(self.partly_applied(at, arity, arguments));
+            }
+        }
         if arguments.len() != arity {
             let text = format!("'{name}' takes {arity} arguments, not {}", arguments.len());
             return fail(self.file, line, text);
@@ -555,12 +587,12 @@ impl Frame<'_> {
     }
 }
 
-/// How the definitions of the hashes are run.
+/// How the definitions of the hash and of the MAC functions are run.
 #[derive(Clone, Copy, PartialEq, Eq)]
 pub enum Hashes {
     /// As they are defined.
     Defined,
-    /// By `portable_hash`, for speed.
+    /// By `portable_hash` and `portable_aes`, for speed.
     Portable,
 }
 
@@ -591,6 +623,7 @@ impl Program {
             function.native = match (hashes, function.name.as_str()) {
                 (Hashes::Portable, "sha256.Sha256.sha256") => Some(Native::Sha256),
                 (Hashes::Portable, "hmac.Hmac.hmac") => Some(Native::Hmac),
+                (Hashes::Portable, "cmac.Cmac.cmac") => Some(Native::Cmac),
                 _ => None,
             };
         }

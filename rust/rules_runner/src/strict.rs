@@ -44,7 +44,7 @@ fn asked(expr: &Expr, functions: &[Function]) -> BTreeSet<usize> {
             }
             slots
         }
-        Expr::Project(record, _) => asked(record, functions),
+        Expr::Project(part, _) | Expr::Apply(part, _) => asked(part, functions),
         _ => BTreeSet::new(),
     }
 }
@@ -102,6 +102,10 @@ fn each(expr: &Expr, visit: &mut dyn FnMut(&Expr)) {
             parts.iter().for_each(&mut *visit);
             rest.iter().for_each(|rest| visit(rest));
         }
+        Expr::Apply(function, parts) => {
+            visit(function);
+            parts.iter().for_each(visit);
+        }
         Expr::Project(part, _) | Expr::Lambda(_, part) => visit(part),
         _ => {}
     }
@@ -149,6 +153,10 @@ fn each_mut(expr: &mut Expr, visit: &mut dyn FnMut(&mut Expr)) {
         Expr::List(parts, rest) => {
             parts.iter_mut().for_each(&mut *visit);
             rest.iter_mut().for_each(|rest| visit(rest));
+        }
+        Expr::Apply(function, parts) => {
+            visit(function);
+            parts.iter_mut().for_each(visit);
         }
         Expr::Project(part, _) | Expr::Lambda(_, part) => visit(part),
         _ => {}

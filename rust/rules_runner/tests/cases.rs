@@ -10,7 +10,9 @@ use std::fs;
 use std::path::{Path, PathBuf};
 
 /// The recorded inputs that are run here.
-const RUN: [&str; 19] = [
+const RUN: [&str; 21] = [
+    "P1_cmac_nominal",
+    "P1_mf_changes",
     "a_empty",
     "a_example",
     "a_framing",

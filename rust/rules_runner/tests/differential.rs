@@ -12,7 +12,8 @@ use signal::scenario;
 use std::collections::HashSet;
 
 /// Named runs that take long here: by their length, or by long ways down the key chain.
-const LONG: [&str; 12] = [
+const LONG: [&str; 13] = [
+    "cmac_damaged",
     "every_ns",
     "field_bits",
     "fitter",

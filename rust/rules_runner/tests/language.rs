@@ -121,6 +121,30 @@ fn lists() {
     );
 }
 
+// A definition by its name or with some of its arguments is a function of the others, and a parameter can be one.
+#[test]
+fn functions_are_values() {
+    let text = "weigh : ℕ → ℕ → ℕ → ℕ
+weigh a b c = a * 100 + b * 10 + c
+
+twice : (ℕ → ℕ) → ℕ → ℕ
+twice f zero = f 0
+twice f (suc n) = f (f n)
+
+fold : (ℕ → ℕ → ℕ) → List ℕ → ℕ
+fold f [] = 0
+fold f (x ∷ xs) = f x (fold f xs)
+
+double : ℕ → ℕ
+double n = n * 2
+
+all : ℕ → List ℕ
+all n = map double (n ∷ 5 ∷ [])
+    ++ (map (weigh 1 (n + 1)) (7 ∷ 8 ∷ []) ++ (twice (weigh 0 n) 2 ∷ fold (weigh n) (1 ∷ 2 ∷ []) ∷ []))
+";
+    assert_eq!(value("all", text, vec![3]), "6 10 147 148 61 630");
+}
+
 #[test]
 fn lists_are_shared() {
     let mut list = List::of_numbers(vec![1, 2]);
@@ -214,6 +238,11 @@ fn refused() {
         ),
         (1, "'g' is not known", "f : ℕ → ℕ\nf n = n + g\n"),
         (1, "takes 2 arguments, not 1", "f : ℕ → ℕ\nf n = leb n\n"),
+        (
+            3,
+            "takes 1 arguments, not 2",
+            "f : ℕ → ℕ\nf n = n\ng : ℕ\ng = f 1 2\n",
+        ),
         (0, "'f' has no clause", "f : ℕ → ℕ\n"),
         (0, "'f' has no signature", "f n = n\n"),
         (

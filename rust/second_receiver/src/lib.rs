@@ -1,8 +1,9 @@
 //! A second receiver of Galileo OSNMA (SIS testing specification v1.1), written from the papers
 //! alone.
 //!
-//! "01" in a comment is the scope document, "000" the OSNMA specification, "A<n>" an entry of the
-//! adopted readings. One module a topic, each rule in one place:
+//! "01" in a comment is the scope document, "02" the change requests, "000" the OSNMA
+//! specification, "A<n>" and "B<n>" entries of the adopted readings. One module a topic, each rule
+//! in one place:
 //!
 //! - `numbers`: the numbers that calls return;
 //! - `bits`: bit strings read from and written to bytes;
@@ -11,6 +12,7 @@
 //! - `gather`: DSM blocks gathered into whole messages;
 //! - `public_keys`: the public keys held;
 //! - `kroot`, `pkr`: the two kinds of DSM, read and judged;
+//! - `mac`: the MAC functions that a root can name;
 //! - `chain`: the TESLA chain in force and its key walk;
 //! - `verdict`: the message that waits and what a verdict on it does;
 //! - `mack`: the layout of a MACK section and the check of its keys;
@@ -24,6 +26,7 @@ pub mod bits;
 pub mod chain;
 pub mod gather;
 pub mod kroot;
+pub mod mac;
 pub mod mack;
 pub mod navdata;
 pub mod numbers;

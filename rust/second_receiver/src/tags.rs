@@ -1,12 +1,12 @@
 //! MACSEQ, the outcomes of tags, waiting tags, authentic sets and tag records (000, 5.5 and 5.6;
 //! 01, MACK).
 
-use crate::bits::{take, BitString};
+use crate::bits::BitString;
 use crate::chain::Chain;
+use crate::mac::MacKey;
 use crate::mack::{Field, Section};
 use crate::navdata::{NavSet, Words};
 use crate::times::{is_prn, Gst, Slots, SATELLITES, SUBFRAME_SECONDS};
-use portable_hash::HmacKey;
 use std::collections::BTreeMap;
 
 /// Places for waiting tags, over all satellites.
@@ -112,11 +112,11 @@ impl Tag {
     }
 
     /// Whether the tag is the first MS bits of the MAC.
-    pub fn matches(&self, set: &NavSet, key: &HmacKey, tag_bits: usize) -> bool {
-        self.bits == take(&key.mac(&self.message(set)), 0, tag_bits)
+    pub fn matches(&self, set: &NavSet, key: &MacKey, tag_bits: usize) -> bool {
+        self.bits == key.code(&self.message(set), tag_bits)
     }
 
-    fn judge(&self, set: &NavSet, key: &HmacKey, tag_bits: usize) -> Outcome {
+    fn judge(&self, set: &NavSet, key: &MacKey, tag_bits: usize) -> Outcome {
         if self.matches(set, key, tag_bits) {
             Outcome::Authentic
         } else {
@@ -244,9 +244,9 @@ impl ProvedSection<'_> {
     }
 
     /// MACSEQ is the first 12 bits of its message's MAC under the key of block 1's tags.
-    pub fn macseq_holds(&self, marks: &[u8; MARKS], key: &HmacKey) -> bool {
+    pub fn macseq_holds(&self, marks: &[u8; MARKS], key: &MacKey) -> bool {
         let macseq = u64::from(self.section.fields[0].info >> 4);
-        macseq == take(&key.mac(&self.macseq_message(marks)), 0, MACSEQ_BITS)
+        macseq == key.code(&self.macseq_message(marks), MACSEQ_BITS)
     }
 
     /// Judges the waiting tags that are due, in the order in which they came, then the section's
@@ -324,7 +324,7 @@ pub fn early_outcome(tag: &Tag, mark: u8, macseq_holds: bool) -> Option<Outcome>
 }
 
 /// The keys of the slots wanted, none above the held slot, from one walk down from the held key.
-fn tag_keys(chain: &Chain, mut wanted: Vec<u64>) -> BTreeMap<u64, HmacKey> {
+fn tag_keys(chain: &Chain, mut wanted: Vec<u64>) -> BTreeMap<u64, MacKey> {
     wanted.sort_unstable_by(|a, b| b.cmp(a));
     wanted.dedup();
     let (mut key, mut at) = (chain.held, chain.held_slot);
@@ -332,7 +332,8 @@ fn tag_keys(chain: &Chain, mut wanted: Vec<u64>) -> BTreeMap<u64, HmacKey> {
     for slot in wanted {
         key = chain.hash_down(&key, at, slot);
         at = slot;
-        keys.insert(slot, HmacKey::new(key.as_slice()));
+        let mac_key = MacKey::new(chain.parameters.mf, key.as_slice());
+        keys.insert(slot, mac_key.expect("row 8 took this MF and KS"));
     }
     keys
 }

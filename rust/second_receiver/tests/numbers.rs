@@ -659,7 +659,6 @@ fn number_8_parameters() {
             8,
             "HF {value}"
         );
-        assert_eq!(kroot_number(&start, |c| c[0] |= value), 8, "MF {value}");
         assert_eq!(
             kroot_number(&start, |c| c[3] |= value << 4),
             8,
@@ -713,6 +712,52 @@ fn number_8_parameters() {
     assert_eq!(kroot_number(&start, at(1, 0)), 0, "week 1 hour 0");
     assert_eq!(kroot_number(&start, at(0x100, 0)), 0, "week 256 hour 0");
     assert_eq!(kroot_number(&start, at(4095, 167)), 0);
+}
+
+// Every MF with every KS: HMAC-SHA-256 takes all sizes, CMAC-AES those of AES, 2 and 3 are
+// reserved.
+#[test]
+fn number_8_mac_functions() {
+    let keys = [96, 104, 112, 120, 128, 160, 192, 224, 256];
+    for mf in 0..4 {
+        for (ks, key) in (0..).zip(keys) {
+            let taken = mf == 0 || mf == 1 && matches!(key, 128 | 192 | 256);
+            for nmack in 1..=3 {
+                let chain = TestChain {
+                    mf,
+                    ..TestChain::with(4, nmack, (ks, key), (1, 12)).keyed(1)
+                };
+                let fits = 480 / usize::from(nmack) >= key + 12 + 16;
+                let mut bench = Bench::started(&Start::default());
+                let number = bench.dsm(5, T, HEADER, 4, &chain.dsm(3, &[9; 64]));
+                let expected = if taken && fits { 0 } else { 8 };
+                assert_eq!(number, expected, "MF {mf} KS {key} NMACK {nmack}");
+                let waits = bench.receiver.waiting_message().is_some();
+                assert_eq!(waits, number == 0, "MF {mf} KS {key}");
+            }
+            // HF and MO are judged with every MF; 8 goes before 6.
+            for change in [|c: &mut Vec<u8>| c[0] |= 4, |c: &mut Vec<u8>| c[3] |= 16] {
+                let mut contents = TestChain {
+                    mf,
+                    ..TestChain::with(4, 1, (ks, key), (1, 12)).keyed(1)
+                }
+                .contents();
+                change(&mut contents);
+                let mut dsm = dsm_kroot(3, &contents, &[9; 64]);
+                dsm[0] += 0x10;
+                dsm.resize(dsm.len() + 13, 0);
+                let number = Bench::started(&Start::default()).dsm(5, T, HEADER, 4, &dsm);
+                assert_eq!(number, 8, "MF {mf} KS {key}");
+            }
+        }
+        for code in 9..16 {
+            let number = kroot_number(&Start::default(), |c| {
+                c[0] |= mf;
+                c[1] = c[1] & 15 | code << 4;
+            });
+            assert_eq!(number, 8, "MF {mf} KS code {code}");
+        }
+    }
 }
 
 // A block shorter than KS + MS + 16, for every NMACK, KS and MS.

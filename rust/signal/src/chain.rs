@@ -6,6 +6,8 @@ use std::sync::Arc;
 
 /// Key bits for KS codes 0 to 8 (000, table 12).
 pub const KEY_BITS: [usize; 9] = [96, 104, 112, 120, 128, 160, 192, 224, 256];
+/// KS codes of the key sizes that CMAC-AES takes: 128, 192 and 256 bits (02, P1).
+pub const AES_KEYS: [u8; 3] = [4, 6, 8];
 /// Tag bits for MS codes 0 to 9 (000, table 13).
 pub const TAG_BITS: [usize; 10] = [10, 12, 14, 16, 18, 20, 24, 28, 32, 40];
 
@@ -22,7 +24,7 @@ pub struct Params {
     pub nmack: u8,
     /// Hash function; 0 is SHA-256.
     pub hf: u8,
-    /// MAC function; 0 is HMAC-SHA-256.
+    /// MAC function; 0 is HMAC-SHA-256, 1 CMAC-AES.
     pub mf: u8,
     /// Code of the key size.
     pub ks: u8,
@@ -53,6 +55,16 @@ impl Params {
             mo: 0,
             alpha,
         }
+    }
+
+    /// The same with CMAC-AES for tags and MACSEQ.
+    pub fn with_cmac(self) -> Self {
+        Params { mf: 1, ..self }
+    }
+
+    /// Whether it names CMAC-AES with a key size that this takes.
+    pub fn is_cmac(&self) -> bool {
+        self.mf == 1 && AES_KEYS.contains(&self.ks)
     }
 
     /// KS in bits; 0 for a reserved code.

@@ -5,6 +5,7 @@ use crate::chain::{Chain, Params};
 use crate::navdata::Authenticated;
 use crate::subframe::Mack;
 use crate::time::Gst;
+use portable_aes::CmacKey;
 use portable_hash::HmacKey;
 use std::ops::Range;
 
@@ -167,6 +168,28 @@ pub fn macseq_message(sender: u8, gst: Gst, flexible: impl Iterator<Item = Info>
     message
 }
 
+/// A key under the MAC function that its chain names (000, table 11; 02, P1). Where that function does not take the
+/// key, or is reserved, HMAC-SHA-256 stands in: a receiver refuses such a root.
+enum MacKey {
+    Hmac(HmacKey),
+    Cmac(CmacKey),
+}
+
+impl MacKey {
+    fn new(params: &Params, key: &[u8]) -> Self {
+        let cmac = params.is_cmac().then(|| CmacKey::new(key)).flatten();
+        cmac.map_or_else(|| MacKey::Hmac(HmacKey::new(key)), MacKey::Cmac)
+    }
+
+    /// The code of a message: 32 or 16 bytes.
+    fn mac(&self, message: &[u8]) -> Vec<u8> {
+        match self {
+            MacKey::Hmac(key) => key.mac(message).to_vec(),
+            MacKey::Cmac(key) => key.mac(message).to_vec(),
+        }
+    }
+}
+
 /// What a satellite sends in one sub-frame.
 #[derive(Clone, Copy)]
 pub struct Sending<'a> {
@@ -252,17 +275,18 @@ impl Sending<'_> {
 /// The keys of a section's tags, each computed once.
 struct TagKeys<'a> {
     chain: &'a Chain,
-    known: Vec<(u64, HmacKey)>,
+    known: Vec<(u64, MacKey)>,
 }
 
 impl TagKeys<'_> {
-    fn get(&mut self, slot: u64) -> &HmacKey {
+    fn get(&mut self, slot: u64) -> &MacKey {
         let at = self
             .known
             .iter()
             .position(|k| k.0 == slot)
             .unwrap_or_else(|| {
-                self.known.push((slot, HmacKey::new(&self.chain.key(slot))));
+                let key = MacKey::new(&self.chain.params, &self.chain.key(slot));
+                self.known.push((slot, key));
                 self.known.len() - 1
             });
         &self.known[at].1
@@ -382,6 +406,38 @@ mod tests {
         assert_eq!(bits::get(&section, layout.prn(1).start, 16), 0xFF40);
         assert_eq!(section[14..30], chain.key(90)[..]);
         assert_eq!(section[44..60], chain.key(126)[..]);
+    }
+
+    // With MF 1 the tag and MACSEQ are the first bits of the CMAC codes of the same messages, under the same keys.
+    #[test]
+    fn cmac_section() {
+        let hmac = annex_chain();
+        let mut chain = hmac.clone();
+        chain.params = hmac.params.with_cmac();
+        let (gst, set) = (Gst::new(947, 432_030), e18().authenticated());
+        let (marks, infos) = ([0; 14], [Info::new(0, 0, 0), Info::new(18, 0, 0)]);
+        let sections = [&hmac, &chain].map(|chain| {
+            let sending = Sending {
+                chain,
+                sender: 18,
+                gst,
+                status: 2,
+                marks: &marks,
+                infos: &infos,
+            };
+            sending.section(|prn| (prn == 18).then_some(set))
+        });
+        let layout = Layout::new(&chain.params).unwrap();
+        let code = |message: &[u8]| portable_aes::cmac(&chain.key(73), message).unwrap();
+        let bits_at = |range: Range<usize>| bits::get(&sections[1], range.start, range.len());
+        let tag0 = tag_message(None, 18, gst, 1, 2, &set);
+        assert_eq!(bits_at(layout.tag(0)), bits::get(&code(&tag0), 0, 12));
+        let tag1 = tag_message(Some(18), 18, gst, 2, 2, &set);
+        assert_eq!(bits_at(layout.tag(1)), bits::get(&code(&tag1), 0, 12));
+        let macseq = macseq_message(18, gst, [].into_iter());
+        assert_eq!(bits_at(layout.macseq()), bits::get(&code(&macseq), 0, 12));
+        assert_ne!(sections[0][..14], sections[1][..14]);
+        assert_eq!(sections[0][14..30], sections[1][14..30], "the same keys");
     }
 
     // 01, Known points.

@@ -4,8 +4,8 @@
 
 use leaves::mack::{self as leaf, Layout};
 use leaves::tags::{Config, Tag};
-use portable_hash::HmacKey;
-use second_receiver::bits::{take, BitString};
+use second_receiver::bits::BitString;
+use second_receiver::mac::MacKey;
 use second_receiver::mack::{self, Field, Section};
 use second_receiver::tags::{self, Marks, ProvedSection, FLEXIBLE};
 use second_receiver::times::Gst;
@@ -109,7 +109,7 @@ pub fn with_macseq(rng: &mut Rng, case: &mut Case, key: &[u8]) {
     let section = case.section();
     let proved = case.proved(&section);
     let message = proved.macseq_message(case.marks.at(case.time));
-    let mut macseq = take(&HmacKey::new(key).mac(&message), 0, 12) as u16;
+    let mut macseq = MacKey::new(0, key).unwrap().code(&message, 12) as u16;
     if rng.once_in(4) {
         macseq ^= 1 << rng.below(12);
     }

@@ -5,9 +5,10 @@ use osnma::{Settings, FLEXIBLE};
 use second_receiver::kroot::ChainParameters;
 use second_receiver::verdict::filled;
 use second_receiver::Receiver;
-use signal::chain::{KEY_BITS, TAG_BITS};
+use signal::chain::{AES_KEYS, KEY_BITS, TAG_BITS};
 use signal::dsm::{self, Tree};
 use signal::rng::Rng;
+use signal::scenario::MacFunctions;
 use signal::subframe;
 use signal::time::Gst;
 
@@ -169,8 +170,13 @@ struct Root {
     root: Vec<u8>,
 }
 
+/// Whether a chain of this key size may name CMAC-AES here.
+fn can_be_cmac(functions: MacFunctions, ks: u8) -> bool {
+    functions == MacFunctions::Both && AES_KEYS.contains(&ks)
+}
+
 /// Parameters that pass the checks of a DSM-KROOT.
-fn parameters(rng: &mut Rng, maclt: u8) -> ChainParameters {
+fn parameters(rng: &mut Rng, maclt: u8, functions: MacFunctions) -> ChainParameters {
     loop {
         let (nmack, ks, ms) = (rng.range(1, 3), rng.below(9), rng.below(10));
         if 480 / nmack as usize >= KEY_BITS[ks as usize] + TAG_BITS[ms as usize] + 16 {
@@ -178,7 +184,7 @@ fn parameters(rng: &mut Rng, maclt: u8) -> ChainParameters {
                 cid: rng.below(4) as u8,
                 nmack: nmack as u8,
                 hf: 0,
-                mf: 0,
+                mf: u8::from(can_be_cmac(functions, ks as u8) && rng.once_in(2)),
                 ks_code: ks as u8,
                 ms_code: ms as u8,
                 maclt,
@@ -190,13 +196,13 @@ fn parameters(rng: &mut Rng, maclt: u8) -> ChainParameters {
 }
 
 impl Root {
-    fn draw(rng: &mut Rng, receiver: &Receiver) -> Root {
+    fn draw(rng: &mut Rng, receiver: &Receiver, functions: MacFunctions) -> Root {
         let maclt = receiver.setup().map_or(0, |setup| setup.maclt);
         let now = receiver.last_subframe().map_or(Gst(0), |time| Gst(time.0));
         let hour = now.seconds() / 3600;
         let mut root = Root {
             header: 0,
-            parameters: parameters(rng, maclt),
+            parameters: parameters(rng, maclt, functions),
             rsvd: rng.below(4) as u8,
             week: 0,
             hour: 0,
@@ -220,6 +226,7 @@ impl Root {
                     let at = rng.below(root.root.len() as u64) as usize;
                     root.root[at] ^= 1 << rng.below(8);
                 }
+                4 if can_be_cmac(functions, root.parameters.ks_code) => root.parameters.mf ^= 1,
                 _ => {}
             }
         }
@@ -303,8 +310,8 @@ fn blocks(rng: &mut Rng, header: u8, id: u8, message: &[u8], time: u32) -> Vec<C
 }
 
 /// A DSM-KROOT under a held key, or one of which a bit is turned over; the last block first.
-pub fn root_message(rng: &mut Rng, receiver: &Receiver) -> Vec<Call> {
-    let root = Root::draw(rng, receiver);
+pub fn root_message(rng: &mut Rng, receiver: &Receiver, functions: MacFunctions) -> Vec<Call> {
+    let root = Root::draw(rng, receiver, functions);
     let key = rng.pick(receiver.public_keys()).clone();
     let signature = rng.bytes(dsm::SIGNATURE_LEN[usize::from(key.key_type)]);
     let mut message = root.dsm(key.id, &signature);

@@ -4,10 +4,11 @@ use super::draw;
 use super::loose::{parts, refused, REGIONS, WRONG};
 use super::twin::{Answer, Call, Kind, Twin};
 use second_receiver::Receiver;
+use signal::chain::AES_KEYS;
 use signal::dsm::Tree;
 use signal::replay::RECORD;
 use signal::rng::Rng;
-use signal::scenario;
+use signal::scenario::{self, MacFunctions};
 use std::collections::{BTreeMap, BTreeSet};
 use std::fmt;
 use std::rc::Rc;
@@ -26,8 +27,10 @@ const ANSWERS: [(Kind, &[u32]); 6] = [
 const MACK: &[u32] = &[0, 1, 2, 3, 4, 5, 11, 12, 13];
 
 /// What good verdicts and sub-frames did, and what calls met.
-const EVENTS: [&str; 14] = [
+const EVENTS: [&str; 16] = [
     "first root",
+    "root with CMAC-AES",
+    "later root with another MAC function",
     "later root, no tag waited",
     "later root, all tags stay",
     "later root, some tags stay",
@@ -166,6 +169,24 @@ fn gst(record: &[u8]) -> u32 {
         .fold(0, |time, &byte| time << 8 | u32::from(byte))
 }
 
+/// The authentication fields without CMAC-AES: where they bring block 0 of a root that names it with a key size that it
+/// takes, that root names the reserved MF 3. A core from before CMAC-AES refuses both.
+pub fn without_cmac(fields: &mut [u8]) {
+    let (id, block, mf) = (fields[5] >> 4, fields[5] & 15, fields[15] & 3);
+    if id < 12 && block == 0 && mf == 1 && AES_KEYS.contains(&(fields[20] >> 4)) {
+        fields[15] |= 3;
+    }
+}
+
+/// The same for all sub-frames of a replay input.
+pub fn input_without_cmac(input: &mut [u8]) {
+    for record in input.chunks_exact_mut(RECORD) {
+        if record[0] == 3 {
+            without_cmac(&mut record[6..81]);
+        }
+    }
+}
+
 /// Lends a replay input to both. `each` sees every state, with the number of records before it.
 pub fn replay(
     input: &[u8],
@@ -210,7 +231,9 @@ fn shape(receiver: &Receiver) -> [usize; 7] {
 }
 
 /// Scenarios whose states are begun at, beside random mixes.
-const SCENARIOS: [&str; 12] = [
+const SCENARIOS: [&str; 14] = [
+    "cmac_192",
+    "mf_changes",
     "nominal",
     "floating_root",
     "chain_renewal",
@@ -257,15 +280,18 @@ impl State {
 }
 
 /// States in the middle of scenarios, one or a few of each shape.
-pub fn states(seed: u64, mixes: u64) -> Result<Vec<State>, String> {
+pub fn states(seed: u64, mixes: u64, functions: MacFunctions) -> Result<Vec<State>, String> {
     let mut rng = Rng::new(seed);
     let named = SCENARIOS.iter().filter_map(|name| scenario::find(name));
     let runs = named
         .map(|scenario| scenario.run(scenario::SEED))
-        .chain((0..mixes).map(|mix| scenario::random(seed ^ mix << 32)));
+        .chain((0..mixes).map(|mix| scenario::random_with(seed ^ mix << 32, functions)));
     let mut states = Vec::new();
-    for run in runs {
+    for mut run in runs {
         let mut seen = BTreeSet::new();
+        if functions == MacFunctions::Hmac {
+            input_without_cmac(&mut run.bytes);
+        }
         let bytes = Rc::new(run.bytes);
         let keep = |twin: &Twin, next: usize, rng: &mut Rng| {
             let again = rng.once_in(200);
@@ -288,6 +314,7 @@ pub fn states(seed: u64, mixes: u64) -> Result<Vec<State>, String> {
 pub struct Driver {
     rng: Rng,
     tree: Tree,
+    functions: MacFunctions,
     states: Vec<State>,
     state: State,
     /// Calls until the next state is begun at.
@@ -298,11 +325,13 @@ pub struct Driver {
 }
 
 impl Driver {
-    pub fn new(seed: u64, mixes: u64) -> Result<Driver, String> {
+    /// With HMAC-SHA-256 alone no root names CMAC-AES, so that a core from before it answers the same.
+    pub fn new(seed: u64, mixes: u64, functions: MacFunctions) -> Result<Driver, String> {
         let mut rng = Rng::new(seed);
         Ok(Driver {
             tree: draw::tree(&mut rng),
-            states: states(seed, mixes)?,
+            functions,
+            states: states(seed, mixes, functions)?,
             state: State::new(&mut rng),
             left: 0,
             queue: Vec::new(),
@@ -318,8 +347,18 @@ impl Driver {
 
     /// Makes this many calls, or stops at the first difference.
     pub fn run(&mut self, count: u64) -> Result<(), String> {
+        self.run_and_show(count, |_, _| {})
+    }
+
+    /// The same; `each` sees what each call answered and left.
+    pub fn run_and_show(
+        &mut self,
+        count: u64,
+        mut each: impl FnMut(&Answer, &Twin),
+    ) -> Result<(), String> {
         for at in 1..=count {
-            self.step().map_err(|error| format!("call {at}: {error}"))?;
+            let answer = self.step().map_err(|error| format!("call {at}: {error}"))?;
+            each(&answer, &self.state.twin);
         }
         Ok(())
     }
@@ -333,7 +372,7 @@ impl Driver {
         };
     }
 
-    fn step(&mut self) -> Result<(), String> {
+    fn step(&mut self) -> Result<Answer, String> {
         if let Some(call) = self.queue.pop() {
             return self.call(&call);
         }
@@ -385,7 +424,7 @@ impl Driver {
         self.queue = match rng.below(8) {
             0 | 1 => draw::key_message(rng, receiver, &self.tree, false),
             2 => draw::key_message(rng, receiver, &self.tree, true),
-            _ => draw::root_message(rng, receiver),
+            _ => draw::root_message(rng, receiver, self.functions),
         };
         match self.queue.pop() {
             Some(call) => call,
@@ -393,17 +432,21 @@ impl Driver {
         }
     }
 
-    fn call(&mut self, call: &Call) -> Result<(), String> {
+    fn call(&mut self, call: &Call) -> Result<Answer, String> {
+        let mut call = call.clone();
+        if let (MacFunctions::Hmac, Call::Subframe { fields, .. }) = (self.functions, &mut call) {
+            without_cmac(fields);
+        }
         let twin = &mut self.state.twin;
         let before = Before::of(&twin.receiver);
         let prn = self.rng.range(1, 36) as u8;
-        let answer = twin.call(call, prn);
+        let answer = twin.call(&call, prn);
         let answer = answer.map_err(|error| format!("{error}, after {call:?}"))?;
         self.tally.add(call.kind(), &answer);
         if before.tags == 256 {
             self.tally.event("call of a full core");
         }
-        match call {
+        match &call {
             Call::Verdict { .. } if answer.number == 0 => {
                 before.tell_verdict(&twin.receiver, &mut self.tally)
             }
@@ -412,10 +455,10 @@ impl Driver {
             }
             _ => {}
         }
-        Ok(())
+        Ok(answer)
     }
 
-    fn wrong_length(&mut self, call: &Call) -> Result<(), String> {
+    fn wrong_length(&mut self, call: &Call) -> Result<Answer, String> {
         let (rng, parts) = (&mut self.rng, parts(call));
         let what = match rng.once_in(3) {
             true => *rng.pick(parts),
@@ -429,7 +472,7 @@ impl Driver {
             answer.mack = 1;
         }
         self.tally.add(call.kind(), &answer);
-        Ok(())
+        Ok(answer)
     }
 }
 
@@ -468,6 +511,15 @@ impl Before {
             _ if now.tags == self.tags => "later root, all tags stay",
             _ => "later root, some tags stay",
         });
+        // MF stands in the last two bits of the contents' first byte.
+        let function = |contents: &Option<Vec<u8>>| contents.as_ref().map(|c| c[0] & 3);
+        let (old, new) = (function(&self.contents), function(&now.contents));
+        if new == Some(1) && self.contents != now.contents {
+            tally.event("root with CMAC-AES");
+        }
+        if old.is_some() && new.is_some() && old != new {
+            tally.event("later root with another MAC function");
+        }
         if now.keys < self.keys {
             tally.event("public keys dropped");
         }

@@ -131,6 +131,11 @@ impl Twin {
         }
     }
 
+    /// The core's record area.
+    pub fn area(&self) -> &[u8] {
+        &self.area
+    }
+
     /// A call into both. Compares the answers, the tag records, every byte of every region and of the
     /// record area, and what both reads give then; `prn` is the satellite that is read where the call
     /// names none.

@@ -10,6 +10,7 @@ pub fn crates() -> PathBuf {
 }
 
 /// Gives `work` the definitions, on a large stack.
+#[allow(dead_code)]
 pub fn with_rules<T: Send>(hashes: Hashes, work: impl FnOnce(&Rules) -> T + Send) -> T {
     with_large_stack(|| match Rules::load(&crates(), hashes) {
         Ok(rules) => work(&rules),

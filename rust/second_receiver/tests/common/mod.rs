@@ -6,6 +6,7 @@
 
 pub mod annex;
 
+use portable_aes::cmac;
 use portable_hash::{hmac_sha256, sha256};
 use second_receiver::receiver::RECORDS_LEN;
 use second_receiver::Receiver;
@@ -93,6 +94,8 @@ pub fn set(words: &[[u8; 16]; 5]) -> Vec<u8> {
 pub struct TestChain {
     pub ns: u8,
     pub nmack: u8,
+    /// MAC function.
+    pub mf: u8,
     pub key_bits: usize,
     pub ks_code: u8,
     pub tag_bits: usize,
@@ -118,6 +121,7 @@ impl TestChain {
         TestChain {
             ns,
             nmack,
+            mf: 0,
             ks_code: ks.0,
             key_bits: ks.1,
             ms_code: ms.0,
@@ -130,6 +134,11 @@ impl TestChain {
             hour: 10,
             keys: Vec::new(),
         }
+    }
+
+    /// The same with CMAC-AES for its tags and MACSEQ.
+    pub fn with_cmac(self) -> TestChain {
+        TestChain { mf: 1, ..self }
     }
 
     /// Makes the keys down from a highest slot.
@@ -183,7 +192,7 @@ impl TestChain {
 
     /// Table 7 from CIDKR through KROOT.
     pub fn contents(&self) -> Vec<u8> {
-        let mut bits = format!("{:02b}{:02b}0000", self.cid, self.nmack);
+        let mut bits = format!("{:02b}{:02b}00{:02b}", self.cid, self.nmack, self.mf);
         bits += &format!("{:04b}{:04b}{:08b}", self.ks_code, self.ms_code, self.maclt);
         bits += &format!("{:02b}00{:012b}{:08b}", self.rsvd, self.week, self.hour);
         [packed(&bits), self.alpha.to_vec(), self.keys[0].clone()].concat()
@@ -204,6 +213,15 @@ impl TestChain {
         (480 / usize::from(self.nmack) - self.key_bits) / (self.tag_bits + 16)
     }
 
+    /// The chain's MAC; a tag whose key the chain does not have is under an empty one.
+    fn mac(&self, key: Option<&Vec<u8>>, message: &[u8]) -> Vec<u8> {
+        let key = key.map_or(&[][..], |key| &key[..]);
+        match self.mf {
+            1 => cmac(key, message).map_or(vec![0; 16], |code| code.to_vec()),
+            _ => hmac_sha256(key, message).to_vec(),
+        }
+    }
+
     /// A section of `prn`, sub-frames counted from the root. The fields of all blocks in order;
     /// `specs` may be short, the rest are tags 0 of PRN 0. `flexible` are the places that MACSEQ
     /// covers.
@@ -214,9 +232,8 @@ impl TestChain {
         let empty = Spec::new(0, 0, &[]);
         let spec = |i: usize| specs.get(i).unwrap_or(&empty);
         let infos: Vec<[u8; 2]> = flexible.iter().map(|&i| spec(i).info()).collect();
-        let macseq_key = &self.keys[self.first_slot(sent.subframe, 1)];
-        let macseq = hmac_sha256(
-            macseq_key,
+        let macseq = self.mac(
+            self.keys.get(self.first_slot(sent.subframe, 1)),
             &[&[sent.prn], &time[..], &infos.concat()].concat(),
         );
         let mut bits = String::new();
@@ -238,7 +255,7 @@ impl TestChain {
                     .find(|d| d.0 == spec.adkd)
                     .map_or(0, |d| d.1);
                 let key = self.keys.get(self.first_slot(sent.subframe + delay, block));
-                let mut mac = hmac_sha256(key.map_or(&[], |key| &key[..]), &packed(&message));
+                let mut mac = self.mac(key, &packed(&message));
                 for bit in &spec.flipped {
                     mac[bit / 8] ^= 0x80 >> (bit % 8);
                 }

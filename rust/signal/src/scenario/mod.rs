@@ -4,6 +4,7 @@
 //! the same bytes. What a run intends stands in [`Run::expects`].
 
 mod bench;
+mod cmac;
 mod gathering;
 mod parameters;
 mod random;
@@ -13,7 +14,7 @@ mod tags;
 
 use crate::replay::Run;
 
-pub use random::random;
+pub use random::{random, random_with, MacFunctions};
 
 /// A named scenario.
 #[derive(Clone, Copy)]
@@ -290,6 +291,34 @@ const ALL: &[Scenario] = &[
         "message_bits",
         "bits of verdicts, DSM-KROOT and DSM-PKR turned over",
         parameters::message_bits,
+    ),
+    scenario(
+        "cmac_128",
+        "CMAC-AES with KS 128: eight satellites, twelve minutes, one data change",
+        cmac::nominal_128,
+    ),
+    scenario("cmac_192", "the same with KS 192", cmac::nominal_192),
+    scenario("cmac_256", "the same with KS 256", cmac::nominal_256),
+    scenario(
+        "cmac_data_change",
+        "CMAC-AES: a repeater's words replace a set while its slow tag waits",
+        cmac::data_change,
+    ),
+    scenario(
+        "cmac_sizes",
+        "CMAC-AES with every KS that it takes, every MS and number of blocks",
+        cmac::sizes,
+    ),
+    scenario(
+        "cmac_damaged",
+        "CMAC-AES: each bit of a sub-frame's field turned over, and tags of HMAC-SHA-256",
+        cmac::damaged,
+    ),
+    scenario("mac_functions", "every MF with every KS", cmac::functions),
+    scenario(
+        "mf_changes",
+        "the MAC function changes while slow tags wait",
+        cmac::mf_changes,
     ),
 ];
 

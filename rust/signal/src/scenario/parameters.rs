@@ -10,7 +10,7 @@ use crate::time::Gst;
 use std::rc::Rc;
 
 /// A new start, this chain in force, the words of satellites 1 and 2 held; the present time is sub-frame 0.
-fn fresh(b: &mut Bench, chain: &Rc<Chain>) {
+pub(super) fn fresh(b: &mut Bench, chain: &Rc<Chain>) {
     b.seen = vec![1, 2];
     b.header = dsm::header(OPERATIONAL, chain.params.cid, NOMINAL);
     b.now = chain.start().plus(-1);
@@ -40,7 +40,7 @@ fn send_turned(
 }
 
 /// Fast and slow tags, wrong tags, a wrong key and a spare bit.
-fn exercise(b: &mut Bench, chain: &Rc<Chain>, sender: u8) {
+pub(super) fn exercise(b: &mut Bench, chain: &Rc<Chain>, sender: u8) {
     let layout = Layout::new(&chain.params).expect("it fits");
     let fields = layout.fields();
     let adkd = |n: usize| [0, 12, 11, 0][n % 4];

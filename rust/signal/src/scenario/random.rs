@@ -2,7 +2,7 @@
 
 use super::bench::*;
 use crate::bits;
-use crate::chain::{Chain, Params};
+use crate::chain::{Chain, Params, AES_KEYS};
 use crate::dsm;
 use crate::mack::{Info, Layout, FLEXIBLE};
 use crate::navdata::NavSet;
@@ -25,8 +25,18 @@ const BEGINNINGS: [(u32, u32); 6] = [
 /// Sub-frames for which a chain has keys.
 const SUBFRAMES: u64 = 330;
 
+/// The MAC functions that the chains of a mix name.
+#[derive(Clone, Copy, Debug, PartialEq, Eq)]
+pub enum MacFunctions {
+    /// HMAC-SHA-256 alone. Damage can still turn a root's MF over.
+    Hmac,
+    /// CMAC-AES too, where the key size allows it.
+    Both,
+}
+
 struct Mix {
     b: Bench,
+    functions: MacFunctions,
     /// One in so many calls is damaged; 0 for none.
     damage: u64,
     /// The leaf of the tree whose key signs the roots.
@@ -38,12 +48,18 @@ struct Mix {
 
 /// A mix from a seed. A quarter of the seeds give undamaged runs, the others are damaged more and more.
 pub fn random(seed: u64) -> Run {
+    random_with(seed, MacFunctions::Both)
+}
+
+/// The same with chains of these MAC functions.
+pub fn random_with(seed: u64, functions: MacFunctions) -> Run {
     let name = format!("random_{seed}");
     let mut b = Bench::new(&name, "a mix of valid, damaged and random records", seed);
     let damage = [0, 40, 12, 4][(seed % 4) as usize];
     let leaf = b.rng.below(12) as u8;
     let mut mix = Mix {
         b,
+        functions,
         damage,
         leaf,
         last: None,
@@ -182,8 +198,18 @@ impl Mix {
             let alpha = rng.array();
             let params = Params::new(cid, nmack, ks, ms, self.b.start.maclt, alpha);
             if Layout::new(&params).is_some() {
-                return params;
+                return self.with_any_function(params);
             }
+        }
+    }
+
+    /// The same, or with CMAC-AES where it takes the key.
+    fn with_any_function(&mut self, params: Params) -> Params {
+        let possible = AES_KEYS.contains(&params.ks) && self.functions == MacFunctions::Both;
+        if possible && self.b.rng.once_in(2) {
+            params.with_cmac()
+        } else {
+            params
         }
     }
 
@@ -431,6 +457,11 @@ impl Mix {
         let mut later = chain.floating(1);
         if self.b.rng.once_in(4) {
             later.params.rsvd ^= 1;
+        }
+        // Another MF is another chain with the same keys.
+        let can_change = AES_KEYS.contains(&later.params.ks);
+        if self.functions == MacFunctions::Both && can_change && self.b.rng.once_in(4) {
+            later.params.mf ^= 1;
         }
         self.send_root(&Rc::new(later), self.b.header);
     }

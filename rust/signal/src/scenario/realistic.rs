@@ -28,8 +28,13 @@ fn half_minute_with_change(b: &mut Bench, changed: &[u8]) {
 
 /// A start, a chain in force, and the words of all satellites seen.
 fn running(b: &mut Bench, subframes: u64) -> Rc<Chain> {
+    running_with(b, subframes, |params| params)
+}
+
+/// The same with other parameters.
+fn running_with(b: &mut Bench, subframes: u64, change: fn(Params) -> Params) -> Rc<Chain> {
     b.start();
-    let params = b.params(0);
+    let params = change(b.params(0));
     let chain = b.chain(params, subframes);
     b.adopt(&chain);
     b.now = b.now.plus(-1);
@@ -39,9 +44,19 @@ fn running(b: &mut Bench, subframes: u64) -> Rc<Chain> {
 }
 
 pub fn nominal(name: &str, about: &str, seed: u64) -> Run {
+    nominal_with(name, about, seed, |params| params)
+}
+
+/// The same with other parameters.
+pub(super) fn nominal_with(
+    name: &str,
+    about: &str,
+    seed: u64,
+    change: fn(Params) -> Params,
+) -> Run {
     let mut b = Bench::new(name, about, seed);
     b.seen = vec![1, 4, 9, 11, 18, 24, 30, 36];
-    running(&mut b, 40);
+    running_with(&mut b, 40, change);
     for n in 0..24 {
         half_minute_with_change(&mut b, if n == 15 { &[18] } else { &[] });
     }
@@ -269,13 +284,14 @@ fn slow_fields(own: u8, slow: u8) -> [Info; 7] {
     ]
 }
 
-/// Two satellites, seven tags a section: 0 12 0 11 0 0 0.
-fn slow_bench(b: &mut Bench) {
+/// Two satellites, seven tags a section: 0 12 0 11 0 0 0, under a MAC function.
+fn slow_bench(b: &mut Bench, mf: u8) {
     b.start.marks = [marks(&[0, 12, 0, 11]); 2];
     b.seen = vec![1, 2];
     b.start();
     let params = Params {
         nmack: 1,
+        mf,
         ks: 4,
         ms: 8,
         ..b.params(0)
@@ -288,8 +304,13 @@ fn slow_bench(b: &mut Bench) {
 }
 
 pub fn data_change(name: &str, about: &str, seed: u64) -> Run {
+    data_change_with(name, about, seed, 0)
+}
+
+/// The same under a MAC function.
+pub(super) fn data_change_with(name: &str, about: &str, seed: u64, mf: u8) -> Run {
     let mut b = Bench::new(name, about, seed);
-    slow_bench(&mut b);
+    slow_bench(&mut b, mf);
     let arrival = b.now;
     b.send_fields(1, &slow_fields(1, 2), &[1, 5, 1, 5, 1, 1, 1]);
     let good = b.sets[1];
@@ -321,7 +342,7 @@ pub fn data_change(name: &str, about: &str, seed: u64) -> Run {
 
 pub fn newer_set_stays(name: &str, about: &str, seed: u64) -> Run {
     let mut b = Bench::new(name, about, seed);
-    slow_bench(&mut b);
+    slow_bench(&mut b, 0);
     // A slow tag of old data comes due after newer data was marked by a fast tag: it is judged authentic, and the
     // newer set stays.
     b.send_fields(1, &slow_fields(1, 2), &[1, 5, 1, 5, 1, 1, 1]);

@@ -308,7 +308,10 @@ pub fn root_messages(name: &str, about: &str, seed: u64) -> Run {
         (7, |c| c.key_id = 0),
         (8, |c| c.chain.params.hf = 1),
         (8, |c| c.chain.params.hf = 2),
-        (8, |c| c.chain.params.mf = 1),
+        (8, |c| c.chain.params.mf = 2),
+        (8, |c| c.chain.params.mf = 3),
+        // CMAC-AES with a key of 160 bits.
+        (8, |c| (c.chain.params.mf, c.chain.params.ks) = (1, 5)),
         (8, |c| c.chain.params.mo = 1),
         (8, |c| c.chain.params.mo = 2),
         (8, |c| c.chain.params.nmack = 0),
@@ -329,6 +332,7 @@ pub fn root_messages(name: &str, about: &str, seed: u64) -> Run {
     // What is next to a condition and is none.
     let good: &[fn(&mut RootCall)] = &[
         |c| c.chain.params.rsvd = 3,
+        |c| c.chain.params.mf = 1,
         |c| c.chain.params.nmack = 1,
         |c| (c.chain.params.nmack, c.chain.params.ms) = (3, 3),
         |c| c.chain.params.ms = 9,

@@ -334,7 +334,6 @@ pub fn word_bits(name: &str, about: &str, seed: u64) -> Run {
 /// Each bit of a sub-frame's field turned over, one at a time.
 pub fn field_bits(name: &str, about: &str, seed: u64) -> Run {
     let mut b = Bench::new(name, about, seed);
-    b.start.marks = [marks(&[0, FLEXIBLE, 0]); 2];
     // Two blocks of KS 104, MS 28: three fields and four spare bits.
     let params = Params {
         ks: 1,
@@ -342,7 +341,14 @@ pub fn field_bits(name: &str, about: &str, seed: u64) -> Run {
         ..b.params(0)
     };
     let chain = b.chain(params, 1300);
-    fresh(&mut b, &chain);
+    turn_field_bits(&mut b, &chain);
+    b.run
+}
+
+/// The same for a chain with two blocks of three fields.
+pub(super) fn turn_field_bits(b: &mut Bench, chain: &Rc<Chain>) {
+    b.start.marks = [marks(&[0, FLEXIBLE, 0]); 2];
+    fresh(b, chain);
     let layout = b.layout();
     let infos: Vec<Info> = (0..6).map(|n| Info::new(n % 4 + 1, 0, 0)).collect();
     for bit in 0..480 {
@@ -395,7 +401,6 @@ pub fn field_bits(name: &str, about: &str, seed: u64) -> Run {
         );
         b.step();
     }
-    b.run
 }
 
 /// The set of a satellite when the tag arrives, over every kind of change while it waits.
