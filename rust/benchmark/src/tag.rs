@@ -47,7 +47,7 @@ fn right() -> u64 {
 
 fn judged(who: &str, bits: u64) -> Option<bool> {
     match who {
-        "proved" => tag_matches(40, &KEY, false, &Tag { bits, ..TAG }, &SET),
+        "proved" => tag_matches(0, 40, &KEY, false, &Tag { bits, ..TAG }, &SET),
         "second" => Some(theirs(bits).matches(&NavSet(SET), &MacKey::new(0, &KEY)?, 40)),
         _ => None,
     }

@@ -60,6 +60,8 @@ pub struct Numbers {
     /// Seconds of the root's sub-frame 0.
     pub root: u64,
     pub alpha: [u8; 6],
+    /// The function of tags and MACSEQ: 0 HMAC-SHA-256, 1 CMAC-AES.
+    pub mf: u64,
     /// Bytes of a key.
     pub width: u64,
     /// Bits of a tag.
@@ -70,7 +72,7 @@ pub struct Numbers {
 
 /// The numbers of the chain with these contents.
 pub fn chain_with(ns: u64, contents: &[u8]) -> Option<Numbers> {
-    let (mut numbers, mut alpha) = ([0; 6], [0; 6]);
+    let (mut numbers, mut alpha) = ([0; 7], [0; 6]);
     // SAFETY: the contents are lent with their length, which is as required; the arrays are lent.
     (44 <= contents.len()).then(|| unsafe {
         raw::leaf_chain_with(
@@ -81,12 +83,13 @@ pub fn chain_with(ns: u64, contents: &[u8]) -> Option<Numbers> {
             &mut alpha,
         )
     })?;
-    let [ns, nmack, root, width, ms, fields] = numbers;
+    let [ns, nmack, root, mf, width, ms, fields] = numbers;
     Some(Numbers {
         ns,
         nmack,
         root,
         alpha,
+        mf,
         width,
         ms,
         fields,

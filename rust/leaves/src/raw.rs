@@ -155,7 +155,7 @@ extern "C" {
         ns: u64,
         c: *const u8,
         c_count: usize,
-        numbers: *mut [u64; 6],
+        numbers: *mut [u64; 7],
         alpha: *mut [u8; 6],
     );
     pub fn leaf_chain_unchanged(a: *const u8, a_count: usize, b: *const u8, b_count: usize) -> u32;
@@ -297,6 +297,7 @@ extern "C" {
 
     // crates/test_leaves, of_tag_codes
     pub fn leaf_mac_bits(
+        mf: u8,
         n: usize,
         key: *const u8,
         key_count: usize,
@@ -304,6 +305,7 @@ extern "C" {
         message_count: usize,
     ) -> u64;
     pub fn leaf_tag_matches(
+        mf: u8,
         ms: u64,
         key: *const u8,
         key_count: usize,
@@ -320,6 +322,7 @@ extern "C" {
     pub fn leaf_macseq_fits(
         config: *const u8,
         config_count: usize,
+        mf: u8,
         nmack: u64,
         ms: u64,
         fields: u64,

@@ -1,25 +1,26 @@
-//! The codes of tags and MACSEQ (crates/tag_codes).
+//! The codes of tags and MACSEQ (crates/mac, crates/tag_codes), by the function that MF names.
 
 use crate::mack::{Layout, Section};
 use crate::raw;
 use crate::tags::{Config, Tag};
 
-/// The longest key that the proved HMAC takes, and one byte more.
-const KEY_LIMIT: usize = 1 << 61;
+/// The longest key of a chain.
+const KEY_LIMIT: usize = 32;
 
 /// The first n bits of the code of a message under a key.
-pub fn mac_bits(n: usize, key: &[u8], message: &[u8]) -> Option<u64> {
+pub fn mac_bits(mf: u8, n: usize, key: &[u8], message: &[u8]) -> Option<u64> {
     // SAFETY: the slices are lent with their lengths; the ranges are as required.
-    (n <= 56 && message.len() <= 76 && key.len() < KEY_LIMIT).then(|| unsafe {
-        raw::leaf_mac_bits(n, key.as_ptr(), key.len(), message.as_ptr(), message.len())
+    (n <= 56 && message.len() <= 76 && key.len() <= KEY_LIMIT).then(|| unsafe {
+        raw::leaf_mac_bits(mf, n, key.as_ptr(), key.len(), message.as_ptr(), message.len())
     })
 }
 
 /// Whether a tag of `ms` bits matches a set under a key; `first` for tag0, whose message has no PRN_N.
-pub fn tag_matches(ms: u64, key: &[u8], first: bool, tag: &Tag, set: &[u8; 69]) -> Option<bool> {
+pub fn tag_matches(mf: u8, ms: u64, key: &[u8], first: bool, tag: &Tag, set: &[u8; 69]) -> Option<bool> {
     // SAFETY: as above.
-    (ms <= 40 && key.len() < KEY_LIMIT).then(|| unsafe {
+    (ms <= 40 && key.len() <= KEY_LIMIT).then(|| unsafe {
         raw::leaf_tag_matches(
+            mf,
             ms,
             key.as_ptr(),
             key.len(),
@@ -38,14 +39,15 @@ pub fn tag_matches(ms: u64, key: &[u8], first: bool, tag: &Tag, set: &[u8; 69]) 
 
 impl Layout {
     /// Whether MACSEQ fits the section's flexible fields under a key.
-    pub fn macseq_fits(&self, config: &Config, section: &Section, key: &[u8]) -> Option<bool> {
+    pub fn macseq_fits(&self, mf: u8, config: &Config, section: &Section, key: &[u8]) -> Option<bool> {
         let Layout { nmack, ms, fields } = *self;
         let mack = &section.mack;
         // SAFETY: as above.
-        (self.in_range() && key.len() < KEY_LIMIT).then(|| unsafe {
+        (self.in_range() && key.len() <= KEY_LIMIT).then(|| unsafe {
             raw::leaf_macseq_fits(
                 config.as_ptr(),
                 config.len(),
+                mf,
                 nmack,
                 ms,
                 fields,

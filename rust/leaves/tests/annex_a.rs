@@ -149,7 +149,7 @@ fn a_1_7_leaves_and_root() {
 #[test]
 fn tag0_of_e18() {
     let key = hex(KEYS.into_iter().find(|key| key.0 == 73).unwrap().2);
-    assert_eq!(mac_bits(12, &key, &hex(&mac0_message())), Some(0xE58));
+    assert_eq!(mac_bits(0, 12, &key, &hex(&mac0_message())), Some(0xE58));
     let mut nav = Nav {
         words: [0; 2880],
         stamps: [0; 180],
@@ -168,10 +168,10 @@ fn tag0_of_e18() {
         status: 2,
         bits,
     };
-    assert_eq!(tag_matches(12, &key, true, &tag0(0xE58), &set), Some(true));
-    assert_eq!(tag_matches(12, &key, true, &tag0(0xE59), &set), Some(false));
+    assert_eq!(tag_matches(0, 12, &key, true, &tag0(0xE58), &set), Some(true));
+    assert_eq!(tag_matches(0, 12, &key, true, &tag0(0xE59), &set), Some(false));
     assert_eq!(
-        tag_matches(12, &key, false, &tag0(0xE58), &set),
+        tag_matches(0, 12, &key, false, &tag0(0xE58), &set),
         Some(false)
     );
 }
@@ -180,5 +180,5 @@ fn tag0_of_e18() {
 #[test]
 fn macseq_of_e18() {
     let key = hex(KEYS.into_iter().find(|key| key.0 == 73).unwrap().2);
-    assert_eq!(mac_bits(12, &key, &hex("123B36979EFF4012B0")), Some(0xC24));
+    assert_eq!(mac_bits(0, 12, &key, &hex("123B36979EFF4012B0")), Some(0xC24));
 }

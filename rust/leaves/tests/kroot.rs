@@ -227,6 +227,7 @@ fn numbers_of_chains_are_read_alike() {
             nmack: second.slots.nmack.into(),
             root: second.slots.start,
             alpha: second.parameters.alpha,
+            mf: second.parameters.mf.into(),
             ..given
         };
         assert_eq!(given, right);

@@ -11,9 +11,8 @@ use leaves::tag_codes::tag_matches;
 use leaves::tag_records::{put_record, record_issue};
 use leaves::tags::{flexible, not_allowed, own_outcome, Config, Tag, Tests};
 use leaves::times::Slots;
-use portable_hash::HmacKey;
-use second_receiver::bits::take;
 use second_receiver::chain::{Chain, TeslaKey};
+use second_receiver::mac::{is_taken, MacKey};
 use second_receiver::mack::Section;
 use second_receiver::navdata::{NavSet, Words};
 use second_receiver::tags::{self, AuthenticSets, WaitingTag};
@@ -48,7 +47,9 @@ fn hold_words(rng: &mut Rng, words: &mut Words, nav: &mut Nav, prn: u8, section:
 /// The right bits of a tag, if there is a set to make them of.
 fn right_bits(chain: &Chain, tag: &tags::Tag, set: &NavSet, ms: usize) -> u64 {
     let key = key_of(chain, tag);
-    take(&HmacKey::new(key.as_slice()).mac(&tag.message(set)), 0, ms)
+    MacKey::new(chain.parameters.mf, key.as_slice())
+        .unwrap()
+        .code(&tag.message(set), ms)
 }
 
 fn key_of(chain: &Chain, tag: &tags::Tag) -> TeslaKey {
@@ -128,7 +129,7 @@ impl Judge<'_> {
                 continue;
             }
             let key = key_of(self.chain, tag);
-            let matches = tag_matches(self.layout.ms, key.as_slice(), false, &ours, &set.0);
+            let matches = tag_matches(self.chain.parameters.mf, self.layout.ms, key.as_slice(), false, &ours, &set.0);
             let outcome = if matches == Some(true) { 1 } else { 2 };
             records.push(record(outcome, &ours, &set.0));
         }
@@ -138,7 +139,7 @@ impl Judge<'_> {
     fn own(&self, macseq_key: &[u8], mut count: usize, records: &mut Vec<[u8; 12]>) -> usize {
         let Judge { layout, config, .. } = self;
         let fits = layout
-            .macseq_fits(config, &self.section, macseq_key)
+            .macseq_fits(self.chain.parameters.mf, config, &self.section, macseq_key)
             .unwrap();
         for j in 0..layout.count() {
             let tag = layout.own_tag(&self.section, j).unwrap();
@@ -165,7 +166,7 @@ impl Judge<'_> {
         let key = self
             .chain
             .hash_down(&self.chain.held, self.chain.held_slot, slot);
-        tag_matches(self.layout.ms, key.as_slice(), j == 0, tag, set).unwrap()
+        tag_matches(self.chain.parameters.mf, self.layout.ms, key.as_slice(), j == 0, tag, set).unwrap()
     }
 }
 
@@ -189,6 +190,7 @@ fn tags_of_sections_are_judged_alike() {
     let mut counts = [0; 8];
     for _ in 0..3_000 {
         let (mut chain, layout) = any_chain(&mut rng);
+        chain.parameters.mf = u8::from(is_taken(1, layout.key_bits) && rng.once_in(2));
         let seconds = chain.slots.start + 30 * rng.range(10, 20);
         let last = chain.slots.of_tags(seconds, layout.blocks) + u64::from(chain.slots.ns) - 1;
         (chain.held, chain.held_slot) = (TeslaKey::new(&rng.bytes(layout.key_bits / 8)), last);
@@ -207,7 +209,7 @@ fn tags_of_sections_are_judged_alike() {
         with_right_tags(&mut rng, &mut case, &chain, &words);
         let first = chain.slots.of_tags(seconds, 1);
         let macseq_key = chain.hash_down(&chain.held, last, first);
-        with_macseq(&mut rng, &mut case, macseq_key.as_slice());
+        with_macseq(&mut rng, &mut case, chain.parameters.mf, macseq_key.as_slice());
         let mut waiting = any_waiting(&mut rng, &chain, &case);
 
         let judge = Judge {

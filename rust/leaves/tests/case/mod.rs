@@ -105,11 +105,11 @@ fn joined(rng: &mut Rng, layout: &mack::Layout, fields: &[Field]) -> [u8; 60] {
 }
 
 /// The first field's MACSEQ becomes the right one; one time in four a bit of it is then changed.
-pub fn with_macseq(rng: &mut Rng, case: &mut Case, key: &[u8]) {
+pub fn with_macseq(rng: &mut Rng, case: &mut Case, mf: u8, key: &[u8]) {
     let section = case.section();
     let proved = case.proved(&section);
     let message = proved.macseq_message(case.marks.at(case.time));
-    let mut macseq = MacKey::new(0, key).unwrap().code(&message, 12) as u16;
+    let mut macseq = MacKey::new(mf, key).unwrap().code(&message, 12) as u16;
     if rng.once_in(4) {
         macseq ^= 1 << rng.below(12);
     }
