@@ -175,7 +175,8 @@ pub record FourThings (origin : Start) (began : State) (t : Tag) (navdata : List
   pub force : Verdict
   pub in-force : chainIn older ≡ some force
   pub unchanged : chainUnchanged (contentsBy by) (contentsBy force) ≡ true
-  -- "The tag matches them under the key of its slot."; its slot is none before the root's sub-frame 0
+  -- "The tag matches them under the key of its slot.", by the function that the signed root names (02, P1); its slot is none before the root's
+  -- sub-frame 0
   pub key : List ℕ
   pub not-before : (chainBy origin force) .root ≤ keySeconds (t .time) (t .adkd)
   pub of-slot : KeyOfSlot (chainBy origin force) (slotOfTag (chainBy origin force) t) key (x ∷ older)
