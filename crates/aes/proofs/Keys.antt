@@ -11,7 +11,7 @@ use native.Mathlib.Omega.{arith}
 use borrow.Author.Tests.{lt-ltb, le-ltb, eq-eqb, ne-eqb}
 use lib.Bits.{bitXor, xor-zero-r}
 use lib.Dec.{eqb, ltb}
-use lib.ListN.{length, length-map, getD, take, drop, replicate, length-append, length-replicate, length-take, replicate-append-replicate}
+use lib.ListN.{length, length-map, getD, take, replicate, length-append, length-replicate, length-take, replicate-append-replicate}
 use lib.Seq.{take-all, take-at, drop-at}
 use Rattle.laws.specs.Lists.{part, splice}
 use Rattle.laws.proofs.Elements.{written-out}

@@ -12,12 +12,6 @@ use Rattle.aes.proofs.Lengths.{nk-range}
 use Rattle.aes.proofs.Keys.{grown, all-words}
 use Rattle.aes.proofs.expand_key.Statement.{statement}
 use Rattle.aes.proofs.expand_key.Tie as tie
-use Rattle.aes.proofs.expand_key.Reads as reads
-use Rattle.aes.proofs.expand_key.Lts as lts
-use Rattle.aes.proofs.lay_key.Reads as lay-key-reads
-use Rattle.aes.proofs.next_word.Reads as next-word-reads
-use Rattle.aes.proofs.sbox.Reads as sbox-reads
-use Rattle.aes.proofs.words_of.Reads as words-of-reads
 
 abbrev Inv-loop : tie.InvT-loop
 Inv-loop key w₀ nk t i₀ w i = (nk ≤ i) × ((i ≤ 4 * (nk + 7)) × ((length w ≡ 240) × (w ≡ C.filled nk (S.keyBytes key) (i - nk))))

@@ -1,6 +1,5 @@
 -- `aes::rounds_of` meets its contract.
 -- Assumes nothing.
-use native.Mathlib.Omega.{arith}
 use borrow.Author.Needs.{needs}
 use Rattle.aes.specs.Aes as S
 use Rattle.aes.proofs.Lengths.{nk-range}
