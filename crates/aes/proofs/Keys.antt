@@ -19,7 +19,7 @@ use Rattle.laws.proofs.Splice.{length-part, getD-part, part-first, splice-whole
 use Rattle.aes.specs.Aes as S
 use Rattle.aes.specs.Steps as C
 use Rattle.aes.proofs.States.{four-equal}
-use Rattle.aes.proofs.Lengths.{length-xored, nk-range, rounds-range}
+use Rattle.aes.proofs.Lengths.{length-cipher, length-xored, nk-range, rounds-range}
 
 -- ---- Rcon
 
@@ -173,6 +173,13 @@ length-expanded k =
     let l = length-keySchedule k in
     let r = rounds-range (length k) in
     simp (length-append, length-replicate) (omega arith)
+
+pub length-aes : (k b : List ℕ) → length (S.aes k b) ≡ 16
+unfolding S.aes
+length-aes k b =
+    let l = length-expanded k in
+    let r = rounds-range (length k) in
+    length-cipher (S.roundsOf (length k)) (S.expanded k) b (omega arith)
 
 padded : (m j : ℕ) (p : List ℕ) → length p + j ≤ m → (p ++ replicate j 0) ++ replicate (m - length (p ++ replicate j 0)) 0 ≡ p ++ replicate (m - length p) 0
 padded m j p h =

@@ -1,5 +1,5 @@
--- Laws of AES's definitions; those of `Table` (the S-box) and `Lengths` are for callers.
+-- Laws of AES's definitions. For callers: `Table` (the S-box and the inverse), `Lengths` and `Keys` (lengths, numbers of words and rounds).
 pub mod Table
 pub mod Lengths
 mod States
-mod Keys
+pub mod Keys

@@ -19,15 +19,6 @@ Inv-loop key w₀ nk t i₀ w i = (nk ≤ i) × ((i ≤ 4 * (nk + 7)) × ((lengt
 abbrev μ-loop : tie.MeasureT-loop
 μ-loop key w₀ nk t i₀ w i = 4 * (nk + 7) - i
 
-words-of-requires : tie.Need-words-of-requires Inv-loop μ-loop
-words-of-requires c κs = search needs
-
-sbox-requires : tie.Need-sbox-requires Inv-loop μ-loop
-sbox-requires c κs = search needs
-
-lay-key-requires : tie.Need-lay-key-requires Inv-loop μ-loop
-lay-key-requires c κs = search needs
-
 loop-holds : tie.Need-loop-holds Inv-loop μ-loop
 loop-holds c =
     let n = c .before .before .before .before .before in
@@ -65,9 +56,6 @@ add-i c =
     let e = n .words-of .ensures in
     search needs
 
-loop-less : tie.Need-loop-less Inv-loop μ-loop
-loop-less c = omega arith
-
 loop-again : tie.Need-loop-again Inv-loop μ-loop
 loop-again c =
     let n = c .before .before .before .before .before .before .before .before .before .before .before .before in
@@ -75,9 +63,6 @@ loop-again c =
     let e = n .words-of .ensures in
     let l = c .before .before .before .before .before .before .loop in
     (omega arith, (omega arith, (search needs, grown (now (n .before .before .before .args .key)) (l .w) _ (n .words-of .result) (l .i) e (l .inv .0) (l .inv .1 .1 .1) (c .before .before .next-word .ensures))))
-
-same-length : tie.Need-same-length Inv-loop μ-loop
-same-length c = search needs
 
 returns : tie.Need-returns Inv-loop μ-loop
 returns c =
@@ -90,16 +75,11 @@ expand-key-spec =
     tie.close
     (tie.spec
     Inv-loop
-    μ-loop
-    words-of-requires
-    sbox-requires
-    lay-key-requires
+    μ-loop (λ c κs. search needs) (λ c κs. search needs) (λ c κs. search needs)
     loop-holds
     add-loop
     mul-loop
     next-word-requires
-    add-i
-    loop-less
-    loop-again
-    same-length
+    add-i (λ c. omega arith)
+    loop-again (λ c. search needs)
     returns)
