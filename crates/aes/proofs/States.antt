@@ -93,11 +93,6 @@ doubled-is x h =
 
 -- ---- MixColumns
 
-none : (n b : ℕ) → S.timesBits n 0 b ≡ 0
-unfolding S.timesBits
-none zero b = refl
-none (suc n) b = rw (zero-mul, none n (S.xtime b))
-
 two : (b : ℕ) → S.times 2 b ≡ S.xtime b
 unfolding S.times S.timesBits
 two b = simp (zero-mul, one-mul, xor-zero-l, xor-zero-r)

@@ -472,7 +472,7 @@ fn add_round_key(s: [u32; 4], w: &[u8], n: usize) -> [u32; 4]
 
 // Nk: how many words of a key of n bytes count.
 fn words_of(n: usize) -> usize
-    ensures { λ r. ⌜ r ≡ S.nkOf n ⌝ }
+    ensures { λ r. ⌜ (r ≡ S.nkOf n) × ((4 ≤ r) × (r ≤ 8)) ⌝ }
 {
     if n < 24 {
         return 4;
