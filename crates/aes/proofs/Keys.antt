@@ -11,7 +11,7 @@ use native.Mathlib.Omega.{arith}
 use borrow.Author.Tests.{lt-ltb, le-ltb, eq-eqb, ne-eqb}
 use lib.Bits.{bitXor, xor-zero-r}
 use lib.Dec.{eqb, ltb}
-use lib.ListN.{length, length-map, getD, take, drop, replicate, length-append, length-replicate, length-take, replicate-append-replicate}
+use lib.ListN.{length, length-map, getD, take, replicate, length-append, length-replicate, length-take, replicate-append-replicate}
 use lib.Seq.{take-all, take-at, drop-at}
 use Rattle.laws.specs.Lists.{part, splice}
 use Rattle.laws.proofs.Elements.{written-out}
@@ -19,7 +19,7 @@ use Rattle.laws.proofs.Splice.{length-part, getD-part, part-first, splice-whole
 use Rattle.aes.specs.Aes as S
 use Rattle.aes.specs.Steps as C
 use Rattle.aes.proofs.States.{four-equal}
-use Rattle.aes.proofs.Lengths.{length-xored, nk-range, rounds-range}
+use Rattle.aes.proofs.Lengths.{length-cipher, length-xored, nk-range, rounds-range}
 
 -- ---- Rcon
 
@@ -173,6 +173,13 @@ length-expanded k =
     let l = length-keySchedule k in
     let r = rounds-range (length k) in
     simp (length-append, length-replicate) (omega arith)
+
+pub length-aes : (k b : List ℕ) → length (S.aes k b) ≡ 16
+unfolding S.aes
+length-aes k b =
+    let l = length-expanded k in
+    let r = rounds-range (length k) in
+    length-cipher (S.roundsOf (length k)) (S.expanded k) b (omega arith)
 
 padded : (m j : ℕ) (p : List ℕ) → length p + j ≤ m → (p ++ replicate j 0) ++ replicate (m - length (p ++ replicate j 0)) 0 ≡ p ++ replicate (m - length p) 0
 padded m j p h =

@@ -2,23 +2,18 @@
 -- Assumes nothing.
 use mathlib.Core.Path.{_≡_, refl, _∙_}
 use mathlib.Core.Bool.{Bool, true, false, cond}
-use mathlib.Core.List.{List, [], _∷_, map}
+use mathlib.Core.List.{List, [], _∷_}
 use Prim.Native.Nat.{ℕ, zero, suc, _+_, _*_, _≤_, _<_}
 use native.Mathlib.Omega.{arith}
-use borrow.Author.Tests.{ltb-true, ltb-false}
+use borrow.Author.Tests.{ltb-false}
 use lib.Bits.{bitXor}
 use lib.Dec.{ltb}
-use lib.ListN.{length, getD, length-map}
+use lib.ListN.{length, getD}
 use Rattle.laws.specs.Lists.{part}
-use Rattle.laws.proofs.Splice.{length-part, getD-part}
+use Rattle.laws.proofs.Splice.{length-part}
 use Rattle.aes.specs.Aes as S
 
 -- ---- lists of bytes
-
-pub getD-map : (f : ℕ → ℕ) (l : List ℕ) (i : ℕ) → i < length l → getD (map f l) i 0 ≡ f (getD l i 0)
-getD-map f [] i h = absurd (omega arith)
-getD-map f (x ∷ xs) zero h = refl
-getD-map f (x ∷ xs) (suc i) h = getD-map f xs i (omega arith)
 
 pub length-xored : (a b : List ℕ) → length a ≤ length b → length (S.xored a b) ≡ length a
 unfolding S.xored
@@ -42,13 +37,6 @@ unfolding S.addRoundKey
 length-addRoundKey s w n e h =
     let l = length-part w (16 * n) 16 h in
     length-xored s (part w (16 * n) 16) (omega arith) ∙ e
-
-pub getD-addRoundKey : (s w : List ℕ) (n i : ℕ) → length s ≡ 16 → 16 * n + 16 ≤ length w → i < 16
-    → getD (S.addRoundKey s w n) i 0 ≡ bitXor (getD s i 0) (getD w (16 * n + i) 0)
-unfolding S.addRoundKey
-getD-addRoundKey s w n i e h k =
-    let l = length-part w (16 * n) 16 h in
-    rw (getD-xored s (part w (16 * n) 16) i (omega arith) (omega arith), getD-part w (16 * n) 16 i k)
 
 -- ---- a block's length
 

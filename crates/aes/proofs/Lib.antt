@@ -1,4 +1,4 @@
--- Laws of AES's definitions; those of `Table` (the S-box), `Lengths` and `Keys` are for callers.
+-- Laws of AES's definitions. For callers: `Table` (the S-box and the inverse), `Lengths` and `Keys` (lengths, numbers of words and rounds).
 pub mod Table
 pub mod Lengths
 mod States

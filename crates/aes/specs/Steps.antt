@@ -1,20 +1,21 @@
--- MixColumns by whole states, and how far a key's expansion has come.
-use mathlib.Core.List.{List, [], _∷_, _++_, map}
+-- A state by its columns, each the number of its four bytes, and how far a key's expansion has come.
+use mathlib.Core.List.{List, _++_, map}
 use Prim.Native.Nat.{ℕ, _-_}
 use lib.ListN.{length, getD, replicate}
+use Rattle.laws.specs.Bytes.{be4}
 use Rattle.aes.specs.Aes as S
+
+-- the bytes of a state, of its columns s
+unfoldable pub bytesOf : List ℕ → List ℕ
+bytesOf s = be4 (getD s 0 0) ++ (be4 (getD s 1 0) ++ (be4 (getD s 2 0) ++ be4 (getD s 3 0)))
 
 -- each byte times x
 unfoldable pub doubled : List ℕ → List ℕ
-doubled s = map S.xtime s
+doubled b = map S.xtime b
 
--- each column turned by one row: s[r,c] becomes s[r + 1 mod 4,c]
-unfoldable pub turned : List ℕ → List ℕ
-turned s =
-    S.at s 1 0 ∷ S.at s 2 0 ∷ S.at s 3 0 ∷ S.at s 0 0 ∷
-    S.at s 1 1 ∷ S.at s 2 1 ∷ S.at s 3 1 ∷ S.at s 0 1 ∷
-    S.at s 1 2 ∷ S.at s 2 2 ∷ S.at s 3 2 ∷ S.at s 0 2 ∷
-    S.at s 1 3 ∷ S.at s 2 3 ∷ S.at s 3 3 ∷ S.at s 0 3 ∷ []
+-- MixColumns of the column whose bytes are b
+unfoldable pub mixed : List ℕ → List ℕ
+mixed b = S.mixColumn (getD b 0 0) (getD b 1 0) (getD b 2 0) (getD b 3 0)
 
 -- the key's words k, n words more, and zeros to 240 bytes
 unfoldable pub filled : ℕ → List ℕ → ℕ → List ℕ

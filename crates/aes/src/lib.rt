@@ -4,13 +4,13 @@
 //   expand_key   the round keys of a key, made once
 //   cipher       a block under round keys
 //   xored        the exclusive or of two blocks
-// A state's 16 bytes are worked on side by side, so that the compiler can keep them in one register: MixColumns adds whole states,
-// with each column turned.
+// A state is worked on as four numbers, its columns, so that one operation serves the four bytes of a column.
 ghost use mathlib.Core.Path.{_≡_};
-ghost use mathlib.Core.List.{List};
-ghost use Prim.Native.Nat.{ℕ, _+_, _-_, _*_, _≤_, _<_};
+ghost use mathlib.Core.List.{List, [], _∷_};
+ghost use Prim.Native.Nat.{ℕ, _+_, _-_, _*_, _/_, _%_, _≤_, _<_};
 ghost use lib.ListN.{length};
-ghost use Rattle.laws.specs.Lists.{splice};
+ghost use Rattle.laws.specs.Lists.{part, splice};
+ghost use Rattle.laws.specs.Bytes.{be4};
 ghost use Rattle.aes.specs.Aes as S;
 ghost use Rattle.aes.specs.Steps as C;
 
@@ -42,7 +42,7 @@ pub fn cipher(rounds: usize, w: &[u8], block: [u8; 16]) -> [u8; 16]
     ensures { λ r. ⌜ r ≡ S.cipher rounds (now (w .entry)) block ⌝ }
 {
     let t = sbox();
-    let mut s = add_round_key(block, w, 0);
+    let mut s = add_round_key(columns(&block), w, 0);
     let mut i: usize = 1;
     while i < rounds {
         let a = sub_shift(&t, s);
@@ -51,7 +51,7 @@ pub fn cipher(rounds: usize, w: &[u8], block: [u8; 16]) -> [u8; 16]
         i += 1;
     }
     let b = sub_shift(&t, s);
-    add_round_key(b, w, rounds)
+    bytes(add_round_key(b, w, rounds))
 }
 
 // The exclusive or of two blocks (4.1).
@@ -348,90 +348,131 @@ fn sub_byte(t: &[u8; 256], b: u8) -> u8
     t[b as usize]
 }
 
+// ---- a state as the numbers of its columns
+
+fn wide(x: u8) -> u32
+    ensures { λ r. ⌜ (r ≡ x) × (r < 256) ⌝ }
+{
+    x as u32
+}
+
+fn joined(a: u8, b: u8, c: u8, d: u8) -> u32
+    ensures { λ r. ⌜ be4 r ≡ a ∷ b ∷ c ∷ d ∷ [] ⌝ }
+{
+    wide(a) * 16777216 + wide(b) * 65536 + wide(c) * 256 + wide(d)
+}
+
+fn word_at(w: &[u8], at: usize) -> u32
+    requires { ⌜ at + 4 ≤ length (now w) ⌝ }
+    ensures { λ r. ⌜ be4 r ≡ part (now (w .entry)) at 4 ⌝ }
+{
+    joined(w[at], w[at + 1], w[at + 2], w[at + 3])
+}
+
+fn columns(b: &[u8; 16]) -> [u32; 4]
+    ensures { λ r. ⌜ C.bytesOf r ≡ now (b .entry) ⌝ }
+{
+    [word_at(b, 0), word_at(b, 4), word_at(b, 8), word_at(b, 12)]
+}
+
+fn bytes(s: [u32; 4]) -> [u8; 16]
+    ensures { λ r. ⌜ r ≡ C.bytesOf s ⌝ }
+{
+    let mut d = [0u8; 16];
+    buffer::put_u32(&mut d, 0, s[0]);
+    buffer::put_u32(&mut d, 4, s[1]);
+    buffer::put_u32(&mut d, 8, s[2]);
+    buffer::put_u32(&mut d, 12, s[3]);
+    d
+}
+
 // ---- 5.1: one round
 
-// SubBytes and ShiftRows.
-fn sub_shift(t: &[u8; 256], s: [u8; 16]) -> [u8; 16]
+// SubBytes and ShiftRows of one column: its bytes come from four columns, the first from a, the second from b, and so on.
+fn sub_column(t: &[u8; 256], a: u32, b: u32, c: u32, d: u32) -> u32
     requires { ⌜ now t ≡ S.SBOX ⌝ }
-    ensures { λ r. ⌜ r ≡ S.shiftRows (S.subBytes s) ⌝ }
+    ensures { λ r. ⌜ be4 r ≡ S.subByte (a / 16777216 % 256) ∷ S.subByte (b / 65536 % 256) ∷ S.subByte (c / 256 % 256) ∷ S.subByte (d % 256) ∷ [] ⌝ }
 {
-    let mut r = [0u8; 16];
-    let mut i: usize = 0;
-    while i < 16 {
-        r[i] = sub_byte(t, s[i * 5 % 16]);
-        i += 1;
-    }
-    r
+    joined(
+        sub_byte(t, (a / 16777216 % 256) as u8),
+        sub_byte(t, (b / 65536 % 256) as u8),
+        sub_byte(t, (c / 256 % 256) as u8),
+        sub_byte(t, (d % 256) as u8),
+    )
 }
 
-// Each byte times x.
-fn doubled(s: [u8; 16]) -> [u8; 16]
-    ensures { λ r. ⌜ r ≡ C.doubled s ⌝ }
+// SubBytes and ShiftRows.
+fn sub_shift(t: &[u8; 256], s: [u32; 4]) -> [u32; 4]
+    requires { ⌜ now t ≡ S.SBOX ⌝ }
+    ensures { λ r. ⌜ C.bytesOf r ≡ S.shiftRows (S.subBytes (C.bytesOf s)) ⌝ }
 {
-    let mut r = [0u8; 16];
-    let mut i: usize = 0;
-    while i < 16 {
-        r[i] = xtime(s[i]);
-        i += 1;
-    }
-    r
-}
-
-// Each column turned by one row.
-fn turned(s: [u8; 16]) -> [u8; 16]
-    ensures { λ r. ⌜ r ≡ C.turned s ⌝ }
-{
+    let a = s[0];
+    let b = s[1];
+    let c = s[2];
+    let d = s[3];
     [
-        s[1],
-        s[2],
-        s[3],
-        s[0],
-        s[5],
-        s[6],
-        s[7],
-        s[4],
-        s[9],
-        s[10],
-        s[11],
-        s[8],
-        s[13],
-        s[14],
-        s[15],
-        s[12],
+        sub_column(t, a, b, c, d),
+        sub_column(t, b, c, d, a),
+        sub_column(t, c, d, a, b),
+        sub_column(t, d, a, b, c),
     ]
 }
 
-fn mix_columns(s: [u8; 16]) -> [u8; 16]
-    ensures { λ r. ⌜ r ≡ S.mixColumns s ⌝ }
+// The column x with its first byte moved to the end.
+fn turned(x: u32) -> u32
+    ensures { λ r. ⌜ be4 r ≡ S.rotWord (be4 x) ⌝ }
 {
-    let a = turned(s);
-    let b = turned(a);
-    let c = turned(b);
-    let x = doubled(s);
-    let y = turned(x);
-    xored(xored(xored(x, xored(a, y)), b), c)
+    (x % 16777216) * 256 + x / 16777216
+}
+
+// Each byte of the column x times x (4.2), the four side by side.
+fn doubled(x: u32) -> u32
+    ensures { λ r. ⌜ be4 r ≡ C.doubled (be4 x) ⌝ }
+{
+    ((x & 0x7f7f7f7f) * 2) ^ ((x / 128 & 0x01010101) * 27)
+}
+
+// MixColumns of one column: twice each byte, three times the next, and the other two.
+fn mix_column(x: u32) -> u32
+    ensures { λ r. ⌜ be4 r ≡ C.mixed (be4 x) ⌝ }
+{
+    let y = doubled(x);
+    let b = turned(x ^ y);
+    let c = turned(turned(x));
+    let d = turned(c);
+    y ^ b ^ c ^ d
+}
+
+fn mix_columns(s: [u32; 4]) -> [u32; 4]
+    ensures { λ r. ⌜ C.bytesOf r ≡ S.mixColumns (C.bytesOf s) ⌝ }
+{
+    [
+        mix_column(s[0]),
+        mix_column(s[1]),
+        mix_column(s[2]),
+        mix_column(s[3]),
+    ]
 }
 
 // The key of round n, added.
-fn add_round_key(s: [u8; 16], w: &[u8], n: usize) -> [u8; 16]
+fn add_round_key(s: [u32; 4], w: &[u8], n: usize) -> [u32; 4]
     requires { ⌜ 16 * n + 16 ≤ length (now w) ⌝ }
-    ensures { λ r. ⌜ r ≡ S.addRoundKey s (now (w .entry)) n ⌝ }
+    ensures { λ r. ⌜ C.bytesOf r ≡ S.addRoundKey (C.bytesOf s) (now (w .entry)) n ⌝ }
 {
     let at = 16 * n;
-    let mut r = [0u8; 16];
-    let mut i: usize = 0;
-    while i < 16 {
-        r[i] = s[i] ^ w[at + i];
-        i += 1;
-    }
-    r
+    [
+        s[0] ^ word_at(w, at),
+        s[1] ^ word_at(w, at + 4),
+        s[2] ^ word_at(w, at + 8),
+        s[3] ^ word_at(w, at + 12),
+    ]
 }
 
 // ---- 5.2: the round keys
 
 // Nk: how many words of a key of n bytes count.
 fn words_of(n: usize) -> usize
-    ensures { λ r. ⌜ r ≡ S.nkOf n ⌝ }
+    ensures { λ r. ⌜ (r ≡ S.nkOf n) × ((4 ≤ r) × (r ≤ 8)) ⌝ }
 {
     if n < 24 {
         return 4;

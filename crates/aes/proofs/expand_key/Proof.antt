@@ -8,16 +8,9 @@ use native.Mathlib.Omega.{arith}
 use lib.ListN.{length}
 use Rattle.aes.specs.Aes as S
 use Rattle.aes.specs.Steps as C
-use Rattle.aes.proofs.Lengths.{nk-range}
 use Rattle.aes.proofs.Keys.{grown, all-words}
 use Rattle.aes.proofs.expand_key.Statement.{statement}
 use Rattle.aes.proofs.expand_key.Tie as tie
-use Rattle.aes.proofs.expand_key.Reads as reads
-use Rattle.aes.proofs.expand_key.Lts as lts
-use Rattle.aes.proofs.lay_key.Reads as lay-key-reads
-use Rattle.aes.proofs.next_word.Reads as next-word-reads
-use Rattle.aes.proofs.sbox.Reads as sbox-reads
-use Rattle.aes.proofs.words_of.Reads as words-of-reads
 
 abbrev Inv-loop : tie.InvT-loop
 Inv-loop key w₀ nk t i₀ w i = (nk ≤ i) × ((i ≤ 4 * (nk + 7)) × ((length w ≡ 240) × (w ≡ C.filled nk (S.keyBytes key) (i - nk))))
@@ -25,71 +18,30 @@ Inv-loop key w₀ nk t i₀ w i = (nk ≤ i) × ((i ≤ 4 * (nk + 7)) × ((lengt
 abbrev μ-loop : tie.MeasureT-loop
 μ-loop key w₀ nk t i₀ w i = 4 * (nk + 7) - i
 
-words-of-requires : tie.Need-words-of-requires Inv-loop μ-loop
-words-of-requires c κs = search needs
-
-sbox-requires : tie.Need-sbox-requires Inv-loop μ-loop
-sbox-requires c κs = search needs
-
 lay-key-requires : tie.Need-lay-key-requires Inv-loop μ-loop
 lay-key-requires c κs = search needs
 
 loop-holds : tie.Need-loop-holds Inv-loop μ-loop
 loop-holds c =
     let n = c .before .before .before .before .before in
-    let r = nk-range (length (now (n .before .before .before .args .key))) in
-    let e = n .words-of .ensures in
     let l = c .before .before .lay-key in
     let d : 0 ≡ n .words-of .result - n .words-of .result = omega arith in
     (omega arith, (omega arith, (search needs, l .ensures ∙ ap (C.filled (n .words-of .result) (S.keyBytes (now (n .before .before .before .args .key)))) d)))
 
-add-loop : tie.Need-add-loop Inv-loop μ-loop
-add-loop c =
-    let n = c .before .before .before .before .before .before in
-    let r = nk-range (length (now (n .before .before .before .args .key))) in
-    let e = n .words-of .ensures in
-    search needs
-
-mul-loop : tie.Need-mul-loop Inv-loop μ-loop
-mul-loop c =
-    let n = c .before .before .before .before .before .before in
-    let r = nk-range (length (now (n .before .before .before .args .key))) in
-    let e = n .words-of .ensures in
-    search needs
-
 next-word-requires : tie.Need-next-word-requires Inv-loop μ-loop
-next-word-requires c κs =
-    let n = c .before .before .before .before .before .before .before .before .before in
-    let r = nk-range (length (now (n .before .before .before .args .key))) in
-    let e = n .words-of .ensures in
-    (c .before .before .before .before .before .before .before .before .sbox .ensures, search needs)
-
-add-i : tie.Need-add-i Inv-loop μ-loop
-add-i c =
-    let n = c .before .before .before .before .before .before .before .before .before .before .before .before in
-    let r = nk-range (length (now (n .before .before .before .args .key))) in
-    let e = n .words-of .ensures in
-    search needs
-
-loop-less : tie.Need-loop-less Inv-loop μ-loop
-loop-less c = omega arith
+next-word-requires c κs = (c .before .before .before .before .before .before .before .before .sbox .ensures, search needs)
 
 loop-again : tie.Need-loop-again Inv-loop μ-loop
 loop-again c =
     let n = c .before .before .before .before .before .before .before .before .before .before .before .before in
-    let r = nk-range (length (now (n .before .before .before .args .key))) in
-    let e = n .words-of .ensures in
     let l = c .before .before .before .before .before .before .loop in
-    (omega arith, (omega arith, (search needs, grown (now (n .before .before .before .args .key)) (l .w) _ (n .words-of .result) (l .i) e (l .inv .0) (l .inv .1 .1 .1) (c .before .before .next-word .ensures))))
-
-same-length : tie.Need-same-length Inv-loop μ-loop
-same-length c = search needs
+    (omega arith, (omega arith, (search needs, grown (now (n .before .before .before .args .key)) (l .w) _ (n .words-of .result) (l .i) (n .words-of .ensures .0) (l .inv .0) (l .inv .1 .1 .1) (c .before .before .next-word .ensures))))
 
 returns : tie.Need-returns Inv-loop μ-loop
 returns c =
     let n = c .before .before .before .before .before .before .before in
     let l = c .before .loop in
-    all-words (now (n .before .before .before .args .key)) (l .w) (n .words-of .result) (l .i) (n .words-of .ensures) (l .inv .1 .0) (c .loop-test .left) (l .inv .1 .1 .1)
+    all-words (now (n .before .before .before .args .key)) (l .w) (n .words-of .result) (l .i) (n .words-of .ensures .0) (l .inv .1 .0) (c .loop-test .left) (l .inv .1 .1 .1)
 
 pub expand-key-spec : {M : Type 1} → statement M
 expand-key-spec =
@@ -97,15 +49,11 @@ expand-key-spec =
     (tie.spec
     Inv-loop
     μ-loop
-    words-of-requires
-    sbox-requires
-    lay-key-requires
+    (λ c κs. search needs) (λ c κs. search needs) lay-key-requires
     loop-holds
-    add-loop
-    mul-loop
+    (λ c. search needs) (λ c. search needs)
     next-word-requires
-    add-i
-    loop-less
+    (λ c. search needs) (λ c. omega arith)
     loop-again
-    same-length
+    (λ c. search needs)
     returns)

@@ -10,8 +10,6 @@ use Rattle.aes.proofs.Lengths.{nk-range}
 use Rattle.aes.proofs.Keys.{laid}
 use Rattle.aes.proofs.lay_key.Statement.{statement}
 use Rattle.aes.proofs.lay_key.Tie as tie
-use Rattle.aes.proofs.lay_key.Reads as reads
-use Rattle.aes.proofs.lay_key.Lts as lts
 
 mul-if1 : tie.Need-mul-if1
 mul-if1 c =

@@ -4,7 +4,6 @@ use mathlib.Core.Path.{ap, _∙_}
 use mathlib.Core.List.{List}
 use Prim.Native.Nat.{ℕ, _<_}
 use borrow.Author.Needs.{needs}
-use native.Mathlib.Omega.{arith}
 use lib.ListN.{getD}
 use Rattle.aes.proofs.Table.{entry-rule}
 use Rattle.aes.proofs.sub_byte.Statement.{statement}

@@ -1,7 +1,6 @@
 -- `aes::temp` meets its contract, branch by branch.
 -- Assumes nothing.
 use borrow.Author.Needs.{needs}
-use native.Mathlib.Omega.{arith}
 use Rattle.aes.proofs.Keys.{quotient-positive, first-case, second-case, other-case, short-case}
 use Rattle.aes.proofs.temp.Statement.{statement}
 use Rattle.aes.proofs.temp.Tie as tie

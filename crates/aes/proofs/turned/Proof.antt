@@ -1,17 +1,16 @@
--- `aes::turned` meets its contract: the definition is the code's own.
+-- `aes::turned` meets its contract.
 -- Assumes nothing.
-use mathlib.Core.Path.{refl}
+use Prim.Native.Nat.{_^_, _<_}
+use Rattle.aes.proofs.States.{turned-is}
 use borrow.Author.Needs.{needs}
-use Rattle.aes.specs.Aes as S
-use Rattle.aes.specs.Steps as C
 use Rattle.aes.proofs.turned.Statement.{statement}
 use Rattle.aes.proofs.turned.Tie as tie
 
+word : (c : tie.Start) → c .args .x < 2 ^ 32
+word c = search needs
+
 returns : tie.Need-returns
-unfolding C.turned S.at
-returns c = refl
+returns c = turned-is (c .args .x) (word c)
 
 pub turned-spec : {M : Type 1} → statement M
-turned-spec =
-    tie.close
-    (tie.spec (λ c. search needs) (λ c. search needs) (λ c. search needs) (λ c. search needs) (λ c. search needs) (λ c. search needs) (λ c. search needs) (λ c. search needs) (λ c. search needs) (λ c. search needs) (λ c. search needs) (λ c. search needs) (λ c. search needs) (λ c. search needs) (λ c. search needs) (λ c. search needs) returns)
+turned-spec = tie.close (tie.spec (λ c. search needs) (λ c. search needs) returns)
