@@ -90,7 +90,9 @@ impl Key {
         let whole = message.len().saturating_sub(1) / 16 * 16;
         let (blocks, rest) = message.split_at(whole);
         let mut last = if rest.len() == 16 { self.k1 } else { self.k2 };
-        last.iter_mut().zip(rest).for_each(|(byte, own)| *byte ^= own);
+        last.iter_mut()
+            .zip(rest)
+            .for_each(|(byte, own)| *byte ^= own);
         if rest.len() < 16 {
             last[rest.len()] ^= 0x80;
         }

@@ -110,12 +110,12 @@ const fn counting<const N: usize>(first: u8) -> [u8; N] {
 pub const PROVED: Contender = Contender {
     name: "proved",
     run: |row, n| match row.kind {
-        Kind::Block => mac::AesKey::new(row.key()).map_or([0; 16], |key| {
-            row.blocks(n, |block| key.encrypt(block))
-        }),
+        Kind::Block => mac::AesKey::new(row.key())
+            .map_or([0; 16], |key| row.blocks(n, |block| key.encrypt(block))),
         Kind::TagNewKey => row.tags_new(n, |key, m| mac::cmac(key, m).unwrap_or_default()),
-        Kind::TagKeptKey => mac::CmacKey::new(row.key())
-            .map_or([0; 16], |kept| row.tags_kept(n, |m| kept.mac(m))),
+        Kind::TagKeptKey => {
+            mac::CmacKey::new(row.key()).map_or([0; 16], |kept| row.tags_kept(n, |m| kept.mac(m)))
+        }
     },
 };
 
@@ -123,9 +123,8 @@ pub const PROVED: Contender = Contender {
 pub const PORTABLE: Contender = Contender {
     name: "portable",
     run: |row, n| match row.kind {
-        Kind::Block => portable_aes::AesKey::new(row.key()).map_or([0; 16], |key| {
-            row.blocks(n, |block| key.encrypt(block))
-        }),
+        Kind::Block => portable_aes::AesKey::new(row.key())
+            .map_or([0; 16], |key| row.blocks(n, |block| key.encrypt(block))),
         Kind::TagNewKey => row.tags_new(n, |key, m| portable_aes::cmac(key, m).unwrap_or_default()),
         Kind::TagKeptKey => portable_aes::CmacKey::new(row.key())
             .map_or([0; 16], |kept| row.tags_kept(n, |m| kept.mac(m))),
@@ -184,6 +183,70 @@ fn times(slices: usize, turns: u64) {
                 told.best_ratio
             );
         }
+    }
+}
+
+/// Prints a Markdown table of the exports' stack over messages of 0 to 200 bytes and keys of 16, 24 and 32.
+fn stacks() {
+    let bytes = [7u8; 273];
+    let mut out = [0u8; 273];
+    let (p, o) = (bytes.as_ptr() as usize, out.as_mut_ptr() as usize);
+    let seven = |rounds: usize| {
+        let (mut block, keys) = ([7; 16], [7; 240]);
+        stack::of_call(&mut block, |block| {
+            let mut out = [0; 16];
+            // SAFETY: each pointer is of a live slice and has its length beside it.
+            unsafe {
+                raw::osnma_aes_encrypt(
+                    rounds,
+                    keys.as_ptr(),
+                    keys.len(),
+                    block.as_ptr(),
+                    block.len(),
+                    out.as_mut_ptr(),
+                    out.len(),
+                )
+            };
+        })
+    };
+    type Arguments<'a> = &'a dyn Fn(usize, usize) -> [usize; 6];
+    let exports: [(&str, *const (), Arguments<'_>); 4] = [
+        (
+            "osnma_aes_expand",
+            raw::osnma_aes_expand as *const (),
+            &|k, _| [p, k, o, 240, 0, 0],
+        ),
+        ("osnma_cmac", raw::osnma_cmac as *const (), &|k, m| {
+            [p, k, p, m, o, 16]
+        }),
+        (
+            "osnma_cmac_key",
+            raw::osnma_cmac_key as *const (),
+            &|k, _| [p, k, o, 273, 0, 0],
+        ),
+        (
+            "osnma_cmac_with",
+            raw::osnma_cmac_with as *const (),
+            &|_, m| [p, 273, p, m, o, 16],
+        ),
+    ];
+    println!("| Export | Stack, bytes |");
+    println!("|---|---|");
+    println!(
+        "| `osnma_aes_encrypt` (with two frames of Rust) | {} |",
+        [10, 12, 14].map(seven).into_iter().fold(0, usize::max)
+    );
+    for (name, function, arguments) in exports {
+        let mut deepest = 0;
+        for key in [16, 24, 32] {
+            for message in 0..=200 {
+                // SAFETY: pointers are of live arrays that have the lengths given, and the export
+                // takes these arguments.
+                let depth = unsafe { stack::of_function(function, arguments(key, message)) };
+                deepest = deepest.max(depth);
+            }
+        }
+        println!("| `{name}` | {deepest} |");
     }
 }
 

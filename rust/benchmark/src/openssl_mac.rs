@@ -92,15 +92,8 @@ fn tags(row: Row, n: u64) -> Block {
     // freed; keys and messages are lent with their lengths.
     unsafe {
         let context = CMAC_CTX_new();
-        let init = |key: &[u8]| {
-            CMAC_Init(
-                context,
-                key.as_ptr().cast(),
-                key.len(),
-                cipher,
-                null_mut(),
-            )
-        };
+        let init =
+            |key: &[u8]| CMAC_Init(context, key.as_ptr().cast(), key.len(), cipher, null_mut());
         let last = if row.kind == Kind::TagNewKey {
             row.tags_new(n, |key, message| {
                 init(key);
