@@ -191,30 +191,17 @@ fn stacks() {
     let bytes = [7u8; 273];
     let mut out = [0u8; 273];
     let (p, o) = (bytes.as_ptr() as usize, out.as_mut_ptr() as usize);
-    let seven = |rounds: usize| {
-        let (mut block, keys) = ([7; 16], [7; 240]);
-        stack::of_call(&mut block, |block| {
-            let mut out = [0; 16];
-            // SAFETY: each pointer is of a live slice and has its length beside it.
-            unsafe {
-                raw::osnma_aes_encrypt(
-                    rounds,
-                    keys.as_ptr(),
-                    keys.len(),
-                    block.as_ptr(),
-                    block.len(),
-                    out.as_mut_ptr(),
-                    out.len(),
-                )
-            };
-        })
-    };
     type Arguments<'a> = &'a dyn Fn(usize, usize) -> [usize; 6];
-    let exports: [(&str, *const (), Arguments<'_>); 4] = [
+    let exports: [(&str, *const (), Arguments<'_>); 5] = [
         (
             "osnma_aes_expand",
             raw::osnma_aes_expand as *const (),
             &|k, _| [p, k, o, 240, 0, 0],
+        ),
+        (
+            "osnma_aes_encrypt",
+            raw::osnma_aes_encrypt as *const (),
+            &|k, _| [k, p, 240, p, o, 16],
         ),
         ("osnma_cmac", raw::osnma_cmac as *const (), &|k, m| {
             [p, k, p, m, o, 16]
@@ -222,20 +209,16 @@ fn stacks() {
         (
             "osnma_cmac_key",
             raw::osnma_cmac_key as *const (),
-            &|k, _| [p, k, o, 273, 0, 0],
+            &|k, _| [p, k, o, 0, 0, 0],
         ),
         (
             "osnma_cmac_with",
             raw::osnma_cmac_with as *const (),
-            &|_, m| [p, 273, p, m, o, 16],
+            &|_, m| [p, p, m, o, 16, 0],
         ),
     ];
     println!("| Export | Stack, bytes |");
     println!("|---|---|");
-    println!(
-        "| `osnma_aes_encrypt` (with two frames of Rust) | {} |",
-        [10, 12, 14].map(seven).into_iter().fold(0, usize::max)
-    );
     for (name, function, arguments) in exports {
         let mut deepest = 0;
         for key in [16, 24, 32] {

@@ -42,14 +42,18 @@ extern "C" {
     ) -> u32;
     pub fn osnma_compress(h: *mut [u32; 8], block: *const [u8; 64]);
 
-    // crates/test_mac: total, 1 where a length is not as it must be
-    pub fn osnma_aes_expand(key: *const u8, key_count: usize, w: *mut u8, w_count: usize) -> u32;
+    // crates/test_mac: total, 1 where a length is not as it must be; n is the length of the key that w is of
+    pub fn osnma_aes_expand(
+        key: *const u8,
+        key_count: usize,
+        out: *mut u8,
+        out_count: usize,
+    ) -> u32;
     pub fn osnma_aes_encrypt(
-        rounds: usize,
+        n: usize,
         w: *const u8,
         w_count: usize,
-        block: *const u8,
-        block_count: usize,
+        block: *const [u8; 16],
         out: *mut u8,
         out_count: usize,
     ) -> u32;
@@ -61,20 +65,15 @@ extern "C" {
         out: *mut u8,
         out_count: usize,
     ) -> u32;
-    pub fn osnma_cmac_key(
-        key: *const u8,
-        key_count: usize,
-        kept: *mut u8,
-        kept_count: usize,
-    ) -> u32;
+    pub fn osnma_cmac_key(key: *const u8, key_count: usize, kept: *mut [u8; 273]) -> u32;
     pub fn osnma_cmac_with(
-        kept: *const u8,
-        kept_count: usize,
+        kept: *const [u8; 273],
         m: *const u8,
         m_count: usize,
         out: *mut u8,
         out_count: usize,
     ) -> u32;
+    pub fn osnma_cmac_truncate(code: *mut [u8; 16], n: usize);
 
     // crates/test_leaves, of_times
     pub fn leaf_time_valid(g: u32) -> u32;

@@ -97,11 +97,27 @@ fn keys_of_other_lengths() {
     }
 }
 
+// Every number of bits, and more than a code has.
+#[test]
+fn truncated_codes() {
+    let mut rng = Rng::new(12);
+    for n in (0..=140).chain([1 << 20, usize::MAX]) {
+        let code: [u8; 16] = rng.array();
+        let kept = match n {
+            0 => 0,
+            1..128 => u128::MAX << (128 - n),
+            _ => u128::MAX,
+        };
+        let right = u128::from_be_bytes(code) & kept;
+        assert_eq!(mac::truncate(code, n), right.to_be_bytes(), "{n} bits");
+    }
+}
+
 // A wrong length is answered 1, and what would be written stays.
 #[test]
 fn wrong_lengths() {
     let bytes = [7; 300];
-    let p = bytes.as_ptr();
+    let (p, block, kept) = (bytes.as_ptr(), &[7; 16], &[7; 273]);
     for wrong in [0, 1, 15, 17, 239, 241, 272, 274, 300] {
         let mut out = [9; 300];
         let o = out.as_mut_ptr();
@@ -109,14 +125,17 @@ fn wrong_lengths() {
         let answers = unsafe {
             [
                 raw::osnma_aes_expand(p, 16, o, wrong),
-                raw::osnma_aes_encrypt(10, p, 240, p, 16, o, wrong),
+                raw::osnma_aes_expand(p, wrong, o, 240),
+                raw::osnma_aes_encrypt(16, p, 240, block, o, wrong),
+                raw::osnma_aes_encrypt(16, p, wrong, block, o, 16),
+                raw::osnma_aes_encrypt(wrong, p, 240, block, o, 16),
                 raw::osnma_cmac(p, 16, p, 20, o, wrong),
-                raw::osnma_cmac_key(p, 16, o, wrong),
-                raw::osnma_cmac_with(p, wrong, p, 20, o, 16),
-                raw::osnma_cmac_with(p, 273, p, 20, o, wrong),
+                raw::osnma_cmac(p, wrong, p, 20, o, 16),
+                raw::osnma_cmac_key(p, wrong, o.cast()),
+                raw::osnma_cmac_with(kept, p, 20, o, wrong),
             ]
         };
-        assert_eq!(answers, [1; 6], "{wrong}");
+        assert_eq!(answers, [1; 9], "{wrong}");
         assert_eq!(out, [9; 300], "{wrong}");
     }
 }
