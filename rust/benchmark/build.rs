@@ -5,17 +5,20 @@ use std::path::{Path, PathBuf};
 use std::process::{Command, Stdio};
 
 const OPENSSL: &str = "
+#include <openssl/cmac.h>
 #include <openssl/evp.h>
 #include <openssl/hmac.h>
 #include <openssl/sha.h>
 _Static_assert(sizeof(SHA256_CTX) == 112, \"the context in src/openssl.rs\");
-int main(void) { return HMAC_CTX_new() == 0 || EVP_sha256() == 0; }
+int main(void) { return HMAC_CTX_new() == 0 || EVP_sha256() == 0 || CMAC_CTX_new() == 0; }
 ";
 
 const BEARSSL: &str = "
 #include <bearssl.h>
 _Static_assert(sizeof(br_hmac_key_context) <= 1024, \"the contexts in src/bearssl.rs\");
 _Static_assert(sizeof(br_hmac_context) <= 1024, \"the contexts in src/bearssl.rs\");
+_Static_assert(sizeof(br_aes_ct64_ctrcbc_keys) <= 512, \"the contexts in src/bearssl_mac.rs\");
+_Static_assert(sizeof(br_aes_big_ctrcbc_keys) <= 512, \"the contexts in src/bearssl_mac.rs\");
 void br_sha2small_round(const unsigned char *block, uint32_t *value);
 int main(void) { uint32_t v[8] = {0}; unsigned char b[64] = {0}; br_sha2small_round(b, v); return 0; }
 ";

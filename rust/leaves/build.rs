@@ -3,7 +3,7 @@
 use std::path::Path;
 use std::process::exit;
 
-const LIBRARIES: [&str; 2] = ["test_hash", "test_leaves"];
+const LIBRARIES: [&str; 3] = ["test_hash", "test_leaves", "test_mac"];
 
 fn main() {
     let folder = Path::new(env!("CARGO_MANIFEST_DIR")).join("../../target/staticlib");

@@ -3,12 +3,17 @@
 
 #[cfg(has_bearssl)]
 mod bearssl;
+#[cfg(has_bearssl)]
+mod bearssl_mac;
 mod call_stacks;
 mod calls;
 mod chain;
 mod hash;
+mod mac;
 #[cfg(has_openssl)]
 mod openssl;
+#[cfg(has_openssl)]
+mod openssl_mac;
 mod replay;
 mod sky;
 mod stack;
@@ -20,6 +25,7 @@ use std::process::ExitCode;
 fn command(words: &[&str]) -> Option<Result<(), String>> {
     match words {
         ["hash", rest @ ..] => hash::command(rest),
+        ["mac", rest @ ..] => mac::command(rest),
         ["chain", rest @ ..] => chain::command(rest),
         ["tag", rest @ ..] => tag::command(rest),
         ["calls", rest @ ..] => calls::command(rest),
@@ -40,6 +46,7 @@ fn main() -> ExitCode {
         None => {
             for usage in [
                 hash::USAGE,
+                mac::USAGE,
                 chain::USAGE,
                 tag::USAGE,
                 calls::USAGE,

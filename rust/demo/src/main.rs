@@ -13,7 +13,7 @@ use signal::scenario::{find, SEED};
 use std::process::ExitCode;
 
 fn published_values() -> bool {
-    println!("1. The proved library (libtest_hash.a), at published values");
+    println!("1. The proved libraries (libtest_hash.a, libtest_mac.a), at published values");
     println!();
     let mut all = true;
     for check in published::checks() {

@@ -1,10 +1,12 @@
-//! Published values, computed anew by the proved library: SHA-256, HMAC, and those of 000's
+//! Published values, computed anew by the proved library: SHA-256, HMAC, AES, CMAC, and those of 000's
 //! Annex A that are hashes. Where our copy of 000 prints a value wrongly, it stands here repaired
 //! (docs/DECISIONS.md).
 
 use leaves::hash::{hmac, sha256, sha256_of_two, HmacKey};
+use leaves::mac::{cmac, AesKey, CmacKey};
 use leaves::vectors::{
-    hex, Coded, Hashed, FIPS_180_4, FIPS_198_1, NIST_ADDITIONAL, NIST_SHORT, RFC_4231,
+    hex, Coded, Enciphered, Hashed, Keyed, FIPS_180_4, FIPS_197, FIPS_198_1, NIST_ADDITIONAL,
+    NIST_SHORT, RFC_4231, SP_800_38A, SP_800_38B, SP_800_38_MESSAGE,
 };
 
 /// How many of some published values came out right.
@@ -54,6 +56,23 @@ fn codes(key: &[u8], message: &[u8], code: &str) -> bool {
     [hmac(key, message), kept]
         .iter()
         .all(|found| found.is_ok_and(|found| hex(&found).starts_with(code)))
+}
+
+/// Whether the block is this one under the key.
+fn enciphers(v: &Enciphered) -> bool {
+    let block = bytes(v.block).try_into().ok();
+    let found = AesKey::new(&bytes(v.key)).zip(block);
+    found.is_some_and(|(key, block)| hex(&key.encrypt(&block)) == v.cipher)
+}
+
+/// Whether the message has this CMAC, under a key that is new and under one kept.
+fn has_cmac(v: &Keyed) -> bool {
+    let (key, message) = (bytes(v.key), bytes(SP_800_38_MESSAGE));
+    let message = message.get(..v.len).unwrap_or_default();
+    let kept = CmacKey::new(&key).map(|kept| kept.mac(message));
+    [cmac(&key, message), kept]
+        .iter()
+        .all(|found| found.is_some_and(|found| hex(&found) == v.code))
 }
 
 fn digest_list(what: &'static str, list: &[Hashed]) -> Check {
@@ -139,6 +158,15 @@ pub fn checks() -> Vec<Check> {
         digest_list("SHA-256, NIST's short messages", NIST_SHORT),
         code_list("HMAC, RFC 4231", RFC_4231),
         code_list("HMAC, NIST's examples (FIPS 198-1)", FIPS_198_1),
+        Check::new("AES, FIPS 197", FIPS_197.iter().map(enciphers)),
+        Check::new(
+            "AES, NIST's examples (SP 800-38A)",
+            SP_800_38A.iter().map(enciphers),
+        ),
+        Check::new(
+            "CMAC, RFC 4493 and NIST's examples (SP 800-38B)",
+            SP_800_38B.iter().map(has_cmac),
+        ),
         Check::new(
             "OSNMA Annex A.1.3: key 2 to key 1 to the root",
             KEY_STEPS.map(|(message, digest)| hashes(&bytes(message), digest)),
@@ -170,6 +198,12 @@ mod tests {
         let mut wrong = RFC_4231[4];
         wrong.code = RFC_4231[3].code;
         assert!(!code_list("", &[wrong]).ok());
+        let mut wrong = FIPS_197[1];
+        wrong.cipher = FIPS_197[0].cipher;
+        assert!(!enciphers(&wrong));
+        let mut wrong = SP_800_38B[1];
+        wrong.len += 1;
+        assert!(!has_cmac(&wrong));
         assert!(!Check::new("nothing checked", []).ok());
     }
 }

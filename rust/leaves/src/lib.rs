@@ -2,7 +2,8 @@
 //!
 //! A module is called as the crate whose functions it has. Each call tests what its leaf requires, and
 //! gives `None` where that does not hold; lengths hold by the regions' types. What a leaf gives is said by
-//! its contract in crates/test_leaves, and for the hashes in crates/test_hash.
+//! its contract in crates/test_leaves, for the hashes in crates/test_hash, and for AES and CMAC in
+//! crates/test_mac.
 
 #[doc(hidden)]
 pub mod raw;
@@ -12,6 +13,7 @@ pub mod chain;
 pub mod gather;
 pub mod hash;
 pub mod kroot;
+pub mod mac;
 pub mod mack;
 pub mod mack_keys;
 pub mod navdata;

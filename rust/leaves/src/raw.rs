@@ -1,4 +1,4 @@
-//! The exports of crates/test_hash and crates/test_leaves as they are. A slice is a pointer and a count of
+//! The exports of crates/test_hash, crates/test_mac and crates/test_leaves as they are. A slice is a pointer and a count of
 //! elements, an array a pointer alone.
 //!
 //! Safety, for all: each pointer is aligned and good for what it stands for, to read, and where it is
@@ -41,6 +41,39 @@ extern "C" {
         out_count: usize,
     ) -> u32;
     pub fn osnma_compress(h: *mut [u32; 8], block: *const [u8; 64]);
+
+    // crates/test_mac: total, 1 where a length is not as it must be; n is the length of the key that w is of
+    pub fn osnma_aes_expand(
+        key: *const u8,
+        key_count: usize,
+        out: *mut u8,
+        out_count: usize,
+    ) -> u32;
+    pub fn osnma_aes_encrypt(
+        n: usize,
+        w: *const u8,
+        w_count: usize,
+        block: *const [u8; 16],
+        out: *mut u8,
+        out_count: usize,
+    ) -> u32;
+    pub fn osnma_cmac(
+        key: *const u8,
+        key_count: usize,
+        m: *const u8,
+        m_count: usize,
+        out: *mut u8,
+        out_count: usize,
+    ) -> u32;
+    pub fn osnma_cmac_key(key: *const u8, key_count: usize, kept: *mut [u8; 273]) -> u32;
+    pub fn osnma_cmac_with(
+        kept: *const [u8; 273],
+        m: *const u8,
+        m_count: usize,
+        out: *mut u8,
+        out_count: usize,
+    ) -> u32;
+    pub fn osnma_cmac_truncate(code: *mut [u8; 16], n: usize);
 
     // crates/test_leaves, of_times
     pub fn leaf_time_valid(g: u32) -> u32;

@@ -1,4 +1,4 @@
-//! Published examples of SHA-256 and HMAC-SHA-256, as data.
+//! Published examples of SHA-256, HMAC-SHA-256, AES and CMAC, as data.
 
 /// Bytes of a published message or key.
 #[derive(Clone, Copy, Debug)]
@@ -40,6 +40,40 @@ pub struct Coded {
     pub message: Bytes,
     /// The first digits of the HMAC, in hexadecimal: as many as were published.
     pub code: &'static str,
+}
+
+/// A key, a block and the block under the key, in hexadecimal.
+#[derive(Clone, Copy, Debug)]
+pub struct Enciphered {
+    /// The key.
+    pub key: &'static str,
+    /// The block.
+    pub block: &'static str,
+    /// What AES makes of it.
+    pub cipher: &'static str,
+}
+
+/// A key, the first bytes of [`SP_800_38_MESSAGE`] and their CMAC, in hexadecimal.
+#[derive(Clone, Copy, Debug)]
+pub struct Keyed {
+    /// The key.
+    pub key: &'static str,
+    /// So many bytes of the message.
+    pub len: usize,
+    /// Their CMAC with AES.
+    pub code: &'static str,
+}
+
+/// The bytes of pairs of hexadecimal digits.
+pub fn unhex(text: &str) -> Vec<u8> {
+    let digits: Vec<u8> = text
+        .chars()
+        .filter_map(|digit| digit.to_digit(16).map(|value| value as u8))
+        .collect();
+    digits
+        .chunks_exact(2)
+        .map(|two| two[0] << 4 | two[1])
+        .collect()
 }
 
 /// Lower-case hexadecimal, as the lists here have it.
@@ -228,4 +262,128 @@ pub const FIPS_198_1: &[Coded] = &[
         b"Sample message for keylen<blocklen, with truncated tag",
         "27a8b157839efeac98df070b331d5936",
     ),
+];
+
+const KEY_128: &str = "2b7e151628aed2a6abf7158809cf4f3c";
+const KEY_192: &str = "8e73b0f7da0e6452c810f32b809079e562f8ead2522c6b7b";
+const KEY_256: &str = "603deb1015ca71be2b73aef0857d77811f352c073b6108d72d9810a30914dff4";
+const BLOCK: &str = "00112233445566778899aabbccddeeff";
+
+const fn enciphered(key: &'static str, block: &'static str, cipher: &'static str) -> Enciphered {
+    Enciphered { key, block, cipher }
+}
+
+const fn keyed(key: &'static str, len: usize, code: &'static str) -> Keyed {
+    Keyed { key, len, code }
+}
+
+/// FIPS 197: appendix B, and C.1 to C.3.
+pub const FIPS_197: &[Enciphered] = &[
+    enciphered(
+        KEY_128,
+        "3243f6a8885a308d313198a2e0370734",
+        "3925841d02dc09fbdc118597196a0b32",
+    ),
+    enciphered(
+        "000102030405060708090a0b0c0d0e0f",
+        BLOCK,
+        "69c4e0d86a7b0430d8cdb78070b4c55a",
+    ),
+    enciphered(
+        "000102030405060708090a0b0c0d0e0f1011121314151617",
+        BLOCK,
+        "dda97ca4864cdfe06eaf70a0ec0d7191",
+    ),
+    enciphered(
+        "000102030405060708090a0b0c0d0e0f101112131415161718191a1b1c1d1e1f",
+        BLOCK,
+        "8ea2b7ca516745bfeafc49904b496089",
+    ),
+];
+
+/// NIST SP 800-38A, F.1: single blocks under keys of 128, 192 and 256 bits.
+pub const SP_800_38A: &[Enciphered] = &[
+    enciphered(
+        KEY_128,
+        "6bc1bee22e409f96e93d7e117393172a",
+        "3ad77bb40d7a3660a89ecaf32466ef97",
+    ),
+    enciphered(
+        KEY_128,
+        "ae2d8a571e03ac9c9eb76fac45af8e51",
+        "f5d3d58503b9699de785895a96fdbaaf",
+    ),
+    enciphered(
+        KEY_128,
+        "30c81c46a35ce411e5fbc1191a0a52ef",
+        "43b1cd7f598ece23881b00e3ed030688",
+    ),
+    enciphered(
+        KEY_128,
+        "f69f2445df4f9b17ad2b417be66c3710",
+        "7b0c785e27e8ad3f8223207104725dd4",
+    ),
+    enciphered(
+        KEY_192,
+        "6bc1bee22e409f96e93d7e117393172a",
+        "bd334f1d6e45f25ff712a214571fa5cc",
+    ),
+    enciphered(
+        KEY_192,
+        "ae2d8a571e03ac9c9eb76fac45af8e51",
+        "974104846d0ad3ad7734ecb3ecee4eef",
+    ),
+    enciphered(
+        KEY_192,
+        "30c81c46a35ce411e5fbc1191a0a52ef",
+        "ef7afd2270e2e60adce0ba2face6444e",
+    ),
+    enciphered(
+        KEY_192,
+        "f69f2445df4f9b17ad2b417be66c3710",
+        "9a4b41ba738d6c72fb16691603c18e0e",
+    ),
+    enciphered(
+        KEY_256,
+        "6bc1bee22e409f96e93d7e117393172a",
+        "f3eed1bdb5d2a03c064b5a7e3db181f8",
+    ),
+    enciphered(
+        KEY_256,
+        "ae2d8a571e03ac9c9eb76fac45af8e51",
+        "591ccb10d410ed26dc5ba74a31362870",
+    ),
+    enciphered(
+        KEY_256,
+        "30c81c46a35ce411e5fbc1191a0a52ef",
+        "b6ed21b99ca6f4f9f153e7b1beafed1d",
+    ),
+    enciphered(
+        KEY_256,
+        "f69f2445df4f9b17ad2b417be66c3710",
+        "23304b7a39f9f3ff067d8d8f9e24ecc7",
+    ),
+];
+
+/// The message of RFC 4493 and of SP 800-38B's examples.
+pub const SP_800_38_MESSAGE: &str = "6bc1bee22e409f96e93d7e117393172aae2d8a571e03ac9c9eb76fac45af8e51\
+                                     30c81c46a35ce411e5fbc1191a0a52eff69f2445df4f9b17ad2b417be66c3710";
+
+/// RFC 4493, 4, and NIST's examples to SP 800-38B of both editions.
+pub const SP_800_38B: &[Keyed] = &[
+    keyed(KEY_128, 0, "bb1d6929e95937287fa37d129b756746"),
+    keyed(KEY_128, 16, "070a16b46b4d4144f79bdd9dd04a287c"),
+    keyed(KEY_128, 20, "7d85449ea6ea19c823a7bf78837dfade"),
+    keyed(KEY_128, 40, "dfa66747de9ae63030ca32611497c827"),
+    keyed(KEY_128, 64, "51f0bebf7e3b9d92fc49741779363cfe"),
+    keyed(KEY_192, 0, "d17ddf46adaacde531cac483de7a9367"),
+    keyed(KEY_192, 16, "9e99a7bf31e710900662f65e617c5184"),
+    keyed(KEY_192, 20, "3d75c194ed96070444a9fa7ec740ecf8"),
+    keyed(KEY_192, 40, "8a1de5be2eb31aad089a82e6ee908b0e"),
+    keyed(KEY_192, 64, "a1d5df0eed790f794d77589659f39a11"),
+    keyed(KEY_256, 0, "028962f61b7bf89efc6b551f4667d983"),
+    keyed(KEY_256, 16, "28a7023f452e8f82bd4bf28d8c37c35c"),
+    keyed(KEY_256, 20, "156727dc0878944a023c1fe03bad6d93"),
+    keyed(KEY_256, 40, "aaf3d8f1de5640c232f5b169b9c911e6"),
+    keyed(KEY_256, 64, "e1992190549f6ed5696a2c056c315410"),
 ];

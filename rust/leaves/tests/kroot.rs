@@ -17,7 +17,8 @@ fn any_dsm(rng: &mut Rng, maclt: u8) -> Vec<u8> {
     dsm[1] = if rng.once_in(8) {
         rng.number() as u8
     } else {
-        (rng.below(4) << 6 | rng.range(1, 3) << 4) as u8
+        // MF 0, or one time in three 1.
+        (rng.below(4) << 6 | rng.range(1, 3) << 4 | u64::from(rng.once_in(3))) as u8
     };
     if !rng.once_in(8) {
         dsm[2] = (rng.below(10) << 4 | rng.below(11)) as u8;

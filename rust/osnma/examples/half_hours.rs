@@ -1,6 +1,7 @@
-//! Half hours of the bench signal with random damage, into the core and the second receiver:
-//! `half_hours COUNT SEED`. Records are left out, repeated, exchanged, or changed in a bit or in their
-//! satellite. Stops at the first difference; prints how often each answer came for each call.
+//! Half hours of the bench signal, some of twelve minutes and with CMAC-AES, with random damage, into the
+//! core and the second receiver: `half_hours COUNT SEED`. Records are left out, repeated, exchanged, or
+//! changed in a bit or in their satellite. Stops at the first difference; prints how often each answer came
+//! for each call.
 
 #[path = "../tests/common/mod.rs"]
 mod common;
@@ -56,7 +57,13 @@ fn main() -> ExitCode {
     let (began, mut tally) = (Instant::now(), Tally::default());
     for at in 0..count {
         let mut rng = Rng::new(seed ^ at << 32);
-        let name = if at % 8 == 0 { "full_sky" } else { "fitter" };
+        let name = match at % 8 {
+            0 => "full_sky",
+            1 => "cmac_128",
+            2 => "cmac_192",
+            3 => "cmac_256",
+            _ => "fitter",
+        };
         let run = find(name).expect("a scenario").run(rng.number());
         let rate = *rng.pick(&[10, 50, 200, 1000]);
         let input = damaged(&run.bytes, &mut rng, rate);
