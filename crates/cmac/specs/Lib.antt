@@ -1,0 +1,2 @@
+-- What the contracts of `cmac` cite.
+pub mod Cmac
