@@ -1,4 +1,5 @@
--- SHA-256, HMAC and AES at published examples.
+-- SHA-256, HMAC, AES and CMAC at published examples.
 pub mod Sha
 pub mod Mac
 pub mod Aes
+pub mod Cmac
