@@ -2,6 +2,7 @@
 -- Assumes nothing.
 use mathlib.Core.Path.{_≡_, refl, ap, _∙_}
 use mathlib.Core.List.{List, [], _∷_, _++_, append-assoc, append-nil}
+use mathlib.Core.Bool.{Bool, true, false, cond}
 use mathlib.Core.Logic.{⊎-elim}
 use Prim.Native.Nat.{ℕ, suc, _+_, _-_, _*_, _≤_, _<_}
 use native.Mathlib.Nat.{le-refl}
@@ -11,7 +12,6 @@ use lib.ListN.{length, take, drop, set, replicate, length-append, length-drop}
 use lib.Seq.{set-at, take-all}
 use Rattle.laws.specs.Lists.{part, splice}
 use Rattle.laws.proofs.Splice.{below?, length-splice, splice-one, splice-after, splice-start}
-use Rattle.aes.specs.Aes as A
 use Rattle.cmac.specs.Cmac as S
 use Rattle.cmac.proofs.Counts.{blocks-hold}
 
@@ -37,19 +37,28 @@ module _ (k1 k2 m : List ℕ) (i : ℕ) where
       let a : take (length m - 16 * i) (drop (16 * i) m) ≡ drop (16 * i) m = take-all (length m - 16 * i) (drop (16 * i) m) (simp length-drop (le-refl _)) in
       rw (le-ltb (i + 1) (S.blocks (length m)) (omega arith), e, a)
 
--- ---- the last block
-module _ (k1 k2 r b : List ℕ) (e : b ≡ splice (replicate 16 0) 0 r) where
-  pub last-complete : length r ≡ 16 → A.xored k1 b ≡ S.lastBlock k1 k2 r
-  unfolding S.lastBlock S.padded
-  last-complete h =
+-- ---- the last block, from bytes b that begin with what is left of the message
+module _ (r b : List ℕ) (e : b ≡ splice (replicate 16 0) 0 r) where
+  pub padded-complete : length r ≡ 16 → b ≡ S.padded r
+  unfolding S.padded
+  padded-complete h =
       let z : 16 - length r ≡ 0 = omega arith in
-      rw (eq-eqb (length r) 16 h, e, splice-start 16 0 r, z) (ap (A.xored k1) (append-nil r))
+      rw (eq-eqb (length r) 16 h, e, splice-start 16 0 r, z) (append-nil r)
 
-  pub last-padded : length r < 16 → A.xored k2 (set b (length r) 0x80) ≡ S.lastBlock k1 k2 r
-  unfolding S.lastBlock S.padded
-  last-padded h =
+  pub padded-partial : length r < 16 → set b (length r) 0x80 ≡ S.padded r
+  unfolding S.padded
+  padded-partial h =
       let z : 16 - length r ≡ suc (15 - length r) = omega arith in
-      rw (ne-eqb (length r) 16 (omega arith), e, splice-start 16 0 r, z) (ap (A.xored k2) (set-at r 0 (replicate (15 - length r) 0) 0x80 (length r) refl))
+      rw (ne-eqb (length r) 16 (omega arith), e, splice-start 16 0 r, z) (set-at r 0 (replicate (15 - length r) 0) 0x80 (length r) refl)
+
+-- the place of its subkey
+pub place-fits : (t : Bool) → cond t 240 256 + 16 ≤ 272
+place-fits true = omega arith
+place-fits false = omega arith
+
+pub at-place : (t : Bool) (l : List ℕ) → part l (cond t 240 256) 16 ≡ cond t (part l 240 16) (part l 256 16)
+at-place true l = refl
+at-place false l = refl
 
 -- ---- what comes after the round keys, stored one after another
 pub tail-parts : (d a b e f : List ℕ) (r : ℕ) → length d ≡ 273 → length a ≡ 16 → length b ≡ 16 → e ≡ splice d 240 a → f ≡ splice e 256 b

@@ -12,7 +12,7 @@ use lib.ListN.{length, getD, take, drop, replicate}
 use Rattle.laws.specs.Lists.{part}
 use Rattle.aes.specs.Aes.{xored, roundsOf, expanded, cipher, aes}
 
--- ---- 4.2 and 5.3: operations; X ⊕ Y is `xored`
+-- ---- 4.2: operations; X ⊕ Y is `xored`
 
 -- X << 1
 unfoldable pub shifted : List ℕ → List ℕ
@@ -27,7 +27,7 @@ bit s i = getD s (i / 8) 0 / 2 ^ (7 - i % 8) % 2
 unfoldable pub zeroBlock : List ℕ
 zeroBlock = replicate 16 0
 
--- R_128 = 0 ^ 120 10000111
+-- 5.3: R_128 = 0 ^ 120 10000111
 unfoldable pub R128 : List ℕ
 R128 = replicate 15 0 ++ (0x87 ∷ [])
 
@@ -55,7 +55,7 @@ blocks len = cond (eqb len 0) 1 ((len + 15) / 16)
 unfoldable pub rest : List ℕ → List ℕ
 rest m = drop (16 * (blocks (length m) - 1)) m
 
--- step 4: M_n* where it is a complete block, else M_n* || 10 ^ j
+-- step 4: M_n* where it is a complete block, else M_n* || 10 ^ j: a byte 0x80, and zeros to 16 bytes
 unfoldable pub padded : List ℕ → List ℕ
 padded r = cond (eqb (length r) 16) r (r ++ (0x80 ∷ replicate (15 - length r) 0))
 

@@ -9,6 +9,8 @@
 ghost use mathlib.Core.Path.{_≡_};
 ghost use Prim.Native.Nat.{_+_, _-_, _≤_, _<_};
 ghost use lib.ListN.{length};
+ghost use mathlib.Core.Bool.{cond};
+ghost use lib.Dec.{eqb};
 ghost use mathlib.Core.List.{[], _∷_, _++_};
 ghost use Rattle.laws.specs.Lists.{part, splice};
 ghost use Rattle.aes.specs.Aes as Aes;
@@ -117,13 +119,29 @@ fn last_block(kept: &[u8], rest: &[u8]) -> [u8; 16]
     requires { ⌜ (length (now kept) ≡ 273) × (length (now rest) ≤ 16) ⌝ }
     ensures { λ r. ⌜ r ≡ S.lastBlock (part (now (kept .entry)) 240 16) (part (now (kept .entry)) 256 16) (now (rest .entry)) ⌝ }
 {
+    let b = padded(rest);
+    xored_at(kept, subkey_place(rest.len()), b)
+}
+
+// What is left of the message, as a block.
+fn padded(rest: &[u8]) -> [u8; 16]
+    requires { ⌜ length (now rest) ≤ 16 ⌝ }
+    ensures { λ r. ⌜ r ≡ S.padded (now (rest .entry)) ⌝ }
+{
     let mut b = [0u8; 16];
     buffer::copy_at(&mut b, 0, rest);
     if rest.len() == 16 {
-        return xored_at(kept, 240, b);
+        return b;
     }
     b[rest.len()] = 0x80;
-    xored_at(kept, 256, b)
+    b
+}
+
+// The place of the subkey for a last block of n bytes: that of K1 for a complete one, else that of K2.
+fn subkey_place(n: usize) -> usize
+    ensures { λ r. ⌜ r ≡ cond (eqb n 16) 240 256 ⌝ }
+{
+    if n == 16 { 240 } else { 256 }
 }
 
 // The 16 bytes of s from place `at`, exclusive or a.

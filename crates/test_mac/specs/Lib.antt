@@ -1,0 +1,2 @@
+-- What the contracts of `test_mac` cite.
+pub mod Calls
