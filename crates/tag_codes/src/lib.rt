@@ -112,7 +112,14 @@ fn macseq_code(mf: u8, key: &[u8; 273], message: &[u8], n: usize) -> u64
 }
 
 // MACSEQ fits the flexible fields of the section, under the key of block 1's tags.
-pub fn macseq_fits(config: &[u8], c: Chain, prn: u8, time: u32, mack: &[u8], key: &[u8; 273]) -> bool
+pub fn macseq_fits(
+    config: &[u8],
+    c: Chain,
+    prn: u8,
+    time: u32,
+    mack: &[u8],
+    key: &[u8; 273],
+) -> bool
     requires { ⌜ Laid c × ((length (now config) ≡ configLength) × (length (now mack) ≡ 60)) ⌝ }
     ensures { λ r. ⌜ ((k : List ℕ) (status : ℕ) → now (key .entry) ≡ keptOf (c .mf) k → r ≡ eqb (macBits (c .mf) 12 k (macseqMessage (now (config .entry)) c (section prn time status (now (mack .entry))) (c .nmack * c .fields))) (macseqOf c (now (mack .entry)))) ⌝ }
 {

@@ -45,7 +45,15 @@ pub extern "C" fn leaf_chain_with(ns: u64, c: &[u8], numbers: &mut [u64; 7], alp
     ensures { λ _. ⌜ (now (numbers .exit) ≡ chainNumbers (Kroot.chainWith ns (now (c .entry)))) × (now (alpha .exit) ≡ (Kroot.chainWith ns (now (c .entry))) .alpha) ⌝ }
 {
     let p = kroot::chain_with(ns, c);
-    *numbers = [p.ns, p.nmack, p.root, p.mf as u64, p.width as u64, p.ms, p.fields];
+    *numbers = [
+        p.ns,
+        p.nmack,
+        p.root,
+        p.mf as u64,
+        p.width as u64,
+        p.ms,
+        p.fields,
+    ];
     let a = p.alpha;
     *alpha = a;
 }
