@@ -8,8 +8,8 @@ use Rattle.test_leaves.proofs.of_kroot.leaf_chain_with.Tie as tie
 
 returns : tie.Need-returns
 returns c =
-    let e = c .before .before .chain-with .ensures in
+    let e = c .before .before .before .chain-with .ensures in
     (ap (λ p. chainNumbers p) e, ap (λ p. p .alpha) e)
 
 pub leaf-chain-with-spec : {M : Type 1} → statement M
-leaf-chain-with-spec = tie.close (tie.spec (λ c κs. search needs) returns)
+leaf-chain-with-spec = tie.close (tie.spec (λ c κs. search needs) (λ c. search needs) returns)

@@ -5,7 +5,7 @@ use Rattle.test_leaves.proofs.of_tag_codes.leaf_mac_bits.Statement.{sta
 use Rattle.test_leaves.proofs.of_tag_codes.leaf_mac_bits.Tie as tie
 
 returns : tie.Need-returns
-returns c = c .mac-bits .ensures _ (c .before .hmac-key .ensures)
+returns c = c .mac-bits .ensures _ (c .before .before .keep .ensures)
 
 pub leaf-mac-bits-spec : {M : Type 1} → statement M
 leaf-mac-bits-spec = tie.close (tie.spec (λ c κs. search needs) (λ c κs. search needs) returns)
