@@ -13,7 +13,8 @@ use lib.Bits.{shifted-even}
 use lib.Pow.{split, shr-shr, shl-shr, pow-add}
 use borrow.Author.Tests.{lt-ltb, le-ltb}
 use Rattle.laws.proofs.Splice.{below?}
-use lib.ListN.{length, getD}
+use lib.ListN.{length, getD, take}
+use lib.Seq.{take-all}
 use Rattle.cmac.specs.Cmac as S
 
 pub length-truncated : (n : ℕ) (code : List ℕ) → length (S.truncated n code) ≡ length code
@@ -44,6 +45,17 @@ unfolding S.firstBits
 first-all n x h =
     let e : 8 - n ≡ 0 = omega arith in
     rw e (omega arith)
+
+-- whole bytes are kept
+pub whole-bytes : (n : ℕ) (code : List ℕ) (k : ℕ) → 8 * k ≤ n → take k code ≡ take k (S.truncated n code)
+unfolding S.truncated
+whole-bytes n [] k h = refl
+whole-bytes n (x ∷ xs) zero h = refl
+whole-bytes n (x ∷ xs) (suc k) h = rw (first-all n x (omega arith), ← whole-bytes (n - 8) xs k (omega arith))
+
+pub all-kept : (n : ℕ) (code : List ℕ) → length code ≡ 16 → 128 ≤ n → code ≡ S.truncated n code
+all-kept n code e h =
+    sym (take-all 16 code (omega arith)) ∙ whole-bytes n code 16 h ∙ take-all 16 (S.truncated n code) (omega (arith, length-truncated n code))
 
 fits : (x y r : ℕ) → y + r ≡ x → x < 256 → y % 256 ≡ y
 fits x y r e h = omega arith

@@ -188,8 +188,11 @@ fn shifted(x: [u8; 16]) -> [u8; 16]
 pub fn truncate(code: [u8; 16], n: usize) -> [u8; 16]
     ensures { λ r. ⌜ r ≡ S.truncated n code ⌝ }
 {
-    let mut d = [0u8; 16];
-    let mut i: usize = 0;
+    if 128 <= n {
+        return code;
+    }
+    let mut d = code;
+    let mut i = n / 8;
     while i < 16 {
         d[i] = first_bits(code[i], n, 8 * i);
         i += 1;
