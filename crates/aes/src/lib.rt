@@ -3,7 +3,6 @@
 //   rounds_of    how many rounds a key of n bytes has
 //   expand_key   the round keys of a key, made once
 //   cipher       a block under round keys
-//   xored        the exclusive or of two blocks
 // A state is worked on as four numbers, its columns, so that one operation serves the four bytes of a column.
 ghost use mathlib.Core.Path.{_≡_};
 ghost use mathlib.Core.List.{List, [], _∷_};
@@ -52,19 +51,6 @@ pub fn cipher(rounds: usize, w: &[u8], block: [u8; 16]) -> [u8; 16]
     }
     let b = sub_shift(&t, s);
     bytes(add_round_key(b, w, rounds))
-}
-
-// The exclusive or of two blocks (4.1).
-pub fn xored(a: [u8; 16], b: [u8; 16]) -> [u8; 16]
-    ensures { λ r. ⌜ r ≡ S.xored a b ⌝ }
-{
-    let mut r = [0u8; 16];
-    let mut i: usize = 0;
-    while i < 16 {
-        r[i] = a[i] ^ b[i];
-        i += 1;
-    }
-    r
 }
 
 // b times x (4.2).
