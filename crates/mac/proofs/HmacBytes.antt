@@ -1,6 +1,6 @@
 -- HMAC's hash values are read back from the bytes that were put: each word is below 2 ^ 32.
 -- Assumes nothing.
-use mathlib.Core.Path.{_≡_, refl, _∙_}
+use mathlib.Core.Path.{_≡_, refl, sym, _∙_}
 use mathlib.Core.List.{List, [], _∷_, _++_, append-assoc}
 use Prim.Native.Nat.{ℕ, _+_, _-_, _*_, _/_, _%_, _^_, _<_}
 use native.Mathlib.Omega.{arith}
@@ -8,7 +8,7 @@ use lib.ListN.{length, replicate, length-replicate}
 use Rattle.laws.specs.Bytes.{be4, u32at}
 use Rattle.laws.specs.Lists.{splice}
 use Rattle.laws.proofs.Numbers.{u32at-be4}
-use Rattle.laws.proofs.Splice.{splice-after, splice-start}
+use Rattle.laws.proofs.Splice.{splice-after, splice-start, splice-whole}
 use Rattle.sha256.specs.Sha256 as S
 use Rattle.hmac.specs.Hmac.{keyOf, innerPad, outerPad}
 use Rattle.hmac.specs.declared.HmacKey.{HmacKey}
@@ -51,14 +51,14 @@ unfolding S.compress S.sums
 second-back h b rest = eight-past _ _ _ _ _ _ _ _ rest
 
 -- two pieces put after each other into zeros
-pub put-is : (h : HmacKey) {i o d e : List ℕ} → length i ≡ 32 → length o ≡ 32 → i ≡ S.bytes (h .inner) → o ≡ S.bytes (h .outer)
-    → d ≡ splice (replicate 273 0) 0 i → e ≡ splice d 32 o → e ≡ hmacKept h
+pub put-is : (h : HmacKey) (k : List ℕ) {i o z d e : List ℕ} → length k ≡ 273 → length i ≡ 32 → length o ≡ 32 → i ≡ S.bytes (h .inner) → o ≡ S.bytes (h .outer)
+    → z ≡ splice k 0 (replicate 273 0) → d ≡ splice z 0 i → e ≡ splice d 32 o → e ≡ hmacKept h
 unfolding hmacKept filled
-put-is h {i} {o} li lo p q r s =
+put-is h k {i} {o} lk li lo p q t r s =
     let zeros : List ℕ = replicate 273 0 in
     let room : length zeros ≡ 273 = length-replicate {A = ℕ} 273 0 in
     s
-    ∙ rw r (splice-after zeros 0 32 i o (omega (arith, li)) (omega (arith, room, lo)))
+    ∙ rw (r, t, splice-whole k zeros (room ∙ sym lk)) (splice-after zeros 0 32 i o (omega (arith, li)) (omega (arith, room, lo)))
     ∙ splice-start 273 0 (i ++ o)
     ∙ rw (p, q)
 

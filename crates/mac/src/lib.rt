@@ -40,17 +40,17 @@ pub fn mac_bits(mf: u8, n: usize, kept: &[u8; 273], message: &[u8]) -> u64
 // ---- HMAC's kept key as bytes
 
 // The two hash values, as bytes, and zeros.
-fn put_hmac(k: HmacKey, kept: &mut [u8; 273])
+fn put_hmac(k: HmacKey, kept: &mut [u8])
+    requires { ⌜ length (now kept) ≡ 273 ⌝ }
     ensures { λ _. ⌜ now (kept .exit) ≡ hmacKept k ⌝ }
 {
     let inner = k.inner;
     let outer = k.outer;
     let i = sha256::bytes(inner);
     let o = sha256::bytes(outer);
-    let mut d = [0u8; 273];
-    buffer::copy_at(&mut d, 0, &i);
-    buffer::copy_at(&mut d, 32, &o);
-    *kept = d;
+    buffer::fill(kept, 0, 273, 0);
+    buffer::copy_at(kept, 0, &i);
+    buffer::copy_at(kept, 32, &o);
 }
 
 // The two hash values that were put.
