@@ -57,7 +57,7 @@ fn recorded_runs() {
             count += 1;
         }
     }
-    assert_eq!(count, 20, "recorded runs found");
+    assert_eq!(count, 22, "recorded runs found");
 }
 
 /// What `rt check replay` runs.
