@@ -11,12 +11,26 @@ const KEY_LIMIT: usize = 32;
 pub fn mac_bits(mf: u8, n: usize, key: &[u8], message: &[u8]) -> Option<u64> {
     // SAFETY: the slices are lent with their lengths; the ranges are as required.
     (n <= 56 && message.len() <= 76 && key.len() <= KEY_LIMIT).then(|| unsafe {
-        raw::leaf_mac_bits(mf, n, key.as_ptr(), key.len(), message.as_ptr(), message.len())
+        raw::leaf_mac_bits(
+            mf,
+            n,
+            key.as_ptr(),
+            key.len(),
+            message.as_ptr(),
+            message.len(),
+        )
     })
 }
 
 /// Whether a tag of `ms` bits matches a set under a key; `first` for tag0, whose message has no PRN_N.
-pub fn tag_matches(mf: u8, ms: u64, key: &[u8], first: bool, tag: &Tag, set: &[u8; 69]) -> Option<bool> {
+pub fn tag_matches(
+    mf: u8,
+    ms: u64,
+    key: &[u8],
+    first: bool,
+    tag: &Tag,
+    set: &[u8; 69],
+) -> Option<bool> {
     // SAFETY: as above.
     (ms <= 40 && key.len() <= KEY_LIMIT).then(|| unsafe {
         raw::leaf_tag_matches(
@@ -39,7 +53,13 @@ pub fn tag_matches(mf: u8, ms: u64, key: &[u8], first: bool, tag: &Tag, set: &[u
 
 impl Layout {
     /// Whether MACSEQ fits the section's flexible fields under a key.
-    pub fn macseq_fits(&self, mf: u8, config: &Config, section: &Section, key: &[u8]) -> Option<bool> {
+    pub fn macseq_fits(
+        &self,
+        mf: u8,
+        config: &Config,
+        section: &Section,
+        key: &[u8],
+    ) -> Option<bool> {
         let Layout { nmack, ms, fields } = *self;
         let mack = &section.mack;
         // SAFETY: as above.

@@ -168,8 +168,14 @@ fn tag0_of_e18() {
         status: 2,
         bits,
     };
-    assert_eq!(tag_matches(0, 12, &key, true, &tag0(0xE58), &set), Some(true));
-    assert_eq!(tag_matches(0, 12, &key, true, &tag0(0xE59), &set), Some(false));
+    assert_eq!(
+        tag_matches(0, 12, &key, true, &tag0(0xE58), &set),
+        Some(true)
+    );
+    assert_eq!(
+        tag_matches(0, 12, &key, true, &tag0(0xE59), &set),
+        Some(false)
+    );
     assert_eq!(
         tag_matches(0, 12, &key, false, &tag0(0xE58), &set),
         Some(false)
@@ -180,5 +186,8 @@ fn tag0_of_e18() {
 #[test]
 fn macseq_of_e18() {
     let key = hex(KEYS.into_iter().find(|key| key.0 == 73).unwrap().2);
-    assert_eq!(mac_bits(0, 12, &key, &hex("123B36979EFF4012B0")), Some(0xC24));
+    assert_eq!(
+        mac_bits(0, 12, &key, &hex("123B36979EFF4012B0")),
+        Some(0xC24)
+    );
 }

@@ -129,7 +129,14 @@ impl Judge<'_> {
                 continue;
             }
             let key = key_of(self.chain, tag);
-            let matches = tag_matches(self.chain.parameters.mf, self.layout.ms, key.as_slice(), false, &ours, &set.0);
+            let matches = tag_matches(
+                self.chain.parameters.mf,
+                self.layout.ms,
+                key.as_slice(),
+                false,
+                &ours,
+                &set.0,
+            );
             let outcome = if matches == Some(true) { 1 } else { 2 };
             records.push(record(outcome, &ours, &set.0));
         }
@@ -166,7 +173,15 @@ impl Judge<'_> {
         let key = self
             .chain
             .hash_down(&self.chain.held, self.chain.held_slot, slot);
-        tag_matches(self.chain.parameters.mf, self.layout.ms, key.as_slice(), j == 0, tag, set).unwrap()
+        tag_matches(
+            self.chain.parameters.mf,
+            self.layout.ms,
+            key.as_slice(),
+            j == 0,
+            tag,
+            set,
+        )
+        .unwrap()
     }
 }
 
@@ -209,7 +224,12 @@ fn tags_of_sections_are_judged_alike() {
         with_right_tags(&mut rng, &mut case, &chain, &words);
         let first = chain.slots.of_tags(seconds, 1);
         let macseq_key = chain.hash_down(&chain.held, last, first);
-        with_macseq(&mut rng, &mut case, chain.parameters.mf, macseq_key.as_slice());
+        with_macseq(
+            &mut rng,
+            &mut case,
+            chain.parameters.mf,
+            macseq_key.as_slice(),
+        );
         let mut waiting = any_waiting(&mut rng, &chain, &case);
 
         let judge = Judge {
