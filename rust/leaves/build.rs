@@ -1,12 +1,17 @@
-//! Links the archives that `rt staticlib` writes at the top of the repository.
+//! Links the archives that `rt staticlib` writes at the top of the repository, or those in the folder that
+//! `OSNMA_STATICLIB` names.
 
-use std::path::Path;
+use std::path::{Path, PathBuf};
 use std::process::exit;
 
 const LIBRARIES: [&str; 3] = ["test_hash", "test_leaves", "test_mac"];
 
 fn main() {
-    let folder = Path::new(env!("CARGO_MANIFEST_DIR")).join("../../target/staticlib");
+    println!("cargo:rerun-if-env-changed=OSNMA_STATICLIB");
+    let folder = std::env::var_os("OSNMA_STATICLIB").map_or_else(
+        || Path::new(env!("CARGO_MANIFEST_DIR")).join("../../target/staticlib"),
+        PathBuf::from,
+    );
     for library in LIBRARIES {
         let archive = folder.join(format!("lib{library}.a"));
         println!("cargo:rerun-if-changed={}", archive.display());

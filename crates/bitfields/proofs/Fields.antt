@@ -7,12 +7,11 @@ use Prim.Native.Nat.{ℕ, zero, suc, _+_, _-_, _*_, _/_, _%_, _^_, _≤_, _<_}
 use native.Mathlib.Omega.{arith}
 use native.Mathlib.Numerals.{add-one}
 use native.Mathlib.Nat.{add-zero, add-suc, add-assoc, pow-suc, mod-one, lt-of-lt-of-le}
-use lib.ListN.{length, getD, take, drop, set, length-append, length-drop, List·getD-append}
-use lib.Seq.{getD-at, set-at, drop-cons, length-take-le}
-use mathlib.Core.Logic.{⊎-elim}
+use lib.ListN.{length, getD, take, drop, set, length-append, length-drop}
+use lib.Seq.{set-at, drop-cons, length-take-le}
 use lib.Pow.{pow-mono, high, low, shr-shr, mod-pow-add}
 use Rattle.laws.specs.Lists.{part, splice}
-use Rattle.laws.proofs.Splice.{getD-part, splice-after, splice-nil, below?}
+use Rattle.laws.proofs.Splice.{getD-part, splice-after, splice-nil}
 use Rattle.rules.specs.Bits.{bit, bits, bytesAt}
 use Rattle.rules.proofs.Bounds.{bits-lt}
 use Rattle.rules.proofs.Parts.{length-bytesAt}
@@ -92,17 +91,6 @@ bits-part s a n at m h = bits-same (part s a n) s at (8 * a + at) m (λ i k. bit
 
 -- ---- bytes at any bit
 
-pub getD-bytesAt : (s : List ℕ) (at n i : ℕ) → i < n → getD (bytesAt s at n) i 0 ≡ bits s (at + 8 * i) 8
-unfolding bytesAt
-getD-bytesAt s at zero i h = absurd (omega arith)
-getD-bytesAt s at (suc n) i h =
-    ⊎-elim
-    (λ p. List·getD-append (bytesAt s at n) (bits s (at + 8 * n) 8 ∷ []) 0 i (omega (arith, length-bytesAt s at n)) ∙ getD-bytesAt s at n i p)
-    (λ p.
-    let e : i ≡ n = omega arith in
-    rw e (getD-at (bytesAt s at n) (bits s (at + 8 * n) 8) [] 0 n (length-bytesAt s at n)))
-    (below? i n)
-
 -- one byte more, with the code's n + 1
 pub bytesAt-more : (s : List ℕ) (at n : ℕ) → bytesAt s at (n + 1) ≡ bytesAt s at n ++ (bits s (at + 8 * n) 8 ∷ [])
 unfolding bytesAt
@@ -115,12 +103,6 @@ bytesAt-add s at n zero = rw (add-zero n) (sym (append-nil (bytesAt s at n)))
 bytesAt-add s at n (suc m) =
     let e : at + 8 * (n + m) ≡ at + 8 * n + 8 * m = omega arith in
     rw (add-suc n m, bytesAt-add s at n m, e, append-assoc)
-
-pub bytesAt-part : (s : List ℕ) (a n at m : ℕ) → at + 8 * m ≤ 8 * n → bytesAt (part s a n) at m ≡ bytesAt s (8 * a + at) m
-unfolding bytesAt
-bytesAt-part s a n at zero h = refl
-bytesAt-part s a n at (suc m) h =
-    rw (bytesAt-part s a n at m (omega arith), bits-part s a n (at + 8 * m) 8 (omega arith), add-assoc)
 
 -- ---- what a loop stores
 

@@ -68,11 +68,6 @@ pub octet-byte : (s : List ℕ) (at : ℕ) (rest : List ℕ) → octet (bitList 
 unfolding octet bitList bits
 octet-byte s at rest = omega arith
 
--- the last two bits of a byte's first string, then six of another
-pub octet-seam : (s : List ℕ) (at : ℕ) (u : List ℕ) (to : ℕ) (rest : List ℕ) → octet (bitList s at 2 ++ (bitList u to 6 ++ rest)) ≡ bits s at 2 * 64 + bits u to 6
-unfolding octet bitList bits
-octet-seam s at u to rest = omega arith
-
 -- the last bits of a list that ends inside a byte
 pub octet-five : (s : List ℕ) (at : ℕ) → octet (bitList s at 5) ≡ bits s at 5 * 8
 unfolding octet bitList bits
@@ -91,14 +86,6 @@ pub packed-byte : (s : List ℕ) (at : ℕ) (rest : List ℕ) (m : ℕ) → pack
 packed-byte s at rest m =
     packed-front (bitList s at 8 ++ rest) m
     ∙ rw (octet-byte s at rest, drop-at (bitList s at 8) rest 8 (length-bitList s at 8))
-
--- a byte that two strings share in front
-pub packed-seam : (s : List ℕ) (at : ℕ) (u : List ℕ) (to : ℕ) (rest : List ℕ) (m : ℕ)
-    → packed (bitList s at 2 ++ (bitList u to 6 ++ rest)) (suc m) ≡ (bits s at 2 * 64 + bits u to 6) ∷ packed rest m
-packed-seam s at u to rest m =
-    let e : length (bitList s at 2 ++ bitList u to 6) ≡ 8 = simp (length-append, length-bitList) in
-    packed-front (bitList s at 2 ++ (bitList u to 6 ++ rest)) m
-    ∙ rw (octet-seam s at u to rest, ← append-assoc (bitList s at 2) (bitList u to 6) rest, drop-at (bitList s at 2 ++ bitList u to 6) rest 8 e)
 
 -- whole bytes of a string in front
 pub packed-bytes : (s : List ℕ) (at k : ℕ) (rest : List ℕ) (m : ℕ) → packed (bitList s at (8 * k) ++ rest) (k + m) ≡ bytesAt s at k ++ packed rest m

@@ -1,12 +1,12 @@
 // Bit fields of byte strings (01: "high byte first; bit 0 is the most significant").
 // A field is read by whole bytes and then shifted and masked.
 // Public calls:
-//   bits_at, field_at     a field as a number
+//   bits_at               a field as a number
 //   bytes_to, bytes_at    bytes from any bit on
 //   block_bits            bits of a MACK block
 //   wide, low, index      a number in a wider type
 ghost use mathlib.Core.Path.{_≡_};
-ghost use Prim.Native.Nat.{_+_, _*_, _≤_, _<_, _^_};
+ghost use Prim.Native.Nat.{_+_, _*_, _≤_, _<_};
 ghost use lib.ListN.{length};
 ghost use Rattle.laws.specs.Lists.{splice};
 ghost use Rattle.rules.specs.Bits.{bits, bytesAt};
@@ -22,14 +22,6 @@ pub fn bits_at(s: &[u8], at: usize, n: usize) -> u64
     let count = (before + n + 7) / 8;
     let after = 8 * count - (before + n);
     (number(s, first, count) >> after) & ((1u64 << n) - 1)
-}
-
-// A field of at most 8 bits as a byte.
-pub fn field_at(s: &[u8], at: usize, n: usize) -> u8
-    requires { ⌜ (at + n ≤ 8 * length (now s)) × (n ≤ 8) ⌝ }
-    ensures { λ r. ⌜ (r ≡ bits (now (s .entry)) at n) × (r < 2 ^ n) ⌝ }
-{
-    bits_at(s, at, n) as u8
 }
 
 // The number in the n bytes from place `first` on, at most 8.

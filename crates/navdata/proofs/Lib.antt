@@ -1,2 +1,3 @@
 -- Laws of words and sets that other crates cite.
 pub mod Sets
+pub mod Status

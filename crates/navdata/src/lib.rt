@@ -2,7 +2,7 @@
 // `words` holds words 1 to 5 of 36 satellites, 16 bytes each; `stamps` holds the stamp of each word's sub-frame, its time plus 1, or 0
 // where no word is held.
 ghost use mathlib.Core.Path.{_≡_};
-ghost use mathlib.Core.List.{List, [], _∷_};
+ghost use mathlib.Core.List.{List};
 ghost use Prim.Native.Nat.{ℕ, _+_, _-_, _*_, _≤_, _<_};
 ghost use lib.ListN.{length};
 ghost use Rattle.laws.specs.Lists.{splice};
@@ -10,7 +10,7 @@ ghost use Rattle.rules.specs.Tags.{statusAndSet};
 ghost use Rattle.rules.specs.Navdata.{wordType, svidOf, wordIssue, wordPlace, wordAt, wordStored, setOf, setIssue, wordCame, cameBefore, oneIssue};
 ghost use Rattle.rules.specs.Navdata as rules;
 ghost use Rattle.rules.specs.State.{stampsLength, wordsLength};
-ghost use Rattle.navdata.specs.Pieces.{nav, seamOf, frontOf, backOf};
+ghost use Rattle.navdata.specs.Pieces.{nav};
 
 // ---- words
 
@@ -113,55 +113,13 @@ pub fn set_issue(set: &[u8]) -> u16
     bitfields::bits_at(set, 0, 10) as u16
 }
 
-// A byte of two bits of one word and six of the next.
-fn seam(words: &[u8], one: usize, next: usize) -> u8
-    requires { ⌜ (length (now words) ≡ wordsLength) × ((one + 2 ≤ 23040) × (next + 6 ≤ 23040)) ⌝ }
-    ensures { λ r. ⌜ r ≡ seamOf (now (words .entry)) one next ⌝ }
-{
-    bitfields::field_at(words, one, 2) * 64 + bitfields::field_at(words, next, 6)
-}
-
-// A byte at a place.
-fn put(out: &mut [u8], at: usize, x: u8)
-    requires { ⌜ at < length (now out) ⌝ }
-    ensures { λ _. ⌜ now (out .exit) ≡ splice (now (out .entry)) at (x ∷ []) ⌝ }
-{
-    out[at] = x;
-}
-
-// The first 45 bytes of the set whose word 1 starts at bit b.
-fn put_front(words: &[u8], b: usize, out: &mut [u8], to: usize)
-    requires { ⌜ ((length (now words) ≡ wordsLength) × (b + 640 ≤ 23040)) × (to + 45 ≤ length (now out)) ⌝ }
-    ensures { λ _. ⌜ now (out .exit) ≡ splice (now (out .entry)) to (frontOf (now (words .entry)) b) ⌝ }
-{
-    bitfields::bytes_to(words, b + 6, 15, out, to);
-    bitfields::bytes_to(words, b + 134, 15, out, to + 15);
-    bitfields::bytes_to(words, b + 262, 15, out, to + 30);
-}
-
-// Its last 24 bytes.
-fn put_back(words: &[u8], b: usize, out: &mut [u8], to: usize)
-    requires { ⌜ ((length (now words) ≡ wordsLength) × (b + 640 ≤ 23040)) × (to + 24 ≤ length (now out)) ⌝ }
-    ensures { λ _. ⌜ now (out .exit) ≡ splice (now (out .entry)) to (backOf (now (words .entry)) b) ⌝ }
-{
-    let one = seam(words, b + 382, b + 390);
-    let next = seam(words, b + 508, b + 518);
-    let last = bitfields::field_at(words, b + 580, 5) * 8;
-    put(out, to, one);
-    bitfields::bytes_to(words, b + 396, 14, out, to + 1);
-    put(out, to + 15, next);
-    bitfields::bytes_to(words, b + 524, 7, out, to + 16);
-    put(out, to + 23, last);
-}
-
 // The set of a satellite's held words into `out` from place `to`.
 pub fn set_bytes(words: &[u8], prn: usize, out: &mut [u8], to: usize)
     requires { ⌜ ((length (now words) ≡ wordsLength) × ((1 ≤ prn) × (prn ≤ 36))) × (to + 69 ≤ length (now out)) ⌝ }
     ensures { λ _. ⌜ now (out .exit) ≡ splice (now (out .entry)) to (setOf (now (words .entry)) prn) ⌝ }
 {
-    let b = (prn - 1) * 640;
-    put_front(words, b, out, to);
-    put_back(words, b, out, to + 45);
+    let first = (prn - 1) * 80;
+    nav_sets::gather(&words[first..first + 80], out, to);
 }
 
 // The set of a satellite's held words.
@@ -174,14 +132,20 @@ pub fn set_of(words: &[u8], prn: usize) -> [u8; 69]
     set
 }
 
-// The NMA status and a set's 549 bits, and a zero bit, into `out` from place `to`.
+// The NMA status and a set's 549 bits, and a zero bit, into `out` from place `to`, in one pass: eight bytes are the last two bits before them
+// and the front of the eight that were read.
 pub fn status_and_set(status: u8, set: &[u8], out: &mut [u8], to: usize)
     requires { ⌜ (length (now set) ≡ 69) × (to + 69 ≤ length (now out)) ⌝ }
     ensures { λ _. ⌜ now (out .exit) ≡ splice (now (out .entry)) to (statusAndSet status (now (set .entry))) ⌝ }
 {
-    let first = (status % 4) * 64 + bitfields::field_at(set, 0, 6);
-    let last = bitfields::field_at(set, 542, 7) * 2;
-    put(out, to, first);
-    bitfields::bytes_to(set, 6, 67, out, to + 1);
-    put(out, to + 68, last);
+    let mut before = bitfields::wide(status);
+    let mut i: usize = 0;
+    while i < 64 {
+        let x = nav_sets::get_u64(set, i);
+        nav_sets::put_u64(out, to + i, nav_sets::pair(before, 62, 2, x, 0));
+        before = x;
+        i += 8;
+    }
+    let last = (before % 4) * 137438953472 + bitfields::bits_at(set, 512, 37);
+    nav_sets::put_five(out, to + 64, last * 2);
 }

@@ -3,6 +3,7 @@
 //! - `calls time SLICES`: a half minute of 36 satellites, a section of it with nothing due, and a section
 //!   after a gap of 1,000,000 slots with 256 tags due, beside the proved walk over the gap alone
 //! - `calls count WHO TURNS`: half minutes alone, to be counted by callgrind
+//! - `calls slices COUNT`: the time of one half minute by the proved core in each of COUNT slices, in nanoseconds
 //! - `calls tags TURNS`: what these half minutes have: sections, and tags judged by their codes
 //! - `calls stack`: the bytes of a core and the deepest stack of each call
 //!
@@ -16,7 +17,7 @@ use leaves::times::Slots;
 use std::hint::black_box;
 use std::time::Duration;
 
-pub const USAGE: &str = "calls time SLICES | count WHO TURNS | tags TURNS | stack";
+pub const USAGE: &str = "calls time SLICES | count WHO TURNS | slices COUNT | tags TURNS | stack";
 
 /// Half minutes that are compared, and that a slice takes: all of the run.
 const HALVES: u32 = 36;
@@ -147,6 +148,13 @@ pub fn command(words: &[&str]) -> Option<Result<(), String>> {
         ["count", who, turns] => {
             let (who, _) = ALL.into_iter().find(|(_, name)| name == who)?;
             HalfMinutes::new(who).hear_all(turns.parse().ok()?);
+            Some(Ok(()))
+        }
+        ["slices", count] => {
+            let mut work = half_minute(Who::Proved);
+            for _ in 0..count.parse().ok()? {
+                println!("{}", work().as_nanos());
+            }
             Some(Ok(()))
         }
         ["tags", turns] => {

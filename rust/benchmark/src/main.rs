@@ -15,6 +15,7 @@ mod openssl;
 #[cfg(has_openssl)]
 mod openssl_mac;
 mod replay;
+mod set;
 mod sky;
 mod stack;
 mod tag;
@@ -28,6 +29,7 @@ fn command(words: &[&str]) -> Option<Result<(), String>> {
         ["mac", rest @ ..] => mac::command(rest),
         ["chain", rest @ ..] => chain::command(rest),
         ["tag", rest @ ..] => tag::command(rest),
+        ["set", rest @ ..] => set::command(rest),
         ["calls", rest @ ..] => calls::command(rest),
         ["replay", rest @ ..] => replay::command(rest),
         _ => None,
@@ -49,6 +51,7 @@ fn main() -> ExitCode {
                 mac::USAGE,
                 chain::USAGE,
                 tag::USAGE,
+                set::USAGE,
                 calls::USAGE,
                 replay::USAGE,
             ] {

@@ -80,6 +80,37 @@ fn sets_are_packed_alike() {
     }
 }
 
+// 01: bits 6 to 125 of words 1, 2, 4, bits 6 to 127 of word 3, bits 6 to 72 of word 5, in this order. Each bit of
+// the words changes its own bit of the set, or none.
+#[test]
+fn each_bit_of_the_words_has_its_place() {
+    let mut rng = Rng::new(505);
+    for prn in 1..=36 {
+        let mut nav = any_nav(&mut rng);
+        let before = nav.set_of(prn).unwrap();
+        let mut place = 0;
+        for (word, last) in [125, 125, 127, 125, 72].into_iter().enumerate() {
+            for bit in 0..128 {
+                let mut expected = before;
+                if (6..=last).contains(&bit) {
+                    expected[place / 8] ^= 0x80 >> (place % 8);
+                    place += 1;
+                }
+                let byte = 80 * (prn - 1) + 16 * word + bit / 8;
+                nav.words[byte] ^= 0x80 >> (bit % 8);
+                assert_eq!(
+                    nav.set_of(prn),
+                    Some(expected),
+                    "word {}, bit {bit}",
+                    word + 1
+                );
+                nav.words[byte] ^= 0x80 >> (bit % 8);
+            }
+        }
+        assert_eq!((place, before[68] & 7), (549, 0));
+    }
+}
+
 #[test]
 fn the_same_sets_are_usable() {
     let mut rng = Rng::new(502);

@@ -1,13 +1,13 @@
 //! A digest of all that the core answers and leaves: `digest_calls COUNT SEED`.
 //!
-//! Makes every call of the named runs and COUNT calls drawn at random, none with a root that names CMAC-AES, and prints
-//! a digest of every answer, tag record and byte of every region so far: after each run, then after every 10,000 calls.
+//! Makes every call of the named runs and COUNT calls drawn at random, and prints a digest of every answer, tag record
+//! and byte of every region so far: after each run, then after every 10,000 calls.
 //! Two archives of the core print the same lines only if they do the same; `side_by_side` compares them.
 
 #[path = "../tests/common/mod.rs"]
 mod common;
 
-use common::driver::{call_of, input_without_cmac, Driver};
+use common::driver::{call_of, Driver};
 use common::twin::{Answer, Twin};
 use osnma::regions::Regions;
 use signal::replay::RECORD;
@@ -109,12 +109,11 @@ fn run(count: u64, seed: u64) -> Result<(), String> {
         calls: 0,
     };
     for scenario in scenario::all() {
-        let mut run = scenario.run(scenario::SEED);
-        input_without_cmac(&mut run.bytes);
+        let run = scenario.run(scenario::SEED);
         replay(&run.bytes, &mut digest).map_err(|error| format!("{}: {error}", run.name))?;
         digest.print(&run.name);
     }
-    let mut driver = Driver::new(seed, 60, MacFunctions::Hmac)?;
+    let mut driver = Driver::new(seed, 60, MacFunctions::Both)?;
     for _ in 0..count.div_ceil(EVERY) {
         driver.run_and_show(EVERY, |answer, twin| digest.call(answer, twin))?;
         digest.print("random");

@@ -1,9 +1,9 @@
--- `navdata::put` meets its contract: a store replaces one element.
+-- `nav_sets::put` meets its contract: a store replaces one element.
 -- Assumes nothing.
 use borrow.Author.Needs.{needs}
 use Rattle.laws.proofs.Splice.{splice-one}
-use Rattle.navdata.proofs.put.Statement.{statement}
-use Rattle.navdata.proofs.put.Tie as tie
+use Rattle.nav_sets.proofs.put.Statement.{statement}
+use Rattle.nav_sets.proofs.put.Tie as tie
 
 returns : tie.Need-returns
 returns c = splice-one _ _ _ (search needs)
