@@ -15,7 +15,7 @@ ghost use Rattle.laws.specs.Lists.{part, splice};
 ghost use Rattle.laws.specs.Bytes.{be4, be8};
 ghost use Rattle.rules.specs.Bits.{bits};
 ghost use Rattle.rules.specs.Navdata.{setBytes};
-ghost use Rattle.nav_sets.specs.Pieces.{reversed, pairOf, wordOf, fiveOf};
+ghost use Rattle.nav_sets.specs.Pieces.{reversed, pairOf, pieceOf, fiveOf};
 
 // ---- eight bytes as a number
 // Bytes are read and written with the lowest first, and a number's bytes are reversed in between: each is then one instruction of the machine
@@ -107,7 +107,7 @@ pub fn pair(x: u64, from: u64, n: u64, y: u64, to: u64) -> u64
 fn put_word(w: &[u8], at: usize, first: u64, from: u64, n: u64, out: &mut [u8], to: usize) -> u64
     requires { ⌜ (at + 24 ≤ length (now w)) × (to + 16 ≤ length (now out)) ⌝ }
     requires { ⌜ ((6 ≤ n) × (1 ≤ from)) × ((from + n ≤ 64) × (first ≡ bits (now w) (8 * at) 64)) ⌝ }
-    ensures { λ r. ⌜ (now (out .exit) ≡ splice (now (out .entry)) to (wordOf (now (w .entry)) (8 * at) from n)) × (r ≡ bits (now (w .entry)) (8 * (at + 16)) 64) ⌝ }
+    ensures { λ r. ⌜ (now (out .exit) ≡ splice (now (out .entry)) to (pieceOf (now (w .entry)) (8 * at) from n)) × (r ≡ bits (now (w .entry)) (8 * (at + 16)) 64) ⌝ }
 {
     let second = get_u64(w, at + 8);
     let next = get_u64(w, at + 16);

@@ -7,7 +7,7 @@ use native.Mathlib.Nat.{add-zero}
 use denote.Ref.{now}
 use Rattle.rules.specs.Bits.{bits}
 use Rattle.nav_sets.specs.Pieces.{pairOf}
-use Rattle.nav_sets.proofs.Gathered.{pair-inside, word-spliced}
+use Rattle.nav_sets.proofs.Gathered.{pair-inside, piece-spliced}
 use borrow.Author.Needs.{needs}
 use Rattle.nav_sets.proofs.put_word.Statement.{statement}
 use Rattle.nav_sets.proofs.put_word.Tie as tie
@@ -25,7 +25,7 @@ returns c =
     let e : b + 64 + g .from ≡ b + (64 + g .from) = omega arith in
     let two : c .before .before .before .pair2 .result ≡ pairOf w (b + (64 + g .from)) (g .n) w (b + 134) =
     c .before .before .before .pair2 .ensures w (b + 64) w (b + 128) second next ∙ rw e (ap (pairOf w (b + (64 + g .from)) (g .n) w) (omega arith)) in (
-      rw (c .before .before .put-u642 .ensures, c .before .before .before .before .before .before .before .put-u64 .ensures, one, two) (word-spliced (now (g .out)) (g .to) w b (g .from) (g .n) (omega arith)),
+      rw (c .before .before .put-u642 .ensures, c .before .before .before .before .before .before .before .put-u64 .ensures, one, two) (piece-spliced (now (g .out)) (g .to) w b (g .from) (g .n) (omega arith)),
       c .before .before .before .before .before .before .before .before .before .before .get-u642 .ensures,
     )
 
