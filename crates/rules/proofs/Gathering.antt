@@ -18,7 +18,7 @@ use Rattle.laws.proofs.Refusal.{neb-false}
 use Rattle.laws.proofs.Splice.{part-splice-same, length-part, length-splice, either, below?, part-part}
 use Rattle.laws.proofs.Tests.{and-left, and-right, neither}
 use Rattle.rules.specs.Bits.{same}
-use Rattle.rules.specs.Calls.{Subframe}
+use Rattle.rules.specs.Calls.{Subframe, fieldsOf}
 use Rattle.rules.specs.Claim.{BlockCame}
 use Rattle.rules.specs.Gather.{hkrootOf, dsmIdOf, blockIdOf, blockOf, headerOf, totalOf, marked, withMark, storedBlock, dropsBlocks, keptMarks, reservedCount, tooHigh, withBlock, complete, dsmOf, takenOut}
 use Rattle.rules.specs.Log.{Entry, Log, Once, here, earlier, hkrootIn}
@@ -181,7 +181,7 @@ module _ (st : Store) (t : ℕ) (hk : List ℕ) (blocks-size : length (st .block
         rw (other-place i k h g (inl n)) (earlier (v .came i k h g (ap (λ (j : ℕ). marked j k) (sym (other-marks i n)) ∙ m)))
 
     -- in a half answered 0, the block that came and those that were there
-    module _ (x : Entry) (sub : Subframe) (half-is : hkrootIn x ≡ some sub) (hk-is : hkrootOf (sub .bytes) 15 ≡ hk) where
+    module _ (x : Entry) (sub : Subframe) (half-is : hkrootIn x ≡ some sub) (hk-is : hkrootOf (fieldsOf sub) 15 ≡ hk) where
       own-came : (k : ℕ) → k < 16 → marked (getD (new .present) id 0) k ≡ true → Once (BlockCame (storedBlock (new .blocks) id k) id k) (x ∷ l)
       own-came k g m =
           ⊎-elim

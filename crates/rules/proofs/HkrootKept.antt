@@ -14,11 +14,12 @@ use Rattle.laws.specs.Lists.{part}
 use Rattle.laws.specs.Refusal.{firstOf}
 use Rattle.laws.proofs.Refusal.{clear, by-test}
 use Rattle.laws.proofs.Splice.{either, length-part, getD-part}
-use Rattle.rules.specs.Calls.{Start, Subframe, HkrootDone, hkrootHalf, storeDone, krootDone, pkrDone}
+use Rattle.rules.specs.Calls.{Start, Subframe, HkrootDone, fieldsOf, hkrootHalf, hkrootReceived, storeDone, krootDone, pkrDone}
 use Rattle.rules.specs.Gather.{hkrootOf, dsmIdOf, headerOf, withBlock, complete, stored, gathered, Gathered, gatherChecks}
 use Rattle.rules.specs.Kroot.{offerId, inForce, parametersBad}
 use Rattle.rules.specs.Log.{Entry, Log, hkrootIn}
 use Rattle.rules.specs.Pkr.{Renewed, pkrJudged}
+use Rattle.rules.specs.Received.{fieldsCame}
 use Rattle.rules.specs.State.{State, Store, nsOf, macltOf, treeRoot, configLength, blocksLength, dsmIds, pubkeysLength}
 use Rattle.rules.proofs.Bounds.{dsm-id-bound, offer-id-bound}
 use Rattle.rules.proofs.Choices.{by-number}
@@ -43,10 +44,10 @@ record StoreIs (id code : ℕ) (l : Log) (g : Gathered) : Type 0 where
 module _ (st : Store) (t : ℕ) (x : Entry) (sub : Subframe) (l : Log)
     (blocks-size : length (st .blocks) ≡ blocksLength) (marks-size : length (st .present) ≡ dsmIds) (half-is : x .reply .code ≡ 0 → hkrootIn x ≡ some sub) (v : BlocksAre st l) where
   abbrev hk : List ℕ
-  hk = hkrootOf (sub .bytes) 15
+  hk = hkrootOf (fieldsOf sub) 15
 
-  hk-size : length (hkrootOf (sub .bytes) 15) ≡ 15
-  hk-size = length-hkroot (sub .bytes) 15
+  hk-size : length (hkrootOf (fieldsOf sub) 15) ≡ 15
+  hk-size = length-hkroot (fieldsOf sub) 15
 
   stored-is : Gathering.Fit st t hk blocks-size marks-size hk-size → StoreIs (dsmIdOf hk) (x .reply .code) (x ∷ l) (stored (withBlock st t (dsmIdOf hk) hk) (dsmIdOf hk))
   unfolding stored Gathering.new
@@ -112,7 +113,7 @@ module _ (o : Start) (s : State) (x : Entry) (sub : Subframe) (l : Log) (half-is
     (config-size : length (s .config) ≡ configLength) (blocks-size : length (s .store .blocks) ≡ blocksLength) (marks-size : length (s .store .present) ≡ dsmIds) (keys-size : length (s .pubkeys) ≡ pubkeysLength)
     (blocks : BlocksAre (s .store) l) (keys : KeysAre o (s .pubkeys) l) (root : treeRoot (s .config) ≡ o .root) (offer : OfferHeld (s .pubkeys) (s .offer)) where
   abbrev dsmId : ℕ
-  dsmId = dsmIdOf (hkrootOf (sub .bytes) 15)
+  dsmId = dsmIdOf (hkrootOf (fieldsOf sub) 15)
 
   abbrev Done : HkrootDone → Type 0
   Done a = a .code ≡ x .reply .code → HkrootIs o s (x ∷ l) (a .state)
@@ -136,7 +137,7 @@ module _ (o : Start) (s : State) (x : Entry) (sub : Subframe) (l : Log) (half-is
         auth = refl;
       }
 
-  kroot-done : (g : Gathered) → Taken g → length (g .dsm) ≢ 0 → Done (krootDone s (g .store) (headerOf (hkrootOf (sub .bytes) 15)) (g .dsm))
+  kroot-done : (g : Gathered) → Taken g → length (g .dsm) ≢ 0 → Done (krootDone s (g .store) (headerOf (hkrootOf (fieldsOf sub) 15)) (g .dsm))
   unfolding krootDone
   kroot-done g v n ok =
       record {
@@ -146,7 +147,7 @@ module _ (o : Start) (s : State) (x : Entry) (sub : Subframe) (l : Log) (half-is
         nav = refl;
         blocks = v .out n;
         pubkeys = keys-later keys;
-        offer = kroot-held (s .pubkeys) (s .config) (s .offer) (headerOf (hkrootOf (sub .bytes) 15)) (g .dsm) offer;
+        offer = kroot-held (s .pubkeys) (s .config) (s .offer) (headerOf (hkrootOf (fieldsOf sub) 15)) (g .dsm) offer;
         chain = refl;
         tesla = refl;
         auth = refl;
@@ -185,12 +186,32 @@ module _ (o : Start) (s : State) (x : Entry) (sub : Subframe) (l : Log) (half-is
         auth = refl;
       }
 
-  pub hkroot-is : (t : ℕ) → Done (hkrootHalf s t (hkrootOf (sub .bytes) 15))
+  hkroot-is : (t : ℕ) → Done (hkrootHalf s t (hkrootOf (fieldsOf sub) 15))
   unfolding hkrootHalf
   hkroot-is t =
-      let g = gathered (s .store) t (hkrootOf (sub .bytes) 15) in
-      let v : Taken (gathered (s .store) t (hkrootOf (sub .bytes) 15)) = gathered-is (s .store) t x sub l blocks-size marks-size half-is blocks in
+      let g = gathered (s .store) t (hkrootOf (fieldsOf sub) 15) in
+      let v : Taken (gathered (s .store) t (hkrootOf (fieldsOf sub) 15)) = gathered-is (s .store) t x sub l blocks-size marks-size half-is blocks in
       by-test Done (eqb (length (g .dsm)) 0) (λ e. store-done g v (eqb-true (length (g .dsm)) 0 e))
       (λ e.
       by-test Done (leb dsmId 11) (λ _. kroot-done g v (eqb-false (length (g .dsm)) 0 e))
       (λ high. pkr-done g v (eqb-false (length (g .dsm)) 0 e) high))
+
+  -- a half of which a byte is missing leaves the store as it was
+  missing-is : Done (record { code = 17; stops = false; state = s })
+  missing-is ok =
+      record {
+        ns = refl;
+        root = refl;
+        in-force = λ chain. refl;
+        nav = refl;
+        blocks = blocks-later blocks;
+        pubkeys = keys-later keys;
+        offer = offer;
+        chain = refl;
+        tesla = refl;
+        auth = refl;
+      }
+
+  pub received-is : (t : ℕ) → Done (hkrootReceived s t (sub .marks) (hkrootOf (fieldsOf sub) 15))
+  unfolding hkrootReceived
+  received-is t = by-test Done (eqb (fieldsCame (sub .marks) 15) 15) (λ _. hkroot-is t) (λ _. missing-is)

@@ -15,13 +15,14 @@ use Rattle.laws.specs.Lists.{part, splice}
 use Rattle.laws.specs.Refusal.{unless}
 use Rattle.laws.proofs.Tests.{neither}
 use Rattle.rules.specs.Bits.{filled, within}
-use Rattle.rules.specs.Calls.{Start, Subframe, MackDone, chainOf, heldOf, sectionUnfit, sectionProved, tagsWorked, sectionTaken, mackHalf, authStamp, authSet}
+use Rattle.rules.specs.Calls.{Start, Subframe, MackDone, fieldsOf, chainOf, heldOf, sectionUnfit, sectionProved, tagsWorked, sectionTaken, mackHalf, authStamp, authSet}
 use Rattle.rules.specs.Chain.{Held, sentSlot}
 use Rattle.rules.specs.Claim.{Marked, MarkBacked, SetBacked, contentsBy, chainBy, sectionOf}
 use Rattle.rules.specs.Gather.{hkrootOf, mackOf, headerOf, statusOf, cidOf}
 use Rattle.rules.specs.Kroot.{krootOf, chainWith, chainContents, inForce, nmackOf, rootSecondsOf}
 use Rattle.rules.specs.Log.{Entry, Log, here, sectionIn}
-use Rattle.rules.specs.Mack.{keysProved, Proved}
+use Rattle.rules.specs.Mack.{Proved}
+use Rattle.rules.specs.Received.{fieldCame, keysReceived}
 use Rattle.rules.specs.State.{State, nsOf, waitingCount, waitingLength, setsLength, satellites, heldkeyLength}
 use Rattle.rules.specs.Tags.{Work, entryAt}
 use Rattle.rules.specs.Times.{secondsOf, timeValid}
@@ -33,7 +34,7 @@ use Rattle.rules.proofs.DueTags.{SectionIs, dues-are, root-seconds}
 use Rattle.rules.proofs.Entries.{entries-in}
 use Rattle.rules.proofs.Invariant.{WordsAre, InForce, HeldIs, WaitIs, SetsAre}
 use Rattle.rules.proofs.Later.{held-later, wait-later, set-later}
-use Rattle.rules.proofs.OwnTags.{owns-are}
+use Rattle.rules.proofs.OwnTags.{fields-are}
 use Rattle.rules.proofs.Parts.{filled-back}
 use Rattle.rules.proofs.SectionKeys.{Proves, keys-are}
 use Rattle.rules.proofs.TagRecords.{NewMark, Backing, WorkIs, start-is}
@@ -54,11 +55,11 @@ pub record Before (o : Start) (b s : State) (l : Log) : Type 0 where
 
 -- the keys of its blocks
 abbrev keysOf : State → Subframe → Proved
-keysOf s sub = keysProved (chainOf s) (sub .time) (sub .prn) (mackOf (sub .bytes) 15) (heldOf s) ((chainOf s) .nmack)
+keysOf s sub = keysReceived (chainOf s) (sub .time) (sub .prn) (mackOf (fieldsOf sub) 15) (sub .marks) (heldOf s) ((chainOf s) .nmack)
 
 -- the half's own number and keys
 abbrev sectionOn : State → Subframe → Proved
-sectionOn s sub = sectionProved s (sub .prn) (sub .time) (headerOf (hkrootOf (sub .bytes) 15)) (mackOf (sub .bytes) 15)
+sectionOn s sub = sectionProved s (sub .prn) (sub .time) (sub .marks) (headerOf (hkrootOf (fieldsOf sub) 15)) (mackOf (fieldsOf sub) 15)
 
 record Fit (s : State) (sub : Subframe) : Type 0 where
   force : inForce (s .config) (s .chain) ≡ true
@@ -68,19 +69,20 @@ record Fit (s : State) (sub : Subframe) : Type 0 where
 
 fit : (s : State) (sub : Subframe) → (sectionOn s sub) .code ≡ 0 → Fit s sub
 unfolding sectionProved sectionUnfit
-fit s sub h = go (sectionUnfit s (sub .time) (headerOf (hkrootOf (sub .bytes) 15))) refl h
+fit s sub h = go (not (fieldCame (sub .marks) 0)) (sectionUnfit s (sub .time) (headerOf (hkrootOf (fieldsOf sub) 15))) refl refl h
   where
-    res : Bool → Proved
-    res u = unless (cond u 11 0) (keysOf s sub) (record { code = cond u 11 0; held = heldOf s })
+    res : Bool → Bool → Proved
+    res a u = unless (cond a 17 (cond u 11 0)) (keysOf s sub) (record { code = cond a 17 (cond u 11 0); held = heldOf s })
 
-    go : (u : Bool) → sectionUnfit s (sub .time) (headerOf (hkrootOf (sub .bytes) 15)) ≡ u → (res u) .code ≡ 0 → Fit s sub
-    go true e h = absurd (let z : _≡_ {A = ℕ} 11 0 = h in omega arith)
-    go false e h =
+    go : (a u : Bool) → not (fieldCame (sub .marks) 0) ≡ a → sectionUnfit s (sub .time) (headerOf (hkrootOf (fieldsOf sub) 15)) ≡ u → (res a u) .code ≡ 0 → Fit s sub
+    go true u m e h = absurd (let z : _≡_ {A = ℕ} 17 0 = h in omega arith)
+    go false true m e h = absurd (let z : _≡_ {A = ℕ} 11 0 = h in omega arith)
+    go false false m e h =
         let a = neither (not (inForce (s .config) (s .chain))) _ e in
-        let c = neither (not (within 1 2 (statusOf (headerOf (hkrootOf (sub .bytes) 15))))) _ (a .1) in
-        let d = neither (not (cidInForce s (cidOf (headerOf (hkrootOf (sub .bytes) 15))))) _ (c .1) in
+        let c = neither (not (within 1 2 (statusOf (headerOf (hkrootOf (fieldsOf sub) 15))))) _ (a .1) in
+        let d = neither (not (cidInForce s (cidOf (headerOf (hkrootOf (fieldsOf sub) 15))))) _ (c .1) in
         let r = neither (ltb (secondsOf (sub .time)) ((chainOf s) .root)) false (d .1) in
-        record { force = not-false _ (a .0); not-before = ltb-false (secondsOf (sub .time)) ((chainOf s) .root) (r .0); proved = h; same-proof = rw e refl }
+        record { force = not-false _ (a .0); not-before = ltb-false (secondsOf (sub .time)) ((chainOf s) .root) (r .0); proved = h; same-proof = rw (m, e) refl }
 
 -- ---- numbers
 
@@ -139,13 +141,13 @@ module _ (o : Start) (b s : State) (x : Entry) (l : Log) (sub : Subframe) (v : B
   root-before = rw (← root-seconds (o .ns) (contentsBy (force .said)), ← chain-is) (f .not-before)
 
   abbrev work : Work
-  work = tagsWorked s top (sectionOf sub)
+  work = tagsWorked s top (sectionOf sub) (sub .marks)
 
-  work-is : WorkIs o b (contentsBy (force .said)) x l (tagsWorked s top (sectionOf sub))
+  work-is : WorkIs o b (contentsBy (force .said)) x l (tagsWorked s top (sectionOf sub) (sub .marks))
   unfolding tagsWorked
   work-is =
       rw chain-is
-      (owns-are o b (force .said) top x l sub judged-in (s .config) (s .nav) (v .words) root-before (rw (← chain-is) (proves .reached)) time-valid
+      (fields-are o b (force .said) top x l sub judged-in (s .config) (s .nav) (v .words) root-before (rw (← chain-is) (proves .reached)) time-valid
       ((chainBy o (force .said)) .nmack * (chainBy o (force .said)) .fields) _ (le-refl _)
       (dues-are o b (force .said) top x l sub judged-in (s .tesla .waiting) (waitingCount (s .tesla .numbers)) _ (v .waiting-size) (count-bound (s .tesla .numbers))
       (rw (← (force .contents-are)) (λ k h. wait-later (v .waiting (f .force) k h)))
@@ -156,7 +158,7 @@ module _ (o : Start) (b s : State) (x : Entry) (l : Log) (sub : Subframe) (v : B
   abbrev left : State
   left = sectionTaken s top work
 
-  module _ (written : x .reply .records ≡ (tagsWorked s top (sectionOf sub)) .records) where
+  module _ (written : x .reply .records ≡ (tagsWorked s top (sectionOf sub) (sub .marks)) .records) where
     new-marked : {place : ℕ} {t : Tag} {navdata : List ℕ} → NewMark o b (work .records) place t navdata x l → Marked o b place t navdata x l
     new-marked m = record { record-is = rw written (m .record-is); four = m .four }
 
@@ -205,7 +207,7 @@ pub record MackIs (o : Start) (b s : State) (x : Entry) (l : Log) (m : MackDone)
   pub marks : x .reply .records ≡ m .records → (k : ℕ) → 12 * k < length (x .reply .records) → getD (x .reply .records) (12 * k) 0 ≡ 1 → MarkBacked o b k x l
 
 abbrev workOf : State → Subframe → Work
-workOf s sub = tagsWorked s ((keysOf s sub) .held) (sectionOf sub)
+workOf s sub = tagsWorked s ((keysOf s sub) .held) (sectionOf sub) (sub .marks)
 
 taken-is : (o : Start) (b s : State) (x : Entry) (l : Log) (sub : Subframe) (v : Before o b s l) (section-is : sectionIn x ≡ some sub) (tv : timeValid (sub .time) ≡ true) (f : Fit s sub)
     → MackIs o b s x l (record { code = 0; records = (workOf s sub) .records; state = sectionTaken s ((keysOf s sub) .held) (workOf s sub) })
@@ -226,8 +228,8 @@ taken-is o b s x l sub v section-is tv f =
     }
 
 pub mack-is : (o : Start) (b s : State) (x : Entry) (l : Log) (sub : Subframe) → Before o b s l → sectionIn x ≡ some sub → timeValid (sub .time) ≡ true
-    → (mackHalf s (sub .prn) (sub .time) (headerOf (hkrootOf (sub .bytes) 15)) (mackOf (sub .bytes) 15)) .code ≡ 0
-    → MackIs o b s x l (mackHalf s (sub .prn) (sub .time) (headerOf (hkrootOf (sub .bytes) 15)) (mackOf (sub .bytes) 15))
+    → (mackHalf s (sub .prn) (sub .time) (sub .marks) (headerOf (hkrootOf (fieldsOf sub) 15)) (mackOf (fieldsOf sub) 15)) .code ≡ 0
+    → MackIs o b s x l (mackHalf s (sub .prn) (sub .time) (sub .marks) (headerOf (hkrootOf (fieldsOf sub) 15)) (mackOf (fieldsOf sub) 15))
 unfolding mackHalf
 mack-is o b s x l sub v section-is tv =
     by-number (λ (m : MackDone). m .code ≡ 0 → MackIs o b s x l m) ((sectionOn s sub) .code)

@@ -6,13 +6,14 @@ use mathlib.Core.List.{List, [], _∷_}
 use native.Mathlib.Nat.{div-lt-iff-lt-mul, le-trans, mul-zero, zero-lt-suc, zero-mod}
 use native.Mathlib.Omega.{arith}
 use lib.Dec.{eqb, ltb}
+use lib.ListN.{replicate}
 use lib.Pow.{pow-mono}
 use borrow.Author.Tests.{eqb-true, not-false}
 use Rattle.laws.specs.Refusal.{neb}
 use Rattle.laws.proofs.Refusal.{by-test}
 use Rattle.laws.proofs.Tests.{and-left, and-right, neither}
 use Rattle.rules.specs.Bits.{anyOf}
-use Rattle.rules.specs.Calls.{Start, Subframe}
+use Rattle.rules.specs.Calls.{Start, Subframe, fieldsOf}
 use Rattle.rules.specs.Chain.{Held, keySlot, sentSlot}
 use Rattle.rules.specs.Claim.{Arrived, FourThings, contentsBy, chainBy, sectionOf, slotOfTag, setIn, usableIn}
 use Rattle.rules.specs.Gather.{headerOf, hkrootOf, mackOf}
@@ -20,8 +21,9 @@ use Rattle.rules.specs.Kroot.{chainWith, tagWidth, msOf, rootSecondsOf}
 use Rattle.rules.specs.Log.{Entry, Log, here, lastWord}
 use Rattle.rules.specs.Mack.{fieldTag}
 use Rattle.rules.specs.Navdata.{wordCame, usable, setOf}
+use Rattle.rules.specs.Received.{keyCame, fieldLost, lostTag, fieldJudged, fieldsJudged}
 use Rattle.rules.specs.State.{State, Nav, prnValid, markOf}
-use Rattle.rules.specs.Tags.{Work, ownTag, ownOutcome, ownJudged, ownsJudged, notAllowed, flexible, secondHalf, macseqFits, tagMatches, tagEntry}
+use Rattle.rules.specs.Tags.{Work, told, marksSet, recordIssue, ownTag, ownOutcome, ownJudged, notAllowed, flexible, secondHalf, macseqFits, tagMatches, tagEntry}
 use Rattle.rules.specs.Times.{secondsOf, keySeconds, delayOf, timeValid, tagSlot, lowestSlot, slotOf}
 use Rattle.rules.specs.Verdict.{Verdict}
 use Rattle.rules.specs.declared.Chain.{Chain}
@@ -32,6 +34,7 @@ use Rattle.rules.proofs.DueTags.{SectionIs, matched-by}
 use Rattle.rules.proofs.Entries.{entry-tag, entry-set, length-tag-entry}
 use Rattle.rules.proofs.Invariant.{WordsAre, Place, WaitIs}
 use Rattle.rules.proofs.Parts.{length-set-of}
+use Rattle.rules.proofs.Received.{not-lost-key, not-lost-tag, not-lost-info}
 use Rattle.rules.proofs.TagRecords.{WorkIs, told-is, kept-is}
 use Rattle.rules.proofs.Unchanged.{unchanged-refl}
 
@@ -108,7 +111,7 @@ block-in j nmack (suc f) h = div-lt-iff-lt-mul (zero-lt-suc f) .1 h
 
 module _ (o : Start) (b : State) (said : Verdict) (h : Held) (x : Entry) (l : Log) (sub : Subframe) (v : SectionIs o b said h x l sub)
     (config : List ℕ) (nav : Nav) (words : WordsAre nav l) (not-before : rootSecondsOf (contentsBy said) ≤ secondsOf (sub .time))
-    (reached : (k : ℕ) → k < (chainBy o said) .nmack → sentSlot (chainBy o said) (sub .time) (suc k) (sub .prn) ≤ h .slot)
+    (reached : (k : ℕ) → k < (chainBy o said) .nmack → keyCame (chainBy o said) (sub .marks) (suc k) ≡ true → sentSlot (chainBy o said) (sub .time) (suc k) (sub .prn) ≤ h .slot)
     (time-valid : timeValid (sub .time) ≡ true) where
   abbrev chain : Chain
   chain = chainBy o said
@@ -123,7 +126,7 @@ module _ (o : Start) (b : State) (said : Verdict) (h : Held) (x : Entry) (l : Lo
   abbrev outcomeAt : ℕ → ℕ → ℕ
   outcomeAt j count = ownOutcome config nav chain h (sectionOf sub) j count
 
-  module _ (j : ℕ) (in-section : j < (chainBy o said) .nmack * (chainBy o said) .fields) where
+  module _ (j : ℕ) (in-section : j < (chainBy o said) .nmack * (chainBy o said) .fields) (came : fieldLost config (chainBy o said) (sub .time) (sub .marks) j ≡ false) where
     tag-time : (tagAt j) .time ≡ sub .time
     unfolding ownTag
     tag-time = refl
@@ -143,6 +146,8 @@ module _ (o : Start) (b : State) (said : Verdict) (h : Held) (x : Entry) (l : Lo
           field = j;
           in-section = in-section;
           tag-is = refl;
+          tag-came = not-lost-tag config chain (sub .time) (sub .marks) j came;
+          info-came = not-lost-info config chain (sub .time) (sub .marks) j in-section came;
           first-is = refl;
           kind = not-false _ (a .0);
           heard = p;
@@ -159,7 +164,7 @@ module _ (o : Start) (b : State) (said : Verdict) (h : Held) (x : Entry) (l : Lo
         let k = block-in j (chain .nmack) (chain .fields) in-section in
         let e : j / chain .fields + 1 ≡ suc (j / chain .fields) = omega arith in
         let s = own-slot chain (sub .time) (suc (j / chain .fields)) ((tagAt j) .adkd) (sub .prn) (eqb-true (delayOf ((tagAt j) .adkd)) 0 d) in
-        rw e (le-trans s (reached (j / chain .fields) k))
+        rw e (le-trans s (reached (j / chain .fields) k (ap (keyCame chain (sub .marks)) (sym e) ∙ not-lost-key config chain (sub .time) (sub .marks) j came)))
 
     -- outcome 1: neither 4 nor 3 applies, and the tag matches
     one-four : (count : ℕ) → outcomeAt j count ≡ 1 → FourThings o b (tagAt j) (setAt j) x l
@@ -182,7 +187,7 @@ module _ (o : Start) (b : State) (said : Verdict) (h : Held) (x : Entry) (l : Lo
     unfolding ownTag fieldTag chainWith
     tag-small =
         let n = tag-width-bound (msOf (contentsBy said)) in
-        (time-bound (sub .time) time-valid, (status-bound (headerOf (hkrootOf (sub .bytes) 15)), le-trans (bits-lt (mackOf (sub .bytes) 15) _ (tagWidth (msOf (contentsBy said)))) (pow-mono n)))
+        (time-bound (sub .time) time-valid, (status-bound (headerOf (hkrootOf (fieldsOf sub) 15)), le-trans (bits-lt (mackOf (fieldsOf sub) 15) _ (tagWidth (msOf (contentsBy said)))) (pow-mono n)))
 
     -- outcome 5: neither 4 nor 3 applies, and the tag has a delay
     five-waits : (count : ℕ) → outcomeAt j count ≡ 5 → WaitIs o (contentsBy said) (tagEntry (tagAt j) (setAt j)) (x ∷ l)
@@ -206,7 +211,19 @@ module _ (o : Start) (b : State) (said : Verdict) (h : Held) (x : Entry) (l : Lo
         (λ e. kept-is o b (contentsBy said) x l (tagEntry (tagAt j) (setAt j)) _ done (length-tag-entry (tagAt j) (setAt j) size) (five-waits (w .count) (eqb-true _ 5 e)))
         (λ _. done)
 
-  pub owns-are : (n : ℕ) (w : Work) → n ≤ (chainBy o said) .nmack * (chainBy o said) .fields → WorkIs o b (contentsBy said) x l w → WorkIs o b (contentsBy said) x l (ownsJudged config nav chain h (sectionOf sub) n w)
-  unfolding ownsJudged
-  owns-are zero w le k = k
-  owns-are (suc j) w le k = own-is j (omega arith) (ownsJudged config nav chain h (sectionOf sub) j w) (owns-are j w (omega arith) k)
+  -- outcome 8 marks nothing
+  lost-is : (j : ℕ) (w : Work) → WorkIs o b (contentsBy said) x l w → WorkIs o b (contentsBy said) x l (told 8 (lostTag chain (sectionOf sub) (sub .marks) j) [] w)
+  unfolding told marksSet recordIssue
+  lost-is j w k = told-is o b (contentsBy said) x l 8 (lostTag chain (sectionOf sub) (sub .marks) j) (replicate 69 0) w k refl (λ e. absurd (omega (arith, e)))
+
+  field-is : (j : ℕ) (w : Work) → j < (chainBy o said) .nmack * (chainBy o said) .fields → WorkIs o b (contentsBy said) x l w
+      → WorkIs o b (contentsBy said) x l (fieldJudged config nav chain h (sectionOf sub) (sub .marks) j w)
+  unfolding fieldJudged
+  field-is j w in-section k =
+      by-test (WorkIs o b (contentsBy said) x l) (fieldLost config chain (sub .time) (sub .marks) j) (λ _. lost-is j w k) (λ came. own-is j in-section came w k)
+
+  pub fields-are : (n : ℕ) (w : Work) → n ≤ (chainBy o said) .nmack * (chainBy o said) .fields → WorkIs o b (contentsBy said) x l w
+      → WorkIs o b (contentsBy said) x l (fieldsJudged config nav chain h (sectionOf sub) (sub .marks) n w)
+  unfolding fieldsJudged
+  fields-are zero w le k = k
+  fields-are (suc j) w le k = field-is j (fieldsJudged config nav chain h (sectionOf sub) (sub .marks) j w) (omega arith) (fields-are j w (omega arith) k)

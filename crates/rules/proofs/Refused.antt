@@ -10,11 +10,12 @@ use lib.ListN.{length}
 use Rattle.laws.specs.Refusal.{firstOf, unless}
 use Rattle.laws.proofs.Refusal.{by-test, unless-refused}
 use Rattle.rules.specs.Bits.{anyOf}
-use Rattle.rules.specs.Calls.{Start, Word, Subframe, SubframeTold, HkrootDone, MackDone, startCall, startChecks, wordCall, wordChecks, verdictCall, verdictChecks, subframeCall, subframeChecks, halvesDone, noted, hkrootHalf, storeDone, krootDone, pkrDone, mackHalf, sectionProved}
+use Rattle.rules.specs.Calls.{Start, Word, Subframe, SubframeTold, HkrootDone, MackDone, startCall, startChecks, wordCall, wordChecks, verdictCall, verdictChecks, subframeCall, subframeChecks, fieldsOf, halvesDone, noted, hkrootHalf, hkrootReceived, storeDone, krootDone, pkrDone, mackHalf, sectionProved}
 use Rattle.rules.specs.Claim.{Kept, Refused, between}
 use Rattle.rules.specs.Gather.{gathered, hkrootOf, mackOf, headerOf, dsmIdOf}
 use Rattle.rules.specs.Log.{start, word, subframe, verdict, readSet, readOffer, step}
 use Rattle.rules.specs.Pkr.{Renewed, pkrJudged, pkrChecks}
+use Rattle.rules.specs.Received.{fieldsCame}
 use Rattle.rules.specs.State.{State, Store, treeRoot}
 use Rattle.rules.specs.Verdict.{Verdict, judgedVerdict, trusting}
 use Rattle.rules.proofs.Choices.{by-number}
@@ -56,10 +57,10 @@ verdict-kept s v =
 
 -- ---- the halves
 
-pub mack-half-kept : (s : State) (prn t header : ℕ) (mack : List ℕ) → (mackHalf s prn t header mack) .code ≢ 0 → (mackHalf s prn t header mack) .state ≡ s
+pub mack-half-kept : (s : State) (prn t marks header : ℕ) (mack : List ℕ) → (mackHalf s prn t marks header mack) .code ≢ 0 → (mackHalf s prn t marks header mack) .state ≡ s
 unfolding mackHalf
-mack-half-kept s prn t header mack =
-    by-number (λ (m : MackDone). m .code ≢ 0 → m .state ≡ s) ((sectionProved s prn t header mack) .code) (λ _ h. absurd (h refl)) (λ _ _. refl)
+mack-half-kept s prn t marks header mack =
+    by-number (λ (m : MackDone). m .code ≢ 0 → m .state ≡ s) ((sectionProved s prn t marks header mack) .code) (λ _ h. absurd (h refl)) (λ _ _. refl)
 
 -- a refused DSM-PKR adds no key and does not stop the core
 pub pkr-refused : (keys root d : List ℕ) → (pkrJudged keys root d) .code ≢ 0 → ((pkrJudged keys root d) .pubkeys ≡ keys) × ((pkrJudged keys root d) .stops ≡ false)
@@ -85,6 +86,11 @@ hkroot-half-kept s t hk =
     (λ _ _. record { config = refl; pubkeys = refl; chain = refl; slot = refl; key = refl; auth = refl })
     (λ _. pkr-done-kept s (g .store) (g .dsm)))
 
+received-kept : (s : State) (t marks : ℕ) (hk : List ℕ) → (hkrootReceived s t marks hk) .code ≢ 0 → Kept s ((hkrootReceived s t marks hk) .state)
+unfolding hkrootReceived
+received-kept s t marks hk =
+    by-test (λ (a : HkrootDone). a .code ≢ 0 → Kept s (a .state)) (eqb (fieldsCame marks 15) 15) (λ _. hkroot-half-kept s t hk) (λ _ _. same-kept s)
+
 -- ---- sub-frame: noting its time changes only clocks
 
 noted-first : (s s' : State) (x : Subframe) → Kept (noted s x) s' → Kept s s'
@@ -94,22 +100,22 @@ noted-first s s' x k = record { config = k .config; pubkeys = k .pubkeys; chain 
 noted-kept : (s : State) (x : Subframe) → Kept s (noted s x)
 noted-kept s x = noted-first s (noted s x) x (same-kept (noted s x))
 
-halves-hkroot : (s : State) (area : List ℕ) (x : Subframe) → (halvesDone s area x) .hkroot ≢ 0 → Kept s ((hkrootHalf s (x .time) (hkrootOf (x .bytes) 15)) .state)
+halves-hkroot : (s : State) (area : List ℕ) (x : Subframe) → (halvesDone s area x) .hkroot ≢ 0 → Kept s ((hkrootReceived s (x .time) (x .marks) (hkrootOf (fieldsOf x) 15)) .state)
 unfolding halvesDone
 halves-hkroot s area x =
-    let a = hkrootHalf s (x .time) (hkrootOf (x .bytes) 15) in
+    let a = hkrootReceived s (x .time) (x .marks) (hkrootOf (fieldsOf x) 15) in
     by-test (λ (r : SubframeTold). r .hkroot ≢ 0 → Kept s (a .state)) (a .stops)
-    (λ _ h. hkroot-half-kept s (x .time) (hkrootOf (x .bytes) 15) h)
-    (λ _ h. hkroot-half-kept s (x .time) (hkrootOf (x .bytes) 15) h)
+    (λ _ h. received-kept s (x .time) (x .marks) (hkrootOf (fieldsOf x) 15) h)
+    (λ _ h. received-kept s (x .time) (x .marks) (hkrootOf (fieldsOf x) 15) h)
 
-halves-mack : (s : State) (area : List ℕ) (x : Subframe) → (halvesDone s area x) .mack ≢ 0 → Kept ((hkrootHalf s (x .time) (hkrootOf (x .bytes) 15)) .state) ((halvesDone s area x) .state)
+halves-mack : (s : State) (area : List ℕ) (x : Subframe) → (halvesDone s area x) .mack ≢ 0 → Kept ((hkrootReceived s (x .time) (x .marks) (hkrootOf (fieldsOf x) 15)) .state) ((halvesDone s area x) .state)
 unfolding halvesDone
 halves-mack s area x =
-    let hk = hkrootOf (x .bytes) 15 in
-    let a = hkrootHalf s (x .time) (hkrootOf (x .bytes) 15) in
+    let hk = hkrootOf (fieldsOf x) 15 in
+    let a = hkrootReceived s (x .time) (x .marks) (hkrootOf (fieldsOf x) 15) in
     by-test (λ (r : SubframeTold). r .mack ≢ 0 → Kept (a .state) (r .state)) (a .stops)
     (λ _ _. same-kept (a .state))
-    (λ _ h. rw (mack-half-kept (a .state) (x .prn) (x .time) (headerOf hk) (mackOf (x .bytes) 15) h) (same-kept (a .state)))
+    (λ _ h. rw (mack-half-kept (a .state) (x .prn) (x .time) (x .marks) (headerOf hk) (mackOf (fieldsOf x) 15) h) (same-kept (a .state)))
 
 hkroot-kept : (s : State) (area : List ℕ) (x : Subframe) → (step s (subframe area x)) .reply .code ≢ 0 → Kept s (between s area x)
 unfolding step subframeCall
@@ -118,7 +124,7 @@ hkroot-kept s area x = go (firstOf (subframeChecks s area x))
     after : ℕ → SubframeTold
     after n = unless n (halvesDone (noted s x) area x) (record { hkroot = n; mack = n; count = 0; state = cond (eqb n 5) (noted s x) s; area = area })
 
-    go : (n : ℕ) → (after n) .hkroot ≢ 0 → Kept s (unless n ((hkrootHalf (noted s x) (x .time) (hkrootOf (x .bytes) 15)) .state) s)
+    go : (n : ℕ) → (after n) .hkroot ≢ 0 → Kept s (unless n ((hkrootReceived (noted s x) (x .time) (x .marks) (hkrootOf (fieldsOf x) 15)) .state) s)
     go zero h = noted-first s _ x (halves-hkroot (noted s x) area x h)
     go (suc n) h = same-kept s
 
@@ -129,7 +135,7 @@ mack-kept s area x = go (firstOf (subframeChecks s area x))
     after : ℕ → SubframeTold
     after n = unless n (halvesDone (noted s x) area x) (record { hkroot = n; mack = n; count = 0; state = cond (eqb n 5) (noted s x) s; area = area })
 
-    go : (n : ℕ) → (after n) .mack ≢ 0 → Kept (unless n ((hkrootHalf (noted s x) (x .time) (hkrootOf (x .bytes) 15)) .state) s) ((after n) .state)
+    go : (n : ℕ) → (after n) .mack ≢ 0 → Kept (unless n ((hkrootReceived (noted s x) (x .time) (x .marks) (hkrootOf (fieldsOf x) 15)) .state) s) ((after n) .state)
     go zero h = halves-mack (noted s x) area x h
     go (suc n) h = by-test (Kept s) (eqb (suc n) 5) (λ _. noted-kept s x) (λ _. same-kept s)
 

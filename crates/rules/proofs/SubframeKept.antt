@@ -11,14 +11,14 @@ use Rattle.laws.specs.Lists.{part, splice}
 use Rattle.laws.specs.Refusal.{firstOf}
 use Rattle.laws.proofs.Refusal.{clear, by-test}
 use Rattle.laws.proofs.Tests.{and-left, neither}
-use Rattle.rules.specs.Calls.{Start, Subframe, SubframeTold, HkrootDone, MackDone, subframeCall, subframeChecks, halvesDone, noted, hkrootHalf, mackHalf, sectionProved, chainOf, heldOf}
+use Rattle.rules.specs.Calls.{Start, Subframe, SubframeTold, HkrootDone, MackDone, subframeCall, subframeChecks, fieldsOf, halvesDone, noted, hkrootReceived, mackHalf, sectionProved, chainOf, heldOf}
 use Rattle.rules.specs.Claim.{Fair, MarkBacked}
 use Rattle.rules.specs.Gather.{hkrootOf, mackOf, headerOf}
 use Rattle.rules.specs.Log.{subframe, Reply, nothing, Entry, Log, step, stateAt}
 use Rattle.rules.specs.State.{State, shaped, prnValid, areaLength}
 use Rattle.rules.specs.Times.{timeValid}
 use Rattle.rules.proofs.Choices.{answered, by-number, not-zero}
-use Rattle.rules.proofs.HkrootKept.{HkrootIs, hkroot-is}
+use Rattle.rules.proofs.HkrootKept.{HkrootIs, received-is}
 use Rattle.rules.proofs.Invariant.{Inv}
 use Rattle.rules.proofs.Later.{entry, stepped-at, Quiet, same-inv, unchanged-inv, quiet-subframe, words-later, force-later, held-later, wait-later, sets-later}
 use Rattle.rules.proofs.Lengths.{Sized, sized}
@@ -139,25 +139,25 @@ Good o b l area sub r = r .state ≡ stateAt b (entryOf area sub r ∷ l) → Fa
 quiet-entry : (area : List ℕ) (sub : Subframe) (r : SubframeTold) → Quiet (entryOf area sub r)
 quiet-entry area sub r = quiet-subframe (entryOf area sub r) area sub refl
 
-no-records-refused : (s : State) (prn t header : ℕ) (mack : List ℕ) → (mackHalf s prn t header mack) .code ≢ 0 → (mackHalf s prn t header mack) .records ≡ []
+no-records-refused : (s : State) (prn t marks header : ℕ) (mack : List ℕ) → (mackHalf s prn t marks header mack) .code ≢ 0 → (mackHalf s prn t marks header mack) .records ≡ []
 unfolding mackHalf
-no-records-refused s prn t header mack =
-    by-number (λ (m : MackDone). m .code ≢ 0 → m .records ≡ []) ((sectionProved s prn t header mack) .code) (λ _ h. absurd (h refl)) (λ _ _. refl)
+no-records-refused s prn t marks header mack =
+    by-number (λ (m : MackDone). m .code ≢ 0 → m .records ≡ []) ((sectionProved s prn t marks header mack) .code) (λ _ h. absurd (h refl)) (λ _ _. refl)
 
 -- ---- the halves
 
 module _ (o : Start) (b s : State) (l : Log) (area : List ℕ) (sub : Subframe) (v : Inv o b s l) (f : Fit s sub) where
   abbrev first : HkrootDone
-  first = hkrootHalf (noted s sub) (sub .time) (hkrootOf (sub .bytes) 15)
+  first = hkrootReceived (noted s sub) (sub .time) (sub .marks) (hkrootOf (fieldsOf sub) 15)
 
   abbrev second : MackDone
-  second = mackHalf (first .state) (sub .prn) (sub .time) (headerOf (hkrootOf (sub .bytes) 15)) (mackOf (sub .bytes) 15)
+  second = mackHalf (first .state) (sub .prn) (sub .time) (sub .marks) (headerOf (hkrootOf (fieldsOf sub) 15)) (mackOf (fieldsOf sub) 15)
 
   first-is : (r : SubframeTold) → first .code ≡ r .hkroot → HkrootIs o s (entryOf area sub r ∷ l) (first .state)
   unfolding noted
   first-is r ok =
       noted-is o s (first .state) sub (entryOf area sub r ∷ l)
-      (hkroot-is o (noted s sub) (entryOf area sub r) sub l (λ e. rw e refl) (f .size .config) (f .size .blocks) (f .size .present) (f .size .pubkeys) (v .blocks) (v .pubkeys) (v .root) (v .offer) (sub .time) ok)
+      (received-is o (noted s sub) (entryOf area sub r) sub l (λ e. rw e refl) (f .size .config) (f .size .blocks) (f .size .present) (f .size .pubkeys) (v .blocks) (v .pubkeys) (v .root) (v .offer) (sub .time) ok)
 
   -- "that sub-frame returns 0 and 4"
   stopped-good : Good o b l area sub (record { hkroot = first .code; mack = 4; count = 0; state = first .state; area = area })
@@ -179,8 +179,8 @@ module _ (o : Start) (b s : State) (l : Log) (area : List ℕ) (sub : Subframe) 
 
   refused-good : second .code ≢ 0 → Good o b l area sub both
   refused-good n at =
-      let k = mack-half-kept (first .state) (sub .prn) (sub .time) (headerOf (hkrootOf (sub .bytes) 15)) (mackOf (sub .bytes) 15) n in
-      let z = no-records-refused (first .state) (sub .prn) (sub .time) (headerOf (hkrootOf (sub .bytes) 15)) (mackOf (sub .bytes) 15) n in
+      let k = mack-half-kept (first .state) (sub .prn) (sub .time) (sub .marks) (headerOf (hkrootOf (fieldsOf sub) 15)) (mackOf (fieldsOf sub) 15) n in
+      let z = no-records-refused (first .state) (sub .prn) (sub .time) (sub .marks) (headerOf (hkrootOf (fieldsOf sub) 15)) (mackOf (fieldsOf sub) 15) n in
       (quiet-fair o b area sub both l (rw z (no-records _)), rw k (hkroot-inv o b s (first .state) (entryOf area sub both) l v (quiet-entry area sub both) (first-is both refl) (sym k ∙ at)))
 
   halves-good : Good o b l area sub (halvesDone (noted s sub) area sub)

@@ -12,12 +12,13 @@ use Rattle.rules.specs.Chain.{Held, held}
 use Rattle.rules.specs.Gather.{hkrootOf, mackOf, headerOf, statusOf, cidOf, dsmIdOf, gathered, Gathered}
 use Rattle.rules.specs.PublicKeys.{keyLength, keyType, keyBytes, withKey}
 use Rattle.rules.specs.Kroot.{krootJudged, noOffer, chainWith, chainContents, inForce, offerWaits, offerId, offerMessage, offerSignature}
-use Rattle.rules.specs.Mack.{keysProved, Proved}
+use Rattle.rules.specs.Mack.{Proved}
 use Rattle.rules.specs.Pkr.{pkrJudged}
+use Rattle.rules.specs.Received.{fieldCame, fieldsCame, received, keysReceived, fieldsJudged}
 use Rattle.rules.specs.State.{State, Store, Auth, shaped, nsOf, treeRoot, stopped, lastSubframe, lastSubframeOf, lastWordOf, prnValid, heldSlot, waitingCount}
 use Rattle.rules.specs.State.{withConfig, withClocks, withNav, withStore, withPubkeys, withOffer, withTesla, withAuth}
 use Rattle.rules.specs.State.{clocksLength, wordsLength, stampsLength, blocksLength, dsmIds, pubkeysLength, chainLength, heldkeyLength, waitingLength, setsLength, satellites, areaLength}
-use Rattle.rules.specs.Tags.{Section, Work, duesJudged, ownsJudged}
+use Rattle.rules.specs.Tags.{Section, Work, duesJudged}
 use Rattle.rules.specs.Times.{timeValid, stampOf, secondsOf}
 use Rattle.rules.specs.Verdict.{Verdict, vouchChecks, judgedVerdict, cidInForce}
 use Rattle.rules.specs.Navdata.{wordType, svidOf, heldType, wordStored, setIssue}
@@ -174,6 +175,10 @@ hkrootHalf s t hk =
     (storeDone s g)
     (cond (leb (dsmIdOf hk) 11) (krootDone s (g .store) (headerOf hk) (g .dsm)) (pkrDone s (g .store) (g .dsm)))
 
+-- 02, P3: "17 .. in the HKROOT half when any of its bytes is missing (DSM store unchanged)"; each of the fifteen fields brings one of them
+unfoldable pub hkrootReceived : State → ℕ → ℕ → List ℕ → HkrootDone
+hkrootReceived s t marks hk = cond (eqb (fieldsCame marks 15) 15) (hkrootHalf s t hk) (record { code = 17; stops = false; state = s })
+
 -- ---- sub-frame: the MACK half
 
 pub record MackDone : Type 0 where
@@ -199,19 +204,20 @@ sectionUnfit s t header =
     ∷ ltb (secondsOf t) ((chainOf s) .root)
     ∷ [])
 
--- "section 11, then block by block 13, 12"
-unfoldable pub sectionProved : State → ℕ → ℕ → ℕ → List ℕ → Proved
-sectionProved s prn t header mack =
-    let code = firstOf (refuse (sectionUnfit s t header) 11 ∷ []) in
+-- "section 11, then block by block 13, 12"; 02, P3: "17, after 5", so before 11 (B9), "in the MACK half when the first of the fifteen fields is"
+-- missing
+unfoldable pub sectionProved : State → ℕ → ℕ → ℕ → ℕ → List ℕ → Proved
+sectionProved s prn t marks header mack =
+    let code = firstOf (refuse (not (fieldCame marks 0)) 17 ∷ refuse (sectionUnfit s t header) 11 ∷ []) in
     unless code
-    (keysProved (chainOf s) t prn mack (heldOf s) ((chainOf s) .nmack))
+    (keysReceived (chainOf s) t prn mack marks (heldOf s) ((chainOf s) .nmack))
     (record { code = code; held = heldOf s })
 
 -- "All keys are checked first, then tags in order.": the waiting tags, then the section's own
-unfoldable pub tagsWorked : State → Held → Section → Work
-tagsWorked s h x =
+unfoldable pub tagsWorked : State → Held → Section → ℕ → Work
+tagsWorked s h x marks =
     let c = chainOf s in
-    ownsJudged (s .config) (s .nav) c h x (c .nmack * c .fields)
+    fieldsJudged (s .config) (s .nav) c h x marks (c .nmack * c .fields)
     (duesJudged c h (s .tesla .waiting) (waitingCount (s .tesla .numbers))
     (record { kept = []; count = 0; sets = s .auth .sets; arrivals = s .auth .arrivals; records = [] }))
 
@@ -227,10 +233,10 @@ sectionTaken s h w =
     }))
     (record { sets = w .sets; arrivals = w .arrivals })
 
-unfoldable pub mackHalf : State → ℕ → ℕ → ℕ → List ℕ → MackDone
-mackHalf s prn t header mack =
-    let p = sectionProved s prn t header mack in
-    let w = tagsWorked s (p .held) (record { prn = prn; time = t; status = statusOf header; mack = mack }) in
+unfoldable pub mackHalf : State → ℕ → ℕ → ℕ → ℕ → List ℕ → MackDone
+mackHalf s prn t marks header mack =
+    let p = sectionProved s prn t marks header mack in
+    let w = tagsWorked s (p .held) (record { prn = prn; time = t; status = statusOf header; mack = mack }) marks in
     unless (p .code)
     (record { code = 0; records = w .records; state = sectionTaken s (p .held) w })
     (record { code = p .code; records = []; state = s })
@@ -240,8 +246,14 @@ mackHalf s prn t header mack =
 pub record Subframe : Type 0 where
   pub prn : ℕ
   pub time : ℕ
+  -- which of the fields came (02, P3)
+  pub marks : ℕ
   -- 15 fields of five bytes
   pub bytes : List ℕ
+
+-- the fields as they came
+abbrev pub fieldsOf : Subframe → List ℕ
+fieldsOf x = received (x .marks) (x .bytes) 15
 
 -- the two numbers, the count of tag records, the state, and the lent record area (3,240 bytes): "bytes past the records stay"
 pub record SubframeTold : Type 0 where
@@ -251,14 +263,15 @@ pub record SubframeTold : Type 0 where
   pub state : State
   pub area : List ℕ
 
--- "Checks go 1, 2, 4, 3, 5"; row 3: "sub-frame earlier than the last, or not later for its PRN"
+-- "Checks go 1, 2, 4, 3, 5"; row 3: "sub-frame earlier than the last, or not later for its PRN"; 02, P3: "Number 5 is judged on the received fields, if
+-- any." (B10)
 unfoldable pub subframeChecks : State → List ℕ → Subframe → List Check
 subframeChecks s area x =
     refuse (not (shaped s && (eqb (length area) areaLength && eqb (length (x .bytes)) 75))) 1
     ∷ refuse (not (prnValid (x .prn)) || not (timeValid (x .time))) 2
     ∷ refuse (stopped (s .config)) 4
     ∷ refuse (ltb (stampOf (x .time)) (lastSubframe (s .clocks)) || leb (stampOf (x .time)) (lastSubframeOf (s .clocks) (x .prn))) 3
-    ∷ refuse (same (x .bytes) (replicate 75 0)) 5
+    ∷ refuse (neb (fieldsCame (x .marks) 15) 0 && same (fieldsOf x) (replicate 75 0)) 5
     ∷ []
 
 -- "time noted": the last sub-frame over all satellites, and this one's (A10)
@@ -268,9 +281,9 @@ noted s x = withClocks s (set (set (s .clocks) 0 (stampOf (x .time))) (x .prn) (
 -- "The HKROOT half goes before the MACK half."; an emergency message's sub-frame "returns 0 and 4, its time noted"
 unfoldable pub halvesDone : State → List ℕ → Subframe → SubframeTold
 halvesDone s area x =
-    let hk = hkrootOf (x .bytes) 15 in
-    let a = hkrootHalf s (x .time) hk in
-    let m = mackHalf (a .state) (x .prn) (x .time) (headerOf hk) (mackOf (x .bytes) 15) in
+    let hk = hkrootOf (fieldsOf x) 15 in
+    let a = hkrootReceived s (x .time) (x .marks) hk in
+    let m = mackHalf (a .state) (x .prn) (x .time) (x .marks) (headerOf hk) (mackOf (fieldsOf x) 15) in
     cond (a .stops)
     (record { hkroot = a .code; mack = 4; count = 0; state = a .state; area = area })
     (record { hkroot = a .code; mack = m .code; count = length (m .records) / 12; state = m .state; area = splice area 0 (m .records) })

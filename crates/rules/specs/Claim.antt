@@ -15,7 +15,7 @@ use lib.ListN.{length, getD, take, replicate}
 use Rattle.laws.specs.Lists.{part}
 use Rattle.laws.specs.Refusal.{firstOf, unless}
 use Rattle.rules.specs.Bits.{filled, anyOf}
-use Rattle.rules.specs.Calls.{Start, Word, Subframe, OfferRead, startCall, offerRead, subframeChecks, noted, hkrootHalf}
+use Rattle.rules.specs.Calls.{Start, Word, Subframe, OfferRead, startCall, offerRead, fieldsOf, subframeChecks, noted, hkrootReceived}
 use Rattle.rules.specs.Chain.{walk, sentSlot, keySlot}
 use Rattle.rules.specs.Gather.{hkrootOf, mackOf, headerOf, statusOf, dsmIdOf, blockIdOf, blockOf, totalOf}
 use Rattle.rules.specs.Kroot.{chainWith, krootOf}
@@ -24,6 +24,7 @@ use Rattle.rules.specs.Mack.{blockKey}
 use Rattle.rules.specs.Navdata.{setUsable, setBytes, setIssue}
 use Rattle.rules.specs.Pkr.{newIdOf, newTypeOf, newKeyOf, emergency, pkrSizeBad, treeProved}
 use Rattle.rules.specs.PublicKeys.{keyLength, keyHeld}
+use Rattle.rules.specs.Received.{tagCame, infoCame, keyCame}
 use Rattle.rules.specs.State.{State, prnValid, heldSlot}
 use Rattle.rules.specs.Tags.{Section, ownTag, macBits, firstMessage, tagMessage, tagRecord}
 use Rattle.rules.specs.Times.{secondsOf, keySeconds}
@@ -48,9 +49,9 @@ pub record BlockCame (block : List ℕ) (id k : ℕ) (x : Entry) (older : Log) :
   pub sub : Subframe
   -- "in HKROOT halves answered 0"
   pub half-is : hkrootIn x ≡ some sub
-  pub id-is : dsmIdOf (hkrootOf (sub .bytes) 15) ≡ id
-  pub place-is : blockIdOf (hkrootOf (sub .bytes) 15) ≡ k
-  pub block-is : blockOf (hkrootOf (sub .bytes) 15) ≡ block
+  pub id-is : dsmIdOf (hkrootOf (fieldsOf sub) 15) ≡ id
+  pub place-is : blockIdOf (hkrootOf (fieldsOf sub) 15) ≡ k
+  pub block-is : blockOf (hkrootOf (fieldsOf sub) 15) ≡ block
 
 -- "Proved key: from a DSM-PKR whose blocks all came in HKROOT halves answered 0." `root` is the tree root that the start gave
 pub record KeyProved (root : List ℕ) (k : PublicKey) (l : Log) : Type 0 where
@@ -111,7 +112,7 @@ rootBy v = krootOf (contentsBy v)
 
 -- what a sub-frame brings to the MACK half
 abbrev pub sectionOf : Subframe → Section
-sectionOf x = record { prn = x .prn; time = x .time; status = statusOf (headerOf (hkrootOf (x .bytes) 15)); mack = mackOf (x .bytes) 15 }
+sectionOf x = record { prn = x .prn; time = x .time; status = statusOf (headerOf (hkrootOf (fieldsOf x) 15)); mack = mackOf (fieldsOf x) 15 }
 
 -- "Its satellite's set then: the last word answered 0 of each type 1 to 5, usable for that section."
 abbrev pub usableIn : Log → ℕ → ℕ → Bool
@@ -130,6 +131,9 @@ pub record Arrived (origin : Start) (by : Verdict) (t : Tag) (first : Bool) (nav
   pub field : ℕ
   pub in-section : field < (chainBy origin by) .nmack * (chainBy origin by) .fields
   pub tag-is : t ≡ ownTag (chainBy origin by) (sectionOf sub) field
+  -- every bit of it came, and of the PRN and ADKD that it names (02, P3)
+  pub tag-came : tagCame (chainBy origin by) (sub .marks) field ≡ true
+  pub info-came : field ≢ 0 → infoCame (chainBy origin by) (sub .marks) field ≡ true
   pub first-is : first ≡ eqb field 0
   -- ADKD 0, 11 or 12, and PRN 1 to 36
   pub kind : anyOf (eqb (t .adkd) 0 ∷ eqb (t .adkd) 11 ∷ eqb (t .adkd) 12 ∷ []) ≡ true
@@ -149,7 +153,9 @@ pub record Disclosed (c : Chain) (slot : ℕ) (key : List ℕ) (x : Entry) (olde
   pub in-section : block < c .nmack
   pub not-before : c .root ≤ secondsOf (sub .time)
   pub slot-is : slot ≡ sentSlot c (sub .time) (suc block) (sub .prn)
-  pub key-is : key ≡ blockKey c (mackOf (sub .bytes) 15) (suc block)
+  pub key-is : key ≡ blockKey c (mackOf (fieldsOf sub) 15) (suc block)
+  -- every bit of it came (02, P3)
+  pub key-came : keyCame c (sub .marks) (suc block) ≡ true
 
 -- "The key of a slot ..: one from a section answered 0, or that one hashed down."
 pub record KeyOfSlot (c : Chain) (slot : ℕ) (key : List ℕ) (l : Log) : Type 0 where
@@ -236,7 +242,7 @@ pub record Kept (s s' : State) : Type 0 where
 
 -- the state between the halves of a sub-frame, which the HKROOT half left; a sub-frame that one of 1 to 5 refuses has no halves
 abbrev pub between : State → List ℕ → Subframe → State
-between s area x = unless (firstOf (subframeChecks s area x)) ((hkrootHalf (noted s x) (x .time) (hkrootOf (x .bytes) 15)) .state) s
+between s area x = unless (firstOf (subframeChecks s area x)) ((hkrootReceived (noted s x) (x .time) (x .marks) (hkrootOf (fieldsOf x) 15)) .state) s
 
 -- "No refused call in the list, nor a refused half of one, changes a key, a chain or an authentic set.": of every state, so of those in the list.
 -- "Refused: a number other than 0, for a sub-frame each half by its own."

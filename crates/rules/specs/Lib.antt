@@ -11,8 +11,10 @@ pub mod Pkr
 pub mod Chain
 pub mod Mack
 pub mod Tags
+pub mod Received
 pub mod Verdict
 pub mod Calls
+pub mod Whole
 pub mod Outcomes
 pub mod Log
 pub mod Claim

@@ -1,5 +1,5 @@
 -- The order of the checks ("Checks go 1, 2, 4, 3, 5; complete KROOT 7, 8, 6; PKR 6, 10, 9; section 11, then block by block 13, 12; verdict 1, 2, 4, 14,
--- 15, 11, 9"): places where two conditions hold, and the number that is first. One table; proofs/Points.antt shows that it is right.
+-- 15, 11, 9"; 02, P3: "17, after 5"): places where two conditions hold, and the number that is first. One table; proofs/Points.antt shows that it is right.
 use Prim.Native.Nat.{ℕ, _+_, _*_}
 use mathlib.Core.List.{List, [], _∷_, _++_}
 use lib.ListN.{replicate, set}
@@ -10,7 +10,7 @@ use Rattle.rules.specs.Kroot.{krootChecks, offered}
 use Rattle.rules.specs.Mack.{blockChecks}
 use Rattle.rules.specs.Pkr.{pkrChecks}
 use Rattle.rules.specs.Points.{Point, point, blankStart}
-use Rattle.rules.specs.State.{State, withConfig, withClocks, withOffer, withChain, offerLength}
+use Rattle.rules.specs.State.{State, withConfig, withClocks, withOffer, withChain, offerLength, areaLength}
 use Rattle.rules.specs.Times.{gst}
 
 -- nothing waits
@@ -39,7 +39,12 @@ startNumber ns len =
 
 abbrev pub subframeNumber : ℕ → ℕ → ℕ → ℕ → ℕ → ℕ
 subframeNumber stop len prn second fill =
-    firstOf (subframeChecks (core stop 0 nothing) (replicate len 0) (record { prn = prn; time = gst 1 second; bytes = replicate 75 fill }))
+    firstOf (subframeChecks (core stop 0 nothing) (replicate len 0) (record { prn = prn; time = gst 1 second; marks = 65535; bytes = replicate 75 fill }))
+
+-- a sub-frame of E02 with these marks, of which only field 0 has a byte that is not 0
+abbrev pub missingNumber : ℕ → ℕ
+missingNumber marks =
+    firstOf (subframeChecks (core 0 0 nothing) (replicate areaLength 0) (record { prn = 2; time = gst 1 600; marks = marks; bytes = 1 ∷ replicate 74 0 }))
 
 abbrev pub wordNumber : ℕ → ℕ → ℕ → ℕ → ℕ → ℕ
 wordNumber stop len prn second type =
@@ -59,9 +64,9 @@ blockNumber second =
     (record { ns = 36; nmack = 2; root = 604800; alpha = replicate 6 0; mf = 0; width = 16; ms = 12; fields = 4 })
     (gst 1 second) 1 0 (replicate 60 255) (held 0 (replicate 16 0)) 1)
 
--- such a section at this second of week 4; a root of week 2 hour 1 is in force where `root` is 1, dropped where it is 2
-abbrev pub sectionNumber : ℕ → ℕ → ℕ
-sectionNumber root second = (sectionProved (core 0 root nothing) 1 (gst 4 second) 0x42 (replicate 60 255)) .code
+-- such a section with these marks at this second of week 4; a root of week 2 hour 1 is in force where `root` is 1, dropped where it is 2
+abbrev pub sectionNumber : ℕ → ℕ → ℕ → ℕ
+sectionNumber marks root second = (sectionProved (core 0 root nothing) 1 (gst 4 second) marks 0x42 (replicate 60 255)) .code
 
 -- a DSM-PKR of 13 blocks with a new key of type 1 and ID 0, which the core holds with other bytes; this root is installed
 abbrev pub pkrNumber : List ℕ → ℕ
@@ -76,6 +81,10 @@ orders =
     ∷ point (subframeNumber 0 3240 1 570 0) 3
     ∷ point (subframeNumber 0 3240 1 600 1) 3
     ∷ point (subframeNumber 0 3240 2 600 0) 5
+    -- sub-frame with missing fields: the one that is not zero is missing; it came; nothing came
+    ∷ point (missingNumber 0x7fff) 5
+    ∷ point (missingNumber 0x8000) 0
+    ∷ point (missingNumber 0x0001) 0
     -- start: a wrong length and NS 37; NS 37; neither
     ∷ point (startNumber 37 31) 1
     ∷ point (startNumber 37 32) 2
@@ -104,9 +113,11 @@ orders =
     ∷ point (verdictNumber 0 2 (0x52 ∷ contents 0x20 1) (0x52 ∷ contents 0x20 1) 1) 11
     ∷ point (verdictNumber 0 2 (0x42 ∷ contents 0x20 1) (0x42 ∷ contents 0x20 1) 1) 9
     ∷ point (verdictNumber 0 0 (0x42 ∷ contents 0x20 1) (0x42 ∷ contents 0x20 1) 1) 0
-    -- section: no chain and too far; too far; a block that is too far, with a key that fails and spare bits that are not 0
-    ∷ point (sectionNumber 2 0) 11
-    ∷ point (sectionNumber 1 0) 13
+    -- section: its first field is missing, and no chain; no chain and too far; too far; a block that is too far, with a key that fails and spare bits
+    -- that are not 0
+    ∷ point (sectionNumber 0x7fff 2 0) 17
+    ∷ point (sectionNumber 0xffff 2 0) 11
+    ∷ point (sectionNumber 0xffff 1 0) 13
     ∷ point (blockNumber 600000) 13
     -- read of a set: a wrong length and PRN 37; PRN 37 without a set; no set
     ∷ point (firstOf (setReadChecks (core 0 0 nothing) 37 [])) 1

@@ -1,7 +1,7 @@
--- 01's numbers of the tag outcomes ("Tag outcomes").
+-- 01's numbers of the tag outcomes ("Tag outcomes"), and 02's (P3).
 use Prim.Native.Nat.{ℕ}
 use Rattle.rules.specs.declared.Outcome.{Outcome}
-use Rattle.rules.specs.declared.Outcome.the-variants.{Authentic, Wrong, NoUsableSet, NotAllowed, Waits, SequenceUnfit, NoPlace}
+use Rattle.rules.specs.declared.Outcome.the-variants.{Authentic, Wrong, NoUsableSet, NotAllowed, Waits, SequenceUnfit, NoPlace, Lost}
 
 -- the outcome in a tag record
 abbrev pub outcomeNumber : Outcome → ℕ
@@ -12,3 +12,4 @@ outcomeNumber NotAllowed = 4
 outcomeNumber Waits = 5
 outcomeNumber SequenceUnfit = 6
 outcomeNumber NoPlace = 7
+outcomeNumber Lost = 8

@@ -32,7 +32,7 @@ blankStart = record { ns = 36; id = 0; type = 0; maclt = 0; marks = replicate 28
 -- the number for a sub-frame at this second of week 947, to a core that has just started
 abbrev pub numberAtSecond : ℕ → ℕ
 numberAtSecond second =
-    firstOf (subframeChecks (fresh blankStart) (replicate areaLength 0) (record { prn = 18; time = gst 947 second; bytes = replicate 75 1 }))
+    firstOf (subframeChecks (fresh blankStart) (replicate areaLength 0) (record { prn = 18; time = gst 947 second; marks = 65535; bytes = replicate 75 1 }))
 
 -- the number for a first block 0 with this NB
 abbrev pub numberForBlocks : ℕ → ℕ

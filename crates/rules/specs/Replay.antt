@@ -1,7 +1,7 @@
 -- The replay program (01, "The replay program"): the records of a recorded run as calls, and the calls' answers as lines of text.
 -- `replayed` is one record, `replay` a whole input. Text is a list of ASCII bytes.
 use Prim.Native.Nat.{ℕ, zero, suc, _+_, _*_, _/_, _%_}
-use mathlib.Core.Bool.{cond}
+use mathlib.Core.Bool.{cond, _||_}
 use mathlib.Core.List.{List, [], _∷_, _++_}
 use lib.Dec.{ltb, eqb}
 use lib.ListN.{length, getD, replicate}
@@ -32,9 +32,13 @@ startOf r =
 unfoldable pub wordOf : List ℕ → Word
 wordOf r = record { prn = getD r 1 0; time = u32at r 2; bytes = part r 6 16 }
 
+-- 02, P3: "in replay records of kind 3 all are 1, and kind 6, else the same, carries them in bytes 81 and 82, bit 0 first"
+unfoldable pub marksOf : List ℕ → ℕ
+marksOf r = cond (eqb (kindOf r) 6) (getD r 81 0 * 256 + getD r 82 0) 65535
+
 -- "3 sub-frame: PRN, GST_SF, 75 bytes."
 unfoldable pub subframeOf : List ℕ → Subframe
-subframeOf r = record { prn = getD r 1 0; time = u32at r 2; bytes = part r 6 75 }
+subframeOf r = record { prn = getD r 1 0; time = u32at r 2; marks = marksOf r; bytes = part r 6 75 }
 
 -- "4 verdict: 0 or 1, key ID, message 45, signature 132."
 unfoldable pub verdictOf : List ℕ → Verdict
@@ -93,7 +97,7 @@ answered s r =
     cond (neb (length r) recordLength) (uncalled s 1 0)
     (cond (eqb (kindOf r) 1) (startAnswered s r)
     (cond (eqb (kindOf r) 2) (wordAnswered s r)
-    (cond (eqb (kindOf r) 3) (subframeAnswered s r)
+    (cond (eqb (kindOf r) 3 || eqb (kindOf r) 6) (subframeAnswered s r)
     (cond (eqb (kindOf r) 4) (verdictAnswered s r)
     (uncalled s 2 0)))))
 

@@ -52,13 +52,13 @@ tagMatches c h first t navdata =
 -- ---- records
 
 -- "A tag record has 12 bytes: outcome, sending PRN, PRN authenticated, ADKD, block, position in it from 1, IODnav (2; 0 for outcomes 3, 4,
--- 6), GST_SF of arrival (4)."
+-- 6), GST_SF of arrival (4)."; 02, P3: outcome 8 "carries IODnav 0"
 unfoldable pub tagRecord : ℕ → Tag → ℕ → List ℕ
 tagRecord outcome t issue =
     outcome ∷ t .sender ∷ t .prn ∷ t .adkd ∷ t .block ∷ t .position ∷ (be2 issue ++ be4 (t .time))
 
 unfoldable pub recordIssue : ℕ → List ℕ → ℕ
-recordIssue outcome navdata = cond (anyOf (eqb outcome 3 ∷ eqb outcome 4 ∷ eqb outcome 6 ∷ [])) 0 (setIssue navdata)
+recordIssue outcome navdata = cond (anyOf (eqb outcome 3 ∷ eqb outcome 4 ∷ eqb outcome 6 ∷ eqb outcome 8 ∷ [])) 0 (setIssue navdata)
 
 -- ---- waiting tags: an entry of 84 bytes each, in arrival order
 

@@ -46,4 +46,6 @@ pub enum Outcome {
     Waits,
     SequenceUnfit,
     NoPlace,
+    // A bit of it, or of what it is judged by, is lost (02, P3).
+    Lost,
 }
