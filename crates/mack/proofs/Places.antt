@@ -1,7 +1,7 @@
 -- A cursor that has taken off j fields in order stands at the place that the rules compute for field j, and likewise for blocks; fields and
 -- blocks end inside the section.
 -- Assumes nothing.
-use mathlib.Core.Path.{_≡_, ap}
+use mathlib.Core.Path.{_≡_, refl, ap}
 use mathlib.Core.Logic.{⊎-elim}
 use Prim.Native.Nat.{ℕ, zero, suc, _+_, _-_, _*_, _/_, _%_, _≤_, _<_}
 use native.Mathlib.Omega.{arith}
@@ -12,7 +12,7 @@ use Rattle.laws.proofs.Refusal.{by-test}
 use Rattle.rules.specs.Kroot.{blockBits}
 use Rattle.rules.specs.Mack as S
 use Rattle.rules.specs.declared.Chain.{Chain}
-use Rattle.mack.specs.Layout.{restBits, FieldsFit}
+use Rattle.mack.specs.Layout.{restBits, FieldsFit, KeysFit}
 
 less : (x : ℕ) → x + 1 - 1 ≡ x
 less x = omega arith
@@ -135,3 +135,13 @@ module _ (c : Chain) (s : FieldsFit c) where
         let m : (j % c .fields + 1) * (c .ms + 16) ≡ j % c .fields * (c .ms + 16) + 1 * (c .ms + 16) = add-mul (j % c .fields) 1 (c .ms + 16) in
         let w : (j % c .fields + 1) * (c .ms + 16) ≡ c .fields * (c .ms + 16) = ap (λ (x : ℕ). x * (c .ms + 16)) e in
         rw (less (j / c .fields)) (omega (arith, inside (j / c .fields) in-section, s .fields-fit))
+
+-- a block's key ends inside the section
+pub key-inside : (c : Chain) → KeysFit c → (b : ℕ) → 1 ≤ b → b ≤ c .nmack → S.keyAt c b + 8 * c .width ≤ 480
+unfolding S.keyAt
+key-inside c s b l h = omega (arith, block-inside c (s .fields) b l h, s .key-fits, s .fields .fields-fit)
+
+-- the place of a key, as it is computed
+pub key-place-is : (c : Chain) (b : ℕ) → (b - 1) * blockBits (c .nmack) + c .fields * (c .ms + 16) ≡ S.keyAt c b
+unfolding S.keyAt S.blockAt
+key-place-is c b = refl

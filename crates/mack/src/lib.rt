@@ -4,6 +4,7 @@
 //   next_field, read_field   a field: the one at which the cursor stands, and by its number
 //   section_start, next_key  the cursor at the first block; a block's key and spare bits
 //   macseq_of                MACSEQ
+//   field_place, key_place   the bits at which a field and a block's key begin
 use rules::Chain;
 ghost use mathlib.Core.Path.{_≡_};
 ghost use Prim.Native.Nat.{_+_, _*_, _≤_, _<_};
@@ -116,7 +117,7 @@ pub fn next_key(c: Chain, m: &[u8], k: Cursor, b: u64) -> Block
 // ---- places
 
 // The bit at which field j of the section begins.
-fn field_place(c: Chain, j: usize) -> usize
+pub fn field_place(c: Chain, j: usize) -> usize
     requires { ⌜ FieldsFit c × (j < c .nmack * c .fields) ⌝ }
     ensures { λ r. ⌜ r ≡ S.fieldAt c j ⌝ }
 {
@@ -124,6 +125,15 @@ fn field_place(c: Chain, j: usize) -> usize
     let fields = c.fields as usize;
     let wide = c.ms as usize + 16;
     (j / fields) * block + (j % fields) * wide
+}
+
+// The bit at which block b's key begins.
+pub fn key_place(c: Chain, b: u64) -> usize
+    requires { ⌜ KeysFit c × ((1 ≤ b) × (b ≤ c .nmack)) ⌝ }
+    ensures { λ r. ⌜ r ≡ S.keyAt c b ⌝ }
+{
+    let block = bitfields::block_bits(c.nmack);
+    ((b - 1) * block + c.fields * (c.ms + 16)) as usize
 }
 
 // Bits of a block after its fields: the key, then spare bits.

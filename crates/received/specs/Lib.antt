@@ -1,0 +1,2 @@
+-- What the contracts of `received` and of its callers cite.
+pub mod Items
