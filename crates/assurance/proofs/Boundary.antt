@@ -12,12 +12,15 @@ use Rattle.call_subframe.specs.Told.{subframeTold, subframe}
 use Rattle.call_reads.specs.Reads.{setTold, offerTold}
 use Rattle.rules.specs.Calls.{startCall, wordCall, subframeCall, verdictCall, setRead, offerRead}
 use Rattle.rules.specs.State.{state}
+use Rattle.rules.specs.Whole.{wholeSubframe}
 use Rattle.osnma.proofs.osnma_regions_start.Reads as start-reads
 use Rattle.osnma.proofs.osnma_regions_start.Kinds as start-kinds
 use Rattle.osnma.proofs.osnma_regions_word.Reads as word-reads
 use Rattle.osnma.proofs.osnma_regions_word.Kinds as word-kinds
 use Rattle.osnma.proofs.osnma_regions_subframe.Reads as subframe-reads
 use Rattle.osnma.proofs.osnma_regions_subframe.Kinds as subframe-kinds
+use Rattle.osnma.proofs.osnma_regions_subframe_marked.Reads as marked-reads
+use Rattle.osnma.proofs.osnma_regions_subframe_marked.Kinds as marked-kinds
 use Rattle.osnma.proofs.osnma_regions_verdict.Reads as verdict-reads
 use Rattle.osnma.proofs.osnma_regions_verdict.Kinds as verdict-kinds
 use Rattle.osnma.proofs.osnma_regions_read_set.Reads as read-set-reads
@@ -55,20 +58,36 @@ word-is κs args r last d = d
 pub word-only : (κs : Lfts 17) (args : Dens κs word-kinds.ps) (r : ℕ) (last : AtExit (endedOf 17 word-kinds.ps word-kinds.r) κs) → word-rule κs args r last → word-reads.Learnt κs args r last
 word-only κs args r last d = d
 
--- ---- sub-frame: both numbers, the count of tag records, the record area, and all regions but words, stamps and chain at exit
+-- ---- sub-frame of which every field came: both numbers, the count of tag records, the record area, and all regions but words, stamps and chain at
+-- exit
 
 pub subframe-asks-nothing : (κs : Lfts 20) (args : Dens κs subframe-kinds.ps) → subframe-reads.Asked κs args
 subframe-asks-nothing κs args = tt
 
 abbrev subframe-rule : (κs : Lfts 20) (args : Dens κs subframe-kinds.ps) (r : ℕ) (last : AtExit (endedOf 20 subframe-kinds.ps subframe-kinds.r) κs) → Type 0
 subframe-rule κs (config, (clocks, (words, (stamps, (blocks, (headers, (present, (since, (pubkeys, (offer, (chain, (numbers, (heldkey, (waiting, (sets, (arrivals, (area, (prn, (time, (bytes, (_, (_, _)))))))))))))))))))))) r (config′, (clocks′, (_, (_, (blocks′, (headers′, (present′, (since′, (pubkeys′, (offer′, (_, (numbers′, (heldkey′, (waiting′, (sets′, (arrivals′, (area′, (_, (_, (_, (hkroot′, (mack′, _)))))))))))))))))))))) =
-    subframeTold (now hkroot′) (now mack′) r (state (now config′) (now clocks′) (now words) (now stamps) (now blocks′) (now headers′) (now present′) (now since′) (now pubkeys′) (now offer′) (now chain) (now numbers′) (now heldkey′) (now waiting′) (now sets′) (now arrivals′)) (now area′) ≡ subframeCall (state (now config) (now clocks) (now words) (now stamps) (now blocks) (now headers) (now present) (now since) (now pubkeys) (now offer) (now chain) (now numbers) (now heldkey) (now waiting) (now sets) (now arrivals)) (now area) (subframe prn time (now bytes))
+    subframeTold (now hkroot′) (now mack′) r (state (now config′) (now clocks′) (now words) (now stamps) (now blocks′) (now headers′) (now present′) (now since′) (now pubkeys′) (now offer′) (now chain) (now numbers′) (now heldkey′) (now waiting′) (now sets′) (now arrivals′)) (now area′) ≡ wholeSubframe (state (now config) (now clocks) (now words) (now stamps) (now blocks) (now headers) (now present) (now since) (now pubkeys) (now offer) (now chain) (now numbers) (now heldkey) (now waiting) (now sets) (now arrivals)) (now area) (subframe prn time 65535 (now bytes))
 
 pub subframe-is : (κs : Lfts 20) (args : Dens κs subframe-kinds.ps) (r : ℕ) (last : AtExit (endedOf 20 subframe-kinds.ps subframe-kinds.r) κs) → subframe-reads.Learnt κs args r last → subframe-rule κs args r last
 subframe-is κs args r last d = d
 
 pub subframe-only : (κs : Lfts 20) (args : Dens κs subframe-kinds.ps) (r : ℕ) (last : AtExit (endedOf 20 subframe-kinds.ps subframe-kinds.r) κs) → subframe-rule κs args r last → subframe-reads.Learnt κs args r last
 subframe-only κs args r last d = d
+
+-- ---- sub-frame with marks: the same
+
+pub marked-asks-nothing : (κs : Lfts 20) (args : Dens κs marked-kinds.ps) → marked-reads.Asked κs args
+marked-asks-nothing κs args = tt
+
+abbrev marked-rule : (κs : Lfts 20) (args : Dens κs marked-kinds.ps) (r : ℕ) (last : AtExit (endedOf 20 marked-kinds.ps marked-kinds.r) κs) → Type 0
+marked-rule κs (config, (clocks, (words, (stamps, (blocks, (headers, (present, (since, (pubkeys, (offer, (chain, (numbers, (heldkey, (waiting, (sets, (arrivals, (area, (prn, (time, (marks, (bytes, (_, (_, _))))))))))))))))))))))) r (config′, (clocks′, (_, (_, (blocks′, (headers′, (present′, (since′, (pubkeys′, (offer′, (_, (numbers′, (heldkey′, (waiting′, (sets′, (arrivals′, (area′, (_, (_, (_, (_, (hkroot′, (mack′, _))))))))))))))))))))))) =
+    subframeTold (now hkroot′) (now mack′) r (state (now config′) (now clocks′) (now words) (now stamps) (now blocks′) (now headers′) (now present′) (now since′) (now pubkeys′) (now offer′) (now chain) (now numbers′) (now heldkey′) (now waiting′) (now sets′) (now arrivals′)) (now area′) ≡ subframeCall (state (now config) (now clocks) (now words) (now stamps) (now blocks) (now headers) (now present) (now since) (now pubkeys) (now offer) (now chain) (now numbers) (now heldkey) (now waiting) (now sets) (now arrivals)) (now area) (subframe prn time marks (now bytes))
+
+pub marked-is : (κs : Lfts 20) (args : Dens κs marked-kinds.ps) (r : ℕ) (last : AtExit (endedOf 20 marked-kinds.ps marked-kinds.r) κs) → marked-reads.Learnt κs args r last → marked-rule κs args r last
+marked-is κs args r last d = d
+
+pub marked-only : (κs : Lfts 20) (args : Dens κs marked-kinds.ps) (r : ℕ) (last : AtExit (endedOf 20 marked-kinds.ps marked-kinds.r) κs) → marked-rule κs args r last → marked-reads.Learnt κs args r last
+marked-only κs args r last d = d
 
 -- ---- verdict: keys, offer, chain, numbers, key and waiting at exit; the other regions are lent to be read only
 

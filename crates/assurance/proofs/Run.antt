@@ -8,7 +8,8 @@ use Rattle.rules.specs.Claim.{FairHistory}
 use Rattle.rules.specs.Log.{Call, start, Reply, plain, nothing, Stepped, History, advanced, step, ran, ranFrom}
 use Rattle.rules.specs.State.{State}
 use Rattle.rules.proofs.Sound.{claim}
-use Rattle.assurance.specs.Run.{StartDid, WordDid, SubframeDid, VerdictDid, ReadSetDid, ReadOfferDid, Did, started, worded, subframed, judged, set-read, offer-read, Done, Run, historyOf, ExportedClaim, readSetBefore, readOfferBefore}
+use Rattle.rules.proofs.Whole.{all-whole, lost-fields}
+use Rattle.assurance.specs.Run.{StartDid, WordDid, SubframeDid, MarkedDid, VerdictDid, ReadSetDid, ReadOfferDid, Did, started, worded, subframed, marked, judged, set-read, offer-read, Done, Run, historyOf, ExportedClaim, readSetBefore, readOfferBefore}
 use Rattle.laws.specs.Lists.{part}
 
 abbrev Steps : State → Call → Reply → State → Type 0
@@ -24,9 +25,14 @@ word-steps : {s s' : State} {c : Call} {r : Reply} → WordDid s c r s' → Step
 unfolding step
 word-steps d = rw (← (d .before-is), ← (d .call-is), ← (d .after-is), ← (d .reply-is)) (ap (λ (t : Told). record { reply = plain (t .code); state = t .state }) (sym (d .learnt)))
 
+-- with all marks 1 the call is the one of 01 alone
 subframe-steps : {s s' : State} {c : Call} {r : Reply} → SubframeDid s c r s' → Steps s c r s'
 unfolding step
-subframe-steps d = rw (← (d .before-is), ← (d .call-is), ← (d .after-is), ← (d .reply-is)) (ap (λ (t : SubframeTold). record { reply = record { code = t .hkroot; mack = t .mack; records = part (t .area) 0 (12 * t .count); out = []; issue = 0; time = 0; handed = nothing }; state = t .state }) (sym (d .learnt)))
+subframe-steps d = rw (← (d .before-is), ← (d .call-is), ← (d .after-is), ← (d .reply-is)) (ap (λ (t : SubframeTold). record { reply = record { code = t .hkroot; mack = t .mack; records = part (t .area) 0 (12 * t .count); out = []; issue = 0; time = 0; handed = nothing }; state = t .state }) (all-whole _ _ _ _ _ ∙ sym (d .learnt)))
+
+marked-steps : {s s' : State} {c : Call} {r : Reply} → MarkedDid s c r s' → Steps s c r s'
+unfolding step
+marked-steps d = rw (← (d .before-is), ← (d .call-is), ← (d .after-is), ← (d .reply-is)) (ap (λ (t : SubframeTold). record { reply = record { code = t .hkroot; mack = t .mack; records = part (t .area) 0 (12 * t .count); out = []; issue = 0; time = 0; handed = nothing }; state = t .state }) (sym (d .learnt)))
 
 verdict-steps : {s s' : State} {c : Call} {r : Reply} → VerdictDid s c r s' → Steps s c r s'
 unfolding step
@@ -44,6 +50,7 @@ pub steps : (s s' : State) (c : Call) (r : Reply) → Did s c r s' → Steps s c
 steps s s' c r (started d) = start-steps d
 steps s s' c r (worded d) = word-steps d
 steps s s' c r (subframed d) = subframe-steps d
+steps s s' c r (marked d) = marked-steps d
 steps s s' c r (judged d) = verdict-steps d
 steps s s' c r (set-read d) = read-set-steps d
 steps s s' c r (offer-read d) = read-message-steps d
@@ -84,4 +91,4 @@ begins s s' left left' x d d' =
     sym (a .1) ∙ claim .begins s s' x (a .0) (b .0) ∙ b .1
 
 pub exported-claim : ExportedClaim
-exported-claim = record { steps = steps; fair = fair; begins = begins; refused = claim .refused }
+exported-claim = record { steps = steps; fair = fair; begins = begins; refused = claim .refused; lost-fields = lost-fields }

@@ -13,12 +13,15 @@ use Rattle.rules.specs.Calls.{Start}
 use Rattle.rules.specs.Claim.{FairHistory, Refused}
 use Rattle.rules.specs.Log.{Call, start, word, subframe, verdict, readSet, readOffer, Reply, plain, nothing, History, advanced, step}
 use Rattle.rules.specs.State.{State, state}
+use Rattle.rules.specs.Whole.{LostFields}
 use Rattle.osnma.proofs.osnma_regions_start.Reads as start-reads
 use Rattle.osnma.proofs.osnma_regions_start.Kinds as start-kinds
 use Rattle.osnma.proofs.osnma_regions_word.Reads as word-reads
 use Rattle.osnma.proofs.osnma_regions_word.Kinds as word-kinds
 use Rattle.osnma.proofs.osnma_regions_subframe.Reads as subframe-reads
 use Rattle.osnma.proofs.osnma_regions_subframe.Kinds as subframe-kinds
+use Rattle.osnma.proofs.osnma_regions_subframe_marked.Reads as marked-reads
+use Rattle.osnma.proofs.osnma_regions_subframe_marked.Kinds as marked-kinds
 use Rattle.osnma.proofs.osnma_regions_verdict.Reads as verdict-reads
 use Rattle.osnma.proofs.osnma_regions_verdict.Kinds as verdict-kinds
 use Rattle.osnma.proofs.osnma_regions_read_set.Reads as read-set-reads
@@ -70,13 +73,13 @@ pub record WordDid (s : State) (c : Call) (reply : Reply) (s' : State) : Type 0 
   pub reply-is : plain result ≡ reply
   pub learnt : word-reads.Learnt lifetimes args result last
 
--- ---- sub-frame: all regions but words, stamps and chain are written, and the record area
+-- ---- sub-frame of which every field came, so that all marks are 1: all regions but words, stamps and chain are written, and the record area
 
 abbrev pub subframeBefore : (κs : Lfts 20) → Dens κs subframe-kinds.ps → State
 subframeBefore κs (config, (clocks, (words, (stamps, (blocks, (headers, (present, (since, (pubkeys, (offer, (chain, (numbers, (heldkey, (waiting, (sets, (arrivals, _)))))))))))))))) = state (now config) (now clocks) (now words) (now stamps) (now blocks) (now headers) (now present) (now since) (now pubkeys) (now offer) (now chain) (now numbers) (now heldkey) (now waiting) (now sets) (now arrivals)
 
 abbrev pub subframeLent : (κs : Lfts 20) → Dens κs subframe-kinds.ps → Call
-subframeLent κs (_, (_, (_, (_, (_, (_, (_, (_, (_, (_, (_, (_, (_, (_, (_, (_, (area, (prn, (time, (bytes, (_, (_, _)))))))))))))))))))))) = subframe (now area) (record { prn = prn; time = time; bytes = now bytes })
+subframeLent κs (_, (_, (_, (_, (_, (_, (_, (_, (_, (_, (_, (_, (_, (_, (_, (_, (area, (prn, (time, (bytes, (_, (_, _)))))))))))))))))))))) = subframe (now area) (record { prn = prn; time = time; marks = 65535; bytes = now bytes })
 
 abbrev pub subframeAfter : (κs : Lfts 20) → Dens κs subframe-kinds.ps → AtExit (endedOf 20 subframe-kinds.ps subframe-kinds.r) κs → State
 subframeAfter κs (_, (_, (words, (stamps, (_, (_, (_, (_, (_, (_, (chain, (_, (_, (_, (_, (_, _)))))))))))))))) (config′, (clocks′, (_, (_, (blocks′, (headers′, (present′, (since′, (pubkeys′, (offer′, (_, (numbers′, (heldkey′, (waiting′, (sets′, (arrivals′, _)))))))))))))))) = state (now config′) (now clocks′) (now words) (now stamps) (now blocks′) (now headers′) (now present′) (now since′) (now pubkeys′) (now offer′) (now chain) (now numbers′) (now heldkey′) (now waiting′) (now sets′) (now arrivals′)
@@ -94,6 +97,31 @@ pub record SubframeDid (s : State) (c : Call) (reply : Reply) (s' : State) : Typ
   pub after-is : subframeAfter lifetimes args last ≡ s'
   pub reply-is : subframeReply lifetimes result last ≡ reply
   pub learnt : subframe-reads.Learnt lifetimes args result last
+
+-- ---- sub-frame with marks: the same
+
+abbrev pub markedBefore : (κs : Lfts 20) → Dens κs marked-kinds.ps → State
+markedBefore κs (config, (clocks, (words, (stamps, (blocks, (headers, (present, (since, (pubkeys, (offer, (chain, (numbers, (heldkey, (waiting, (sets, (arrivals, _)))))))))))))))) = state (now config) (now clocks) (now words) (now stamps) (now blocks) (now headers) (now present) (now since) (now pubkeys) (now offer) (now chain) (now numbers) (now heldkey) (now waiting) (now sets) (now arrivals)
+
+abbrev pub markedLent : (κs : Lfts 20) → Dens κs marked-kinds.ps → Call
+markedLent κs (_, (_, (_, (_, (_, (_, (_, (_, (_, (_, (_, (_, (_, (_, (_, (_, (area, (prn, (time, (marks, (bytes, (_, (_, _))))))))))))))))))))))) = subframe (now area) (record { prn = prn; time = time; marks = marks; bytes = now bytes })
+
+abbrev pub markedAfter : (κs : Lfts 20) → Dens κs marked-kinds.ps → AtExit (endedOf 20 marked-kinds.ps marked-kinds.r) κs → State
+markedAfter κs (_, (_, (words, (stamps, (_, (_, (_, (_, (_, (_, (chain, (_, (_, (_, (_, (_, _)))))))))))))))) (config′, (clocks′, (_, (_, (blocks′, (headers′, (present′, (since′, (pubkeys′, (offer′, (_, (numbers′, (heldkey′, (waiting′, (sets′, (arrivals′, _)))))))))))))))) = state (now config′) (now clocks′) (now words) (now stamps) (now blocks′) (now headers′) (now present′) (now since′) (now pubkeys′) (now offer′) (now chain) (now numbers′) (now heldkey′) (now waiting′) (now sets′) (now arrivals′)
+
+abbrev pub markedReply : (κs : Lfts 20) → ℕ → AtExit (endedOf 20 marked-kinds.ps marked-kinds.r) κs → Reply
+markedReply κs r (_, (_, (_, (_, (_, (_, (_, (_, (_, (_, (_, (_, (_, (_, (_, (_, (area′, (_, (_, (_, (_, (hkroot′, (mack′, _))))))))))))))))))))))) = record { code = now hkroot′; mack = now mack′; records = part (now area′) 0 (12 * r); out = []; issue = 0; time = 0; handed = nothing }
+
+pub record MarkedDid (s : State) (c : Call) (reply : Reply) (s' : State) : Type 0 where
+  pub lifetimes : Lfts 20
+  pub args : Dens lifetimes marked-kinds.ps
+  pub result : ℕ
+  pub last : AtExit (endedOf 20 marked-kinds.ps marked-kinds.r) lifetimes
+  pub before-is : markedBefore lifetimes args ≡ s
+  pub call-is : markedLent lifetimes args ≡ c
+  pub after-is : markedAfter lifetimes args last ≡ s'
+  pub reply-is : markedReply lifetimes result last ≡ reply
+  pub learnt : marked-reads.Learnt lifetimes args result last
 
 -- ---- verdict: public keys, offer, chain, numbers, held key and waiting tags are written
 
@@ -168,6 +196,7 @@ pub data Did (s : State) (c : Call) (reply : Reply) (s' : State) : Type 0 where
   started : StartDid s c reply s' → Did s c reply s'
   worded : WordDid s c reply s' → Did s c reply s'
   subframed : SubframeDid s c reply s' → Did s c reply s'
+  marked : MarkedDid s c reply s' → Did s c reply s'
   judged : VerdictDid s c reply s' → Did s c reply s'
   set-read : ReadSetDid s c reply s' → Did s c reply s'
   offer-read : ReadOfferDid s c reply s' → Did s c reply s'
@@ -198,3 +227,6 @@ pub record ExportedClaim : Type 0 where
   pub begins : (s s' left left' : State) (x : Start) → Did s (start x) (plain 0) left → Did s' (start x) (plain 0) left' → left ≡ left'
   -- and of every state, what a refused call or half changes; by `steps` it is so of the exported calls
   pub refused : Refused
+  -- 02, P3: with all marks 1 a sub-frame is judged as before, and what is lent for a field that did not come changes nothing; of the exported calls by
+  -- `steps`
+  pub lost-fields : LostFields

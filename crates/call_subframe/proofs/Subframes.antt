@@ -1,4 +1,4 @@
--- The sub-frame call by its cases: refused in both halves, 75 zero bytes, an emergency message, or both halves done.
+-- The sub-frame call by its cases: refused in both halves, zero bytes alone, an emergency message, or both halves done.
 -- Assumes nothing.
 use mathlib.Core.Path.{_≡_, refl}
 use mathlib.Core.Bool.{true, false, _&&_, _||_}
@@ -9,9 +9,10 @@ use lib.Dec.{leb, ltb, eqb}
 use lib.ListN.{length, set, replicate}
 use borrow.Author.Tests.{ne-eqb}
 use Rattle.laws.specs.Lists.{splice, same}
-use Rattle.laws.specs.Refusal.{firstOf}
-use Rattle.rules.specs.Calls.{Subframe, SubframeTold, MackDone, subframeChecks, noted, hkrootHalf, mackHalf, halvesDone, subframeCall}
+use Rattle.laws.specs.Refusal.{firstOf, neb}
+use Rattle.rules.specs.Calls.{Subframe, SubframeTold, MackDone, subframeChecks, noted, fieldsOf, hkrootReceived, mackHalf, halvesDone, subframeCall}
 use Rattle.rules.specs.Gather.{hkrootOf, mackOf, headerOf}
+use Rattle.rules.specs.Received.{fieldsCame}
 use Rattle.rules.specs.State.{State, shaped, stopped, lastSubframe, lastSubframeOf, prnValid, withClocks, areaLength}
 use Rattle.rules.specs.Times.{stampOf, timeValid}
 use Rattle.hkroot_half.specs.Done.{done}
@@ -42,19 +43,19 @@ module _ (s : State) (area : List ℕ) (x : Subframe) where
   -- ---- both halves
 
   -- a proved emergency message
-  pub stops : (a : Half) (s' : State) → done a s' ≡ hkrootHalf s (x .time) (hkrootOf (x .bytes) 15) → a .stops ≡ true → subframeTold (a .code) 4 0 s' area ≡ halvesDone s area x
+  pub stops : (a : Half) (s' : State) → done a s' ≡ hkrootReceived s (x .time) (x .marks) (hkrootOf (fieldsOf x) 15) → a .stops ≡ true → subframeTold (a .code) 4 0 s' area ≡ halvesDone s area x
   unfolding halvesDone
   stops a s' e f = rw (← e, f)
 
   times-twelve : (n k : ℕ) → n ≡ k * 12 → k ≡ n / 12
   times-twelve n k e = omega arith
 
-  pub goes-on : (a : Half) (s' s'' : State) (n count header : ℕ) (mack area′ : List ℕ) → done a s' ≡ hkrootHalf s (x .time) (hkrootOf (x .bytes) 15) → a .stops ≡ false
-      → header ≡ headerOf (hkrootOf (x .bytes) 15) → mack ≡ mackOf (x .bytes) 15 → Gives (mackHalf s' (x .prn) (x .time) header mack) n count s'' area area′
+  pub goes-on : (a : Half) (s' s'' : State) (n count header : ℕ) (mack area′ : List ℕ) → done a s' ≡ hkrootReceived s (x .time) (x .marks) (hkrootOf (fieldsOf x) 15) → a .stops ≡ false
+      → header ≡ headerOf (hkrootOf (fieldsOf x) 15) → mack ≡ mackOf (fieldsOf x) 15 → Gives (mackHalf s' (x .prn) (x .time) (x .marks) header mack) n count s'' area area′
       → subframeTold (a .code) n count s'' area′ ≡ halvesDone s area x
   unfolding halvesDone
   goes-on a s' s'' n count header mack area′ e f eh em g =
-      let m = mackHalf s' (x .prn) (x .time) (headerOf (hkrootOf (x .bytes) 15)) (mackOf (x .bytes) 15) in
+      let m = mackHalf s' (x .prn) (x .time) (x .marks) (headerOf (hkrootOf (fieldsOf x) 15)) (mackOf (fieldsOf x) 15) in
       rw (← e, f) (told-by (a .code) m n count s'' area′ (rw (eh, em) at g))
     where
       told-by : (c : ℕ) (m : MackDone) (n count : ℕ) (s'' : State) (area′ : List ℕ) → Gives m n count s'' area area′
@@ -89,10 +90,10 @@ module _ (s : State) (area : List ℕ) (x : Subframe) (e : (shaped s && (eqb (le
         not-later o = rw (e, p, t, k, o)
 
         module _ (o : (ltb (stampOf (x .time)) (lastSubframe (s .clocks)) || leb (stampOf (x .time)) (lastSubframeOf (s .clocks) (x .prn))) ≡ false) where
-          pub zeros : same (x .bytes) (replicate 75 0) ≡ true → 5 ≡ firstOf (subframeChecks s area x)
+          pub zeros : (neb (fieldsCame (x .marks) 15) 0 && same (fieldsOf x) (replicate 75 0)) ≡ true → 5 ≡ firstOf (subframeChecks s area x)
           unfolding subframeChecks
           zeros z = rw (e, p, t, k, o, z)
 
-          pub passes : same (x .bytes) (replicate 75 0) ≡ false → 0 ≡ firstOf (subframeChecks s area x)
+          pub passes : (neb (fieldsCame (x .marks) 15) 0 && same (fieldsOf x) (replicate 75 0)) ≡ false → 0 ≡ firstOf (subframeChecks s area x)
           unfolding subframeChecks
           passes z = rw (e, p, t, k, o, z)

@@ -9,5 +9,5 @@ abbrev pub subframeTold : ℕ → ℕ → ℕ → State → List ℕ → Subfram
 subframeTold hkroot mack count s area = record { hkroot = hkroot; mack = mack; count = count; state = s; area = area }
 
 -- what a sub-frame brings
-abbrev pub subframe : ℕ → ℕ → List ℕ → Subframe
-subframe prn time bytes = record { prn = prn; time = time; bytes = bytes }
+abbrev pub subframe : ℕ → ℕ → ℕ → List ℕ → Subframe
+subframe prn time marks bytes = record { prn = prn; time = time; marks = marks; bytes = bytes }

@@ -8,9 +8,10 @@ ghost use Prim.Native.Nat.{ℕ, _≤_, _<_};
 ghost use lib.Dec.{eqb, ltb, leb};
 ghost use lib.ListN.{length, replicate};
 ghost use Rattle.laws.specs.Lists.{same};
-ghost use Rattle.laws.specs.Refusal.{firstOf};
+ghost use Rattle.laws.specs.Refusal.{firstOf, neb};
 ghost use Rattle.gather.specs.Store.{Lent};
 ghost use Rattle.rules.specs.Calls.{subframeChecks, halvesDone, subframeCall};
+ghost use Rattle.rules.specs.Received.{fieldsCame, received};
 ghost use Rattle.rules.specs.State.{State, state, shaped, lastSubframe, lastSubframeOf, configLength, clocksLength, areaLength, chainLength, heldkeyLength, numbersLength, offerLength, pubkeysLength, satellites, setsLength, stampsLength, waitingLength, wordsLength};
 ghost use Rattle.rules.specs.Times.{stampOf};
 ghost use Rattle.call_subframe.specs.Told.{subframeTold, subframe};
@@ -34,18 +35,26 @@ fn out_of_order(clocks: &[u32], prn: u8, time: u32) -> bool
     bools::either(early, again)
 }
 
-// Row 5: 75 zero bytes.
-fn all_zero(bytes: &[u8]) -> bool
-    ensures { λ r. ⌜ r ≡ same (now (bytes .entry)) (replicate 75 0) ⌝ }
+// Row 5: fields came, and nothing but zero bytes in them.
+fn zero_fields(marks: u16, fields: &[u8]) -> bool
+    ensures { λ r. ⌜ r ≡ (neb (fieldsCame marks 15) 0 && same (now (fields .entry)) (replicate 75 0)) ⌝ }
 {
     let zeros = [0u8; 75];
-    buffer::equal(bytes, &zeros)
+    let zero = buffer::equal(fields, &zeros);
+    bools::both(received::fields_came(marks) != 0, zero)
 }
 
-// The number that refuses a sub-frame whose lengths are right: 2, 4, 3, 5, or 0.
-fn subframe_refusal(config: &[u8], clocks: &[u32], prn: u8, time: u32, bytes: &[u8]) -> u32
+// The number that refuses a sub-frame whose lengths are right: 2, 4, 3, 5, or 0. `fields` are the fields as they came.
+fn subframe_refusal(
+    config: &[u8],
+    clocks: &[u32],
+    prn: u8,
+    time: u32,
+    marks: u16,
+    fields: &[u8],
+) -> u32
     requires { ⌜ (length (now config) ≡ configLength) × (length (now clocks) ≡ clocksLength) ⌝ }
-    ensures { λ r. ⌜ ((s : State) (area : List ℕ) → s .config ≡ now (config .entry) → s .clocks ≡ now (clocks .entry) → (shaped s && (eqb (length area) areaLength && eqb (length (now (bytes .entry))) 75)) ≡ true → r ≡ firstOf (subframeChecks s area (subframe prn time (now (bytes .entry))))) × ((r ≡ 0 → ((1 ≤ prn) × (prn ≤ 36)) × (time < 4294967295)) × (r ≡ 5 → ((1 ≤ prn) × (prn ≤ 36)) × (time < 4294967295))) ⌝ }
+    ensures { λ r. ⌜ ((s : State) (area lent : List ℕ) → s .config ≡ now (config .entry) → s .clocks ≡ now (clocks .entry) → now (fields .entry) ≡ received marks lent 15 → (shaped s && (eqb (length area) areaLength && eqb (length lent) 75)) ≡ true → r ≡ firstOf (subframeChecks s area (subframe prn time marks lent))) × ((r ≡ 0 → ((1 ≤ prn) × (prn ≤ 36)) × (time < 4294967295)) × (r ≡ 5 → ((1 ≤ prn) × (prn ≤ 36)) × (time < 4294967295))) ⌝ }
 {
     if !regions::prn_valid(prn) {
         return 2;
@@ -59,7 +68,7 @@ fn subframe_refusal(config: &[u8], clocks: &[u32], prn: u8, time: u32, bytes: &[
     if out_of_order(clocks, prn, time) {
         return 3;
     }
-    if all_zero(bytes) {
+    if zero_fields(marks, fields) {
         return 5;
     }
     0
@@ -67,7 +76,7 @@ fn subframe_refusal(config: &[u8], clocks: &[u32], prn: u8, time: u32, bytes: &[
 
 // ---- both halves
 
-// The HKROOT half, then the MACK half; a proved emergency message gives 0 and 4.
+// The HKROOT half, then the MACK half; a proved emergency message gives 0 and 4. `fields` are the fields as they came.
 fn both_halves(
     config: &mut [u8],
     words: &[u8],
@@ -87,17 +96,18 @@ fn both_halves(
     area: &mut [u8],
     prn: u8,
     time: u32,
-    bytes: &[u8],
+    marks: u16,
+    fields: &[u8],
 ) -> Halves
     requires { ⌜ Lent (now blocks) (now headers) (now present) (now since) × ((length (now config) ≡ configLength) × ((length (now pubkeys) ≡ pubkeysLength) × (length (now offer) ≡ offerLength))) ⌝ }
     requires { ⌜ ((length (now words) ≡ wordsLength) × (length (now stamps) ≡ stampsLength)) × ((length (now chain) ≡ chainLength) × ((length (now numbers) ≡ numbersLength) × (length (now heldkey) ≡ heldkeyLength))) ⌝ }
     requires { ⌜ ((length (now sets) ≡ setsLength) × (length (now arrivals) ≡ satellites)) × ((length (now waiting) ≡ waitingLength) × (length (now area) ≡ areaLength)) ⌝ }
-    requires { ⌜ length (now bytes) ≡ 75 ⌝ }
-    ensures { λ r. ⌜ ((clocks : List ℕ) → subframeTold (r .hkroot) (r .mack) (r .count) (state (now (config .exit)) clocks (now (words .entry)) (now (stamps .entry)) (now (blocks .exit)) (now (headers .exit)) (now (present .exit)) (now (since .exit)) (now (pubkeys .exit)) (now (offer .exit)) (now (chain .entry)) (now (numbers .exit)) (now (heldkey .exit)) (now (waiting .exit)) (now (sets .exit)) (now (arrivals .exit))) (now (area .exit)) ≡ halvesDone (state (now (config .entry)) clocks (now (words .entry)) (now (stamps .entry)) (now (blocks .entry)) (now (headers .entry)) (now (present .entry)) (now (since .entry)) (now (pubkeys .entry)) (now (offer .entry)) (now (chain .entry)) (now (numbers .entry)) (now (heldkey .entry)) (now (waiting .entry)) (now (sets .entry)) (now (arrivals .entry))) (now (area .entry)) (subframe prn time (now (bytes .entry)))) ⌝ }
+    requires { ⌜ length (now fields) ≡ 75 ⌝ }
+    ensures { λ r. ⌜ ((clocks lent : List ℕ) → now (fields .entry) ≡ received marks lent 15 → subframeTold (r .hkroot) (r .mack) (r .count) (state (now (config .exit)) clocks (now (words .entry)) (now (stamps .entry)) (now (blocks .exit)) (now (headers .exit)) (now (present .exit)) (now (since .exit)) (now (pubkeys .exit)) (now (offer .exit)) (now (chain .entry)) (now (numbers .exit)) (now (heldkey .exit)) (now (waiting .exit)) (now (sets .exit)) (now (arrivals .exit))) (now (area .exit)) ≡ halvesDone (state (now (config .entry)) clocks (now (words .entry)) (now (stamps .entry)) (now (blocks .entry)) (now (headers .entry)) (now (present .entry)) (now (since .entry)) (now (pubkeys .entry)) (now (offer .entry)) (now (chain .entry)) (now (numbers .entry)) (now (heldkey .entry)) (now (waiting .entry)) (now (sets .entry)) (now (arrivals .entry))) (now (area .entry)) (subframe prn time marks lent)) ⌝ }
 {
-    let hk = gather::hkroot_of(bytes);
-    let mack = gather::mack_of(bytes);
-    let a = hkroot_half::hkroot_half(
+    let hk = gather::hkroot_of(fields);
+    let mack = gather::mack_of(fields);
+    let a = hkroot_half::hkroot_received(
         config,
         blocks,
         headers,
@@ -106,6 +116,7 @@ fn both_halves(
         pubkeys,
         offer,
         time,
+        marks,
         &hk,
     );
     if a.stops {
@@ -128,6 +139,7 @@ fn both_halves(
         area,
         prn,
         time,
+        marks,
         gather::header_of(&hk),
         &mack,
     );
@@ -138,7 +150,8 @@ fn both_halves(
     }
 }
 
-// The fields of a sub-frame, 15 of five bytes, that satellite `prn` sent at `time`. Records stand one after the other at the front of `area`.
+// The fields of a sub-frame, 15 of five bytes, that satellite `prn` sent at `time`; `marks` say which of them came, and what is lent for the others is
+// not read past this. Records stand one after the other at the front of `area`.
 pub fn take_subframe(
     config: &mut [u8],
     clocks: &mut [u32],
@@ -159,12 +172,14 @@ pub fn take_subframe(
     area: &mut [u8],
     prn: u8,
     time: u32,
+    marks: u16,
     bytes: &[u8],
 ) -> Halves
     requires { ⌜ (shaped (state (now config) (now clocks) (now words) (now stamps) (now blocks) (now headers) (now present) (now since) (now pubkeys) (now offer) (now chain) (now numbers) (now heldkey) (now waiting) (now sets) (now arrivals)) ≡ true) × ((length (now area) ≡ areaLength) × (length (now bytes) ≡ 75)) ⌝ }
-    ensures { λ r. ⌜ subframeTold (r .hkroot) (r .mack) (r .count) (state (now (config .exit)) (now (clocks .exit)) (now (words .entry)) (now (stamps .entry)) (now (blocks .exit)) (now (headers .exit)) (now (present .exit)) (now (since .exit)) (now (pubkeys .exit)) (now (offer .exit)) (now (chain .entry)) (now (numbers .exit)) (now (heldkey .exit)) (now (waiting .exit)) (now (sets .exit)) (now (arrivals .exit))) (now (area .exit)) ≡ subframeCall (state (now (config .entry)) (now (clocks .entry)) (now (words .entry)) (now (stamps .entry)) (now (blocks .entry)) (now (headers .entry)) (now (present .entry)) (now (since .entry)) (now (pubkeys .entry)) (now (offer .entry)) (now (chain .entry)) (now (numbers .entry)) (now (heldkey .entry)) (now (waiting .entry)) (now (sets .entry)) (now (arrivals .entry))) (now (area .entry)) (subframe prn time (now (bytes .entry))) ⌝ }
+    ensures { λ r. ⌜ subframeTold (r .hkroot) (r .mack) (r .count) (state (now (config .exit)) (now (clocks .exit)) (now (words .entry)) (now (stamps .entry)) (now (blocks .exit)) (now (headers .exit)) (now (present .exit)) (now (since .exit)) (now (pubkeys .exit)) (now (offer .exit)) (now (chain .entry)) (now (numbers .exit)) (now (heldkey .exit)) (now (waiting .exit)) (now (sets .exit)) (now (arrivals .exit))) (now (area .exit)) ≡ subframeCall (state (now (config .entry)) (now (clocks .entry)) (now (words .entry)) (now (stamps .entry)) (now (blocks .entry)) (now (headers .entry)) (now (present .entry)) (now (since .entry)) (now (pubkeys .entry)) (now (offer .entry)) (now (chain .entry)) (now (numbers .entry)) (now (heldkey .entry)) (now (waiting .entry)) (now (sets .entry)) (now (arrivals .entry))) (now (area .entry)) (subframe prn time marks (now (bytes .entry))) ⌝ }
 {
-    let code = subframe_refusal(config, clocks, prn, time, bytes);
+    let fields = received::received(marks, bytes);
+    let code = subframe_refusal(config, clocks, prn, time, marks, &fields);
     if code == 5 {
         regions::note_subframe(clocks, prn, time);
         return Halves {
@@ -200,6 +215,7 @@ pub fn take_subframe(
         area,
         prn,
         time,
-        bytes,
+        marks,
+        &fields,
     )
 }

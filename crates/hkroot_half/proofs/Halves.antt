@@ -1,5 +1,5 @@
 -- The HKROOT half by its cases: nothing complete, a complete DSM-KROOT, a complete DSM-PKR. Assumes nothing.
-use mathlib.Core.Path.{_≡_}
+use mathlib.Core.Path.{_≡_, refl}
 use mathlib.Core.Bool.{false, cond}
 use mathlib.Core.List.{List, []}
 use Prim.Native.Nat.{ℕ, _≤_}
@@ -7,10 +7,11 @@ use lib.Dec.{leb}
 use lib.ListN.{length, set}
 use borrow.Author.Tests.{ne-eqb}
 use native.Mathlib.Omega.{arith}
-use Rattle.rules.specs.Calls.{HkrootDone, hkrootHalf, storeDone, krootDone, pkrDone}
+use Rattle.rules.specs.Calls.{HkrootDone, hkrootHalf, hkrootReceived, storeDone, krootDone, pkrDone}
 use Rattle.rules.specs.Gather.{gathered, dsmIdOf, headerOf}
 use Rattle.rules.specs.Kroot.{krootJudged}
 use Rattle.rules.specs.Pkr.{pkrJudged}
+use Rattle.rules.specs.Received.{fieldsCame}
 use Rattle.rules.specs.State.{State, Store, treeRoot}
 use Rattle.hkroot_half.specs.Done.{done, gathering}
 use Rattle.hkroot_half.specs.declared.Half.{Half}
@@ -34,3 +35,16 @@ kroot-done s left config pubkeys offer given d header code ec ek eo e f = rw (e,
 pub pkr-done : (s : State) (left : Store) (config pubkeys offer installed given d : List ℕ) (h : Half) → s .config ≡ config → s .pubkeys ≡ pubkeys → s .offer ≡ offer → h .code ≡ (pkrJudged pubkeys (treeRoot config) d) .code → h .stops ≡ (pkrJudged pubkeys (treeRoot config) d) .stops → given ≡ (pkrJudged pubkeys (treeRoot config) d) .pubkeys → installed ≡ cond ((pkrJudged pubkeys (treeRoot config) d) .stops) (set config 62 1) config → done h (gathering s installed left given offer) ≡ pkrDone s left d
 unfolding pkrDone
 pkr-done s left config pubkeys offer installed given d h ec ek eo e f g i = rw (e, f, g, i, ec, ek, eo)
+
+-- ---- fields that are missing
+
+-- one is: all stays
+pub missing : (s : State) (t marks n : ℕ) (hk config pubkeys offer : List ℕ) (left : Store) → s .config ≡ config → s .store ≡ left → s .pubkeys ≡ pubkeys → s .offer ≡ offer → n ≡ fieldsCame marks 15 → (n ≡ 15 → ⊥)
+    → done (record { code = 17; stops = false }) (gathering s config left pubkeys offer) ≡ hkrootReceived s t marks hk
+unfolding hkrootReceived
+missing s t marks n hk config pubkeys offer left ec es ek eo e h = rw (← e, ne-eqb n 15 h, ← ec, ← es, ← ek, ← eo) refl
+
+-- none is
+pub none-missing : (s : State) (t marks n : ℕ) (hk : List ℕ) (x : HkrootDone) → n ≡ fieldsCame marks 15 → n ≡ 15 → x ≡ hkrootHalf s t hk → x ≡ hkrootReceived s t marks hk
+unfolding hkrootReceived
+none-missing s t marks n hk x e h q = rw (← e, h) q

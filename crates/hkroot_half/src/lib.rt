@@ -1,7 +1,8 @@
 // The HKROOT half of a sub-frame (01, "HKROOT", "Verdicts"): a block is gathered, and a complete DSM is judged.
-//   hkroot_half    the half, over the regions that it may write
-//   complete       a complete DSM: DSM-KROOT or DSM-PKR by its ID
-//   renewed        a complete DSM-PKR; a proved emergency message stops the core
+//   hkroot_received   the half, over the regions that it may write: 17 where a field is missing
+//   hkroot_half       the half of which every byte came
+//   complete          a complete DSM: DSM-KROOT or DSM-PKR by its ID
+//   renewed           a complete DSM-PKR; a proved emergency message stops the core
 use gather::Gathered;
 ghost use mathlib.Core.Path.{_≡_};
 ghost use mathlib.Core.Bool.{cond};
@@ -10,7 +11,7 @@ ghost use lib.Dec.{leb};
 ghost use lib.ListN.{length, set};
 ghost use Rattle.laws.specs.Lists.{part};
 ghost use Rattle.gather.specs.Store.{Lent, store};
-ghost use Rattle.rules.specs.Calls.{hkrootHalf, krootDone, pkrDone};
+ghost use Rattle.rules.specs.Calls.{hkrootHalf, hkrootReceived, krootDone, pkrDone};
 ghost use Rattle.rules.specs.Gather.{dsmIdOf, headerOf};
 ghost use Rattle.rules.specs.Pkr.{pkrJudged};
 ghost use Rattle.rules.specs.State.{State, Store, treeRoot, configLength, blocksLength, pubkeysLength, offerLength};
@@ -22,8 +23,43 @@ pub struct Half {
     pub stops: bool,
 }
 
+// An HKROOT section of 15 bytes, one of each field, comes at time t: 17 where a field is missing, and nothing changes; else its block is taken.
+pub fn hkroot_received(
+    config: &mut [u8],
+    blocks: &mut [u8],
+    headers: &mut [u8],
+    present: &mut [u16],
+    since: &mut [u32],
+    pubkeys: &mut [u8],
+    offer: &mut [u8],
+    t: u32,
+    marks: u16,
+    hk: &[u8; 15],
+) -> Half
+    requires { ⌜ Lent (now blocks) (now headers) (now present) (now since) × ((length (now config) ≡ configLength) × ((length (now pubkeys) ≡ pubkeysLength) × (length (now offer) ≡ offerLength))) ⌝ }
+    ensures { λ r. ⌜ ((s : State) → s .config ≡ now (config .entry) → s .store ≡ store (now (blocks .entry)) (now (headers .entry)) (now (present .entry)) (now (since .entry)) → s .pubkeys ≡ now (pubkeys .entry) → s .offer ≡ now (offer .entry) → done r (gathering s (now (config .exit)) (store (now (blocks .exit)) (now (headers .exit)) (now (present .exit)) (now (since .exit))) (now (pubkeys .exit)) (now (offer .exit))) ≡ hkrootReceived s t marks (now (hk .entry))) ⌝ }
+{
+    if received::fields_came(marks) != 15 {
+        return Half {
+            code: 17,
+            stops: false,
+        };
+    }
+    hkroot_half(
+        config,
+        blocks,
+        headers,
+        present,
+        since,
+        pubkeys,
+        offer,
+        t,
+        hk,
+    )
+}
+
 // The block of an HKROOT section of 15 bytes comes at time t.
-pub fn hkroot_half(
+fn hkroot_half(
     config: &mut [u8],
     blocks: &mut [u8],
     headers: &mut [u8],

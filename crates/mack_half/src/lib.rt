@@ -1,5 +1,5 @@
-// The MACK half of a sub-frame (01, "MACK"; "section 11, then block by block 13, 12"): the section is refused, or its keys are proved and
-// its tags judged: those that waited and are due, then its own.
+// The MACK half of a sub-frame (01, "MACK"; "section 11, then block by block 13, 12"; 02, P3: 17 before 11): the section is refused, or its keys
+// are proved and its tags judged: those that waited and are due, then its own.
 //   mack_half      the half, over the regions that it touches
 //   judge_tags     the waiting tags that are due, then the section's own
 use mack_keys::Keys;
@@ -13,9 +13,9 @@ ghost use Rattle.rules.specs.Bits.{filled};
 ghost use Rattle.rules.specs.Calls.{sectionUnfit, mackHalf};
 ghost use Rattle.rules.specs.Chain.{held};
 ghost use Rattle.rules.specs.Kroot.{inForce, chainWith, chainContents};
-ghost use Rattle.rules.specs.Mack.{keysProved};
+ghost use Rattle.rules.specs.Received.{fieldCame, keysReceived, fieldsJudged};
 ghost use Rattle.rules.specs.State.{State, nsOf, configLength, chainLength, numbersLength, heldkeyLength, waitingLength, areaLength, satellites, setsLength, stampsLength, wordsLength};
-ghost use Rattle.rules.specs.Tags.{ownsJudged, duesJudged};
+ghost use Rattle.rules.specs.Tags.{duesJudged};
 ghost use Rattle.authentic_sets.specs.Regions.{auth};
 ghost use Rattle.chain.specs.Sound.{Sound, Met};
 ghost use Rattle.navdata.specs.Pieces.{nav};
@@ -75,13 +75,14 @@ fn hold(numbers: &mut [u64], heldkey: &mut [u8], slot: u64, kept: usize, key: [u
     buffer::copy_at(heldkey, 0, &key);
 }
 
-// Checks the keys of a section of 60 bytes against the held key of this slot, in `key`, and keeps a key on the way in `met`: one of the first n
-// waiting tags' where the way is long.
+// Checks the keys of a section of 60 bytes, as far as they came, against the held key of this slot, in `key`, and keeps a key on the way in
+// `met`: one of the first n waiting tags' where the way is long.
 fn prove_keys(
     c: Chain,
     time: u32,
     prn: u8,
     mack: &[u8],
+    marks: u16,
     slot: u64,
     waiting: &[u8],
     n: usize,
@@ -90,11 +91,11 @@ fn prove_keys(
 ) -> Keys
     requires { ⌜ Sound c × ((length (now mack) ≡ 60) × ((slot < 2 ^ 34) × (length (now key) ≡ 32))) ⌝ }
     requires { ⌜ (length (now waiting) ≡ waitingLength) × (n ≤ 256) ⌝ }
-    ensures { λ r. ⌜ Hands (keysProved c time prn (now (mack .entry)) (held slot (take (c .width) (now (key .entry)))) (c .nmack)) (r .code) (r .slot) (now (key .entry)) (now (key .exit)) × ((r .slot < 2 ^ 34) × Met c (held (r .slot) (take (c .width) (now (key .exit)))) (r .met) (now (met .exit))) ⌝ }
+    ensures { λ r. ⌜ Hands (keysReceived c time prn (now (mack .entry)) marks (held slot (take (c .width) (now (key .entry)))) (c .nmack)) (r .code) (r .slot) (now (key .entry)) (now (key .exit)) × ((r .slot < 2 ^ 34) × Met c (held (r .slot) (take (c .width) (now (key .exit)))) (r .met) (now (met .exit))) ⌝ }
 {
     let last = chain::sent_slot(c, time, c.nmack, prn);
     let via = due_tag_keys::slot_to_keep(c, slot, last, waiting, n);
-    mack_keys::keys_proved(c, time, prn, mack, slot, via, key, met)
+    mack_keys::keys_proved(c, time, prn, mack, marks, slot, via, key, met)
 }
 
 // ---- tags
@@ -120,6 +121,7 @@ fn judge_tags(
     time: u32,
     status: u8,
     mack: &[u8],
+    marks: u16,
     waiting: &mut [u8],
     n: usize,
     sets: &mut [u8],
@@ -129,7 +131,7 @@ fn judge_tags(
     requires { ⌜ ((length (now config) ≡ configLength) × (length (now words) ≡ wordsLength)) × ((length (now stamps) ≡ stampsLength) × (length (now mack) ≡ 60)) ⌝ }
     requires { ⌜ ((length (now sets) ≡ setsLength) × (length (now arrivals) ≡ satellites)) × ((length (now waiting) ≡ waitingLength) × (length (now area) ≡ areaLength)) ⌝ }
     requires { ⌜ ((Sound c × Laid c) × ((slot < 2 ^ 34) × (n ≤ 256))) × Met c (held slot (take (c .width) key)) near met ⌝ }
-    ensures { λ r. ⌜ Leaves (ownsJudged (now (config .entry)) (nav (now (words .entry)) (now (stamps .entry))) c (held slot (take (c .width) key)) (section prn time status (now (mack .entry))) (c .nmack * c .fields) (duesJudged c (held slot (take (c .width) key)) (now (waiting .entry)) n (start 0 (now (sets .entry)) (now (arrivals .entry))))) 0 0 (now (waiting .entry)) (now (area .entry)) (now (waiting .exit)) (now (sets .exit)) (now (arrivals .exit)) (now (area .exit)) (r .kept) × ((length ((ownsJudged (now (config .entry)) (nav (now (words .entry)) (now (stamps .entry))) c (held slot (take (c .width) key)) (section prn time status (now (mack .entry))) (c .nmack * c .fields) (duesJudged c (held slot (take (c .width) key)) (now (waiting .entry)) n (start 0 (now (sets .entry)) (now (arrivals .entry))))) .records) ≡ r .records * 12) × (r .records ≤ 270)) ⌝ }
+    ensures { λ r. ⌜ Leaves (fieldsJudged (now (config .entry)) (nav (now (words .entry)) (now (stamps .entry))) c (held slot (take (c .width) key)) (section prn time status (now (mack .entry))) marks (c .nmack * c .fields) (duesJudged c (held slot (take (c .width) key)) (now (waiting .entry)) n (start 0 (now (sets .entry)) (now (arrivals .entry))))) 0 0 (now (waiting .entry)) (now (area .entry)) (now (waiting .exit)) (now (sets .exit)) (now (arrivals .exit)) (now (area .exit)) (r .kept) × ((length ((fieldsJudged (now (config .entry)) (nav (now (words .entry)) (now (stamps .entry))) c (held slot (take (c .width) key)) (section prn time status (now (mack .entry))) marks (c .nmack * c .fields) (duesJudged c (held slot (take (c .width) key)) (now (waiting .entry)) n (start 0 (now (sets .entry)) (now (arrivals .entry))))) .records) ≡ r .records * 12) × (r .records ≤ 270)) ⌝ }
 {
     let stay = due_tags::judge_due(c, slot, key, near, met, waiting, n, sets, arrivals, area);
     let told = n - stay;
@@ -145,6 +147,7 @@ fn judge_tags(
         time,
         status,
         mack,
+        marks,
         waiting,
         stay,
         sets,
@@ -166,7 +169,7 @@ pub struct Mack {
     pub count: usize,
 }
 
-// A section that row 11 does not refuse: its keys are proved, then tags are judged, and the highest key proved is held.
+// A section that neither 17 nor row 11 refuses: its keys are proved, then tags are judged, and the highest key proved is held.
 fn judge_section(
     config: &[u8],
     words: &[u8],
@@ -180,20 +183,32 @@ fn judge_section(
     area: &mut [u8],
     prn: u8,
     time: u32,
+    marks: u16,
     header: u8,
     mack: &[u8],
 ) -> Mack
     requires { ⌜ ((length (now config) ≡ configLength) × (length (now words) ≡ wordsLength)) × ((length (now stamps) ≡ stampsLength) × (length (now mack) ≡ 60)) ⌝ }
     requires { ⌜ ((length (now sets) ≡ setsLength) × (length (now arrivals) ≡ satellites)) × ((length (now waiting) ≡ waitingLength) × (length (now area) ≡ areaLength)) ⌝ }
     requires { ⌜ ((length (now chain) ≡ chainLength) × (length (now numbers) ≡ numbersLength)) × ((length (now heldkey) ≡ heldkeyLength) × (inForce (now config) (now chain) ≡ true)) ⌝ }
-    ensures { λ r. ⌜ ((s : State) → s .config ≡ now (config .entry) → s .nav ≡ nav (now (words .entry)) (now (stamps .entry)) → s .chain ≡ now (chain .entry) → s .tesla ≡ tesla (now (numbers .entry)) (now (heldkey .entry)) (now (waiting .entry)) → s .auth ≡ auth (now (sets .entry)) (now (arrivals .entry)) → sectionUnfit s time header ≡ false → Gives (mackHalf s prn time header (now (mack .entry))) (r .code) (r .count) (judging s (tesla (now (numbers .exit)) (now (heldkey .exit)) (now (waiting .exit))) (auth (now (sets .exit)) (now (arrivals .exit)))) (now (area .entry)) (now (area .exit))) × (r .count ≤ 270) ⌝ }
+    ensures { λ r. ⌜ ((s : State) → s .config ≡ now (config .entry) → s .nav ≡ nav (now (words .entry)) (now (stamps .entry)) → s .chain ≡ now (chain .entry) → s .tesla ≡ tesla (now (numbers .entry)) (now (heldkey .entry)) (now (waiting .entry)) → s .auth ≡ auth (now (sets .entry)) (now (arrivals .entry)) → fieldCame marks 0 ≡ true → sectionUnfit s time header ≡ false → Gives (mackHalf s prn time marks header (now (mack .entry))) (r .code) (r .count) (judging s (tesla (now (numbers .exit)) (now (heldkey .exit)) (now (waiting .exit))) (auth (now (sets .exit)) (now (arrivals .exit)))) (now (area .entry)) (now (area .exit))) × (r .count ≤ 270) ⌝ }
 {
     let c = chain_of(config, chain);
     let slot = regions::held_slot(numbers);
     let n = regions::waiting_count(numbers);
     let mut key = held_key(heldkey, c.width);
     let mut met = [0u8; 32];
-    let p = prove_keys(c, time, prn, mack, slot, waiting, n, &mut key, &mut met);
+    let p = prove_keys(
+        c,
+        time,
+        prn,
+        mack,
+        marks,
+        slot,
+        waiting,
+        n,
+        &mut key,
+        &mut met,
+    );
     if p.code != 0 {
         return Mack {
             code: p.code,
@@ -213,6 +228,7 @@ fn judge_section(
         time,
         gather::status_of(header),
         mack,
+        marks,
         waiting,
         n,
         sets,
@@ -226,8 +242,8 @@ fn judge_section(
     }
 }
 
-// The MACK section of a sub-frame, 60 bytes, that satellite `prn` sent at `time` with this NMA header. Records stand one after the other at
-// the front of `area`; the other bytes stay.
+// The MACK section of a sub-frame, 60 bytes, that satellite `prn` sent at `time` with this NMA header, and the marks of the fields that came.
+// Records stand one after the other at the front of `area`; the other bytes stay.
 pub fn mack_half(
     config: &[u8],
     words: &[u8],
@@ -241,14 +257,18 @@ pub fn mack_half(
     area: &mut [u8],
     prn: u8,
     time: u32,
+    marks: u16,
     header: u8,
     mack: &[u8],
 ) -> Mack
     requires { ⌜ ((length (now config) ≡ configLength) × (length (now words) ≡ wordsLength)) × ((length (now stamps) ≡ stampsLength) × (length (now mack) ≡ 60)) ⌝ }
     requires { ⌜ ((length (now sets) ≡ setsLength) × (length (now arrivals) ≡ satellites)) × ((length (now waiting) ≡ waitingLength) × (length (now area) ≡ areaLength)) ⌝ }
     requires { ⌜ (length (now chain) ≡ chainLength) × ((length (now numbers) ≡ numbersLength) × (length (now heldkey) ≡ heldkeyLength)) ⌝ }
-    ensures { λ r. ⌜ ((s : State) → s .config ≡ now (config .entry) → s .nav ≡ nav (now (words .entry)) (now (stamps .entry)) → s .chain ≡ now (chain .entry) → s .tesla ≡ tesla (now (numbers .entry)) (now (heldkey .entry)) (now (waiting .entry)) → s .auth ≡ auth (now (sets .entry)) (now (arrivals .entry)) → Gives (mackHalf s prn time header (now (mack .entry))) (r .code) (r .count) (judging s (tesla (now (numbers .exit)) (now (heldkey .exit)) (now (waiting .exit))) (auth (now (sets .exit)) (now (arrivals .exit)))) (now (area .entry)) (now (area .exit))) × (r .count ≤ 270) ⌝ }
+    ensures { λ r. ⌜ ((s : State) → s .config ≡ now (config .entry) → s .nav ≡ nav (now (words .entry)) (now (stamps .entry)) → s .chain ≡ now (chain .entry) → s .tesla ≡ tesla (now (numbers .entry)) (now (heldkey .entry)) (now (waiting .entry)) → s .auth ≡ auth (now (sets .entry)) (now (arrivals .entry)) → Gives (mackHalf s prn time marks header (now (mack .entry))) (r .code) (r .count) (judging s (tesla (now (numbers .exit)) (now (heldkey .exit)) (now (waiting .exit))) (auth (now (sets .exit)) (now (arrivals .exit)))) (now (area .entry)) (now (area .exit))) × (r .count ≤ 270) ⌝ }
 {
+    if !received::field_came(marks, 0) {
+        return Mack { code: 17, count: 0 };
+    }
     if section_unfit(config, chain, time, header) {
         return Mack { code: 11, count: 0 };
     }
@@ -265,6 +285,7 @@ pub fn mack_half(
         area,
         prn,
         time,
+        marks,
         header,
         mack,
     )

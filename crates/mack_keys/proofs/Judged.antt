@@ -15,6 +15,7 @@ use Rattle.laws.specs.Refusal.{firstOf, unless, neb}
 use Rattle.laws.proofs.Refusal.{by-test, unless-refused}
 use Rattle.rules.specs.Chain.{Held, held, keyFits, keyOfSlot, higher, sentSlot}
 use Rattle.rules.specs.Mack as S
+use Rattle.rules.specs.Received.{keyCame, blockReceived, keysReceived}
 use Rattle.rules.specs.declared.Chain.{Chain}
 use Rattle.rules.proofs.Walks.{key-width}
 use Rattle.chain.specs.Sound.{Met}
@@ -91,6 +92,30 @@ module _ (c : Chain) (g prn first high b slot : ℕ) (m key : List ℕ) (s : slo
               key-is = rw (near, u, v, w) (r ∙ ap (splice key 0) (sent-key c m sent b k));
             }
 
+-- ---- a block by its key: it came, or it is lost
+
+module _ (c : Chain) (g prn first marks slot b : ℕ) (m key : List ℕ) where
+  abbrev received : S.Proved
+  received = blockReceived c g prn first m marks (held slot (take (c .width) key)) b
+
+  pub key-came : keyCame c marks b ≡ true → received ≡ S.blockProved c g prn first m (held slot (take (c .width) key)) b
+  unfolding blockReceived
+  key-came e = rw e
+
+  module _ (lost : keyCame c marks b ≡ false) (x : ℕ) (e : x ≡ S.spareBits c m b) where
+    -- a spare bit is 1
+    pub lost-spare : (x ≡ 0 → ⊥) → Hands received 12 slot key key
+    unfolding blockReceived
+    lost-spare n =
+        let t : eqb (S.spareBits c m b) 0 ≡ false = rw e at (ne-eqb x 0 n) in
+        record { code-is = rw (lost, t); slot-is = rw lost; key-is = rw lost (sym (splice-front key (c .width))) }
+
+    pub lost-key : x ≡ 0 → Hands received 0 slot key key
+    unfolding blockReceived
+    lost-key z =
+        let v : S.spareBits c m b ≡ 0 = sym e ∙ z in
+        record { code-is = rw (lost, v); slot-is = rw lost; key-is = rw lost (sym (splice-front key (c .width))) }
+
 -- ---- the key that is kept on the way
 
 module _ (c : Chain) (high slot stop : ℕ) (known sent here : List ℕ) (w : c .width ≤ 32) (n : length sent ≡ 32)
@@ -138,22 +163,27 @@ length-block c g prn first m h b e =
     chosen (firstOf (S.blockChecks c g prn first m h b)) (c .width) (higher h (sentSlot c g b prn) (S.blockKey c m b)) h
     (length-higher h (sentSlot c g b prn) (S.blockKey c m b) (c .width) e (key-width c m b)) e
 
-pub length-proved : (c : Chain) (g prn : ℕ) (m : List ℕ) (h : Held) (b : ℕ) → length (h .key) ≡ c .width → length ((S.keysProved c g prn m h b) .held .key) ≡ c .width
-unfolding S.keysProved
-length-proved c g prn m h zero e = e
-length-proved c g prn m h (suc b) e =
-    let p = S.keysProved c g prn m h b in
-    let i = length-proved c g prn m h b e in
-    chosen-proved (p .code) (c .width) (S.blockProved c g prn (h .slot) m (p .held) (suc b)) p (length-block c g prn (h .slot) m (p .held) (suc b) i) i
+-- a block whose key may be lost: then what is held stays
+length-received : (c : Chain) (g prn first : ℕ) (m : List ℕ) (marks : ℕ) (h : Held) (b : ℕ) → length (h .key) ≡ c .width → length ((blockReceived c g prn first m marks h b) .held .key) ≡ c .width
+unfolding blockReceived
+length-received c g prn first m marks h b e = by-test (λ (x : S.Proved). length (x .held .key) ≡ c .width) (keyCame c marks b) (λ _. length-block c g prn first m h b e) (λ _. e)
+
+pub length-proved : (c : Chain) (g prn : ℕ) (m : List ℕ) (marks : ℕ) (h : Held) (b : ℕ) → length (h .key) ≡ c .width → length ((keysReceived c g prn m marks h b) .held .key) ≡ c .width
+unfolding keysReceived
+length-proved c g prn m marks h zero e = e
+length-proved c g prn m marks h (suc b) e =
+    let p = keysReceived c g prn m marks h b in
+    let i = length-proved c g prn m marks h b e in
+    chosen-proved (p .code) (c .width) (blockReceived c g prn (h .slot) m marks (p .held) (suc b)) p (length-received c g prn (h .slot) m marks (p .held) (suc b) i) i
 
 -- what the blocks before gave, as the code has it
 abbrev pub soFar : Chain → ℕ → ℕ → List ℕ → S.Proved
 soFar c code slot key = record { code = code; held = held slot (take (c .width) key) }
 
 -- no block yet
-pub no-block : (c : Chain) (g prn slot : ℕ) (m key : List ℕ) → Hands (S.keysProved c g prn m (held slot (take (c .width) key)) 0) 0 slot key key
-unfolding S.keysProved
-no-block c g prn slot m key = record { code-is = refl; slot-is = refl; key-is = sym (splice-front key (c .width)) }
+pub no-block : (c : Chain) (g prn marks slot : ℕ) (m key : List ℕ) → Hands (keysReceived c g prn m marks (held slot (take (c .width) key)) 0) 0 slot key key
+unfolding keysReceived
+no-block c g prn marks slot m key = record { code-is = refl; slot-is = refl; key-is = sym (splice-front key (c .width)) }
 
 -- a block failed before
 pub failed-before : (c : Chain) (code slot : ℕ) (x : S.Proved) (key : List ℕ) → (code ≡ 0 → ⊥) → Hands (unless code x (soFar c code slot key)) code slot key key
@@ -162,18 +192,18 @@ failed-before c code slot x key n =
     (record { code-is = refl; slot-is = refl; key-is = sym (splice-front key (c .width)) })
 
 -- one block more
-pub one-more : (c : Chain) (g prn b code slot rc rs : ℕ) (m key₀ key out : List ℕ) (h : Held) → length (h .key) ≡ c .width
-    → Hands (S.keysProved c g prn m h b) code slot key₀ key
-    → Hands (unless code (S.blockProved c g prn (h .slot) m (held slot (take (c .width) key)) (b + 1)) (soFar c code slot key)) rc rs key out
-    → Hands (S.keysProved c g prn m h (b + 1)) rc rs key₀ out
-unfolding S.keysProved
-one-more c g prn b code slot rc rs m key₀ key out h e p q =
-    let old = S.keysProved c g prn m h b in
-    let n = length-proved c g prn m h b e in
+pub one-more : (c : Chain) (g prn marks b code slot rc rs : ℕ) (m key₀ key out : List ℕ) (h : Held) → length (h .key) ≡ c .width
+    → Hands (keysReceived c g prn m marks h b) code slot key₀ key
+    → Hands (unless code (blockReceived c g prn (h .slot) m marks (held slot (take (c .width) key)) (b + 1)) (soFar c code slot key)) rc rs key out
+    → Hands (keysReceived c g prn m marks h (b + 1)) rc rs key₀ out
+unfolding keysReceived
+one-more c g prn marks b code slot rc rs m key₀ key out h e p q =
+    let old = keysReceived c g prn m marks h b in
+    let n = length-proved c g prn m marks h b e in
     let k : take (c .width) key ≡ old .held .key = ap (take (c .width)) (p .key-is) ∙ front-splice key₀ (old .held .key) (c .width) n in
     let same : soFar c code slot key ≡ old = rw (p .code-is, p .slot-is, k) in
-    let new = S.keysProved c g prn m h (suc b) in
-    let u : unless code (S.blockProved c g prn (h .slot) m (held slot (take (c .width) key)) (b + 1)) (soFar c code slot key) ≡ new =
+    let new = keysReceived c g prn m marks h (suc b) in
+    let u : unless code (blockReceived c g prn (h .slot) m marks (held slot (take (c .width) key)) (b + 1)) (soFar c code slot key) ≡ new =
     rw (same, p .code-is, p .slot-is, k, add-one b) in
     let r : Hands new rc rs key out = rw u at q in
     rw (add-one b)
@@ -183,12 +213,12 @@ one-more c g prn b code slot rc rs m key₀ key out h e p q =
       key-is =
           r .key-is
           ∙ ap (λ (l : List ℕ). splice l 0 (new .held .key)) (p .key-is)
-          ∙ splice-again key₀ (old .held .key) (new .held .key) (n ∙ sym (length-proved c g prn m h (suc b) e));
+          ∙ splice-again key₀ (old .held .key) (new .held .key) (n ∙ sym (length-proved c g prn m marks h (suc b) e));
     })
 
 -- all blocks
-pub all-blocks : (c : Chain) (g prn b n code slot : ℕ) (m key₀ key : List ℕ) (h : Held) → b ≤ n → n ≤ b → Hands (S.keysProved c g prn m h b) code slot key₀ key
-    → Hands (S.keysProved c g prn m h n) code slot key₀ key
-all-blocks c g prn b n code slot m key₀ key h l k p =
+pub all-blocks : (c : Chain) (g prn marks b n code slot : ℕ) (m key₀ key : List ℕ) (h : Held) → b ≤ n → n ≤ b → Hands (keysReceived c g prn m marks h b) code slot key₀ key
+    → Hands (keysReceived c g prn m marks h n) code slot key₀ key
+all-blocks c g prn marks b n code slot m key₀ key h l k p =
     let e : n ≡ b = omega arith in
     rw e p

@@ -1,5 +1,6 @@
 // The keys of a MACK section (01, "MACK"; 000, 4 and 5.4), read block by block and checked. What is judged is its definition in
-// rules/specs/Mack.antt. `keys_proved` is the public call: 13, 12 or 0 for the whole section, and the highest key proved.
+// rules/specs/Mack.antt and, where fields are missing, in rules/specs/Received.antt. `keys_proved` is the public call: 13, 12 or 0 for the
+// whole section, and the highest key proved.
 // On the way from a sent key down to the key that it is checked against, the key of one slot can be kept, so that a tag of that slot needs no
 // second walk. Which slot that is changes no answer.
 use mack::Cursor;
@@ -12,6 +13,7 @@ ghost use Rattle.laws.specs.Lists.{splice};
 ghost use Rattle.laws.specs.Refusal.{unless};
 ghost use Rattle.rules.specs.Chain.{Held, held};
 ghost use Rattle.rules.specs.Mack as S;
+ghost use Rattle.rules.specs.Received.{blockReceived, keysReceived};
 ghost use Rattle.chain.specs.Sound.{Sound, Met};
 ghost use Rattle.rules.specs.declared.Chain.{Chain};
 ghost use Rattle.mack_keys.specs.Keys.{Hands};
@@ -23,7 +25,8 @@ pub struct Keys {
     pub met: u64,
 }
 
-// Checks the keys of a section of 60 bytes that satellite `prn` sent at g, block by block, each against the highest key proved so far.
+// Checks the keys of a section of 60 bytes that satellite `prn` sent at g, block by block, each against the highest key proved so far. `marks`
+// says which fields came: of a block whose key did not, the spare bits alone are judged.
 // `slot` and `key` are the held key's; the highest key proved takes its place in `key`, the bytes past its width stay. The key of slot `via`
 // is kept in `met` where a walk passes it, else the held key.
 pub fn keys_proved(
@@ -31,13 +34,14 @@ pub fn keys_proved(
     g: u32,
     prn: u8,
     m: &[u8],
+    marks: u16,
     slot: u64,
     via: u64,
     key: &mut [u8; 32],
     met: &mut [u8; 32],
 ) -> Keys
     requires { ⌜ Sound c × ((length (now m) ≡ 60) × ((slot < 2 ^ 34) × (length (now key) ≡ 32))) ⌝ }
-    ensures { λ r. ⌜ Hands (S.keysProved c g prn (now (m .entry)) (held slot (take (c .width) (now (key .entry)))) (c .nmack)) (r .code) (r .slot) (now (key .entry)) (now (key .exit)) × ((r .slot < 2 ^ 34) × Met c (held (r .slot) (take (c .width) (now (key .exit)))) (r .met) (now (met .exit))) ⌝ }
+    ensures { λ r. ⌜ Hands (keysReceived c g prn (now (m .entry)) marks (held slot (take (c .width) (now (key .entry)))) (c .nmack)) (r .code) (r .slot) (now (key .entry)) (now (key .exit)) × ((r .slot < 2 ^ 34) × Met c (held (r .slot) (take (c .width) (now (key .exit)))) (r .met) (now (met .exit))) ⌝ }
 {
     let nmack = c.nmack;
     let known = *key;
@@ -53,7 +57,20 @@ pub fn keys_proved(
         b += 1;
         let block = mack::next_key(c, m, k, b);
         let sent = block.key;
-        let q = next_block(c, g, prn, slot, via, b, sent, block.spare, p, key, met);
+        let q = next_block(
+            c,
+            g,
+            prn,
+            marks,
+            slot,
+            via,
+            b,
+            sent,
+            block.spare,
+            p,
+            key,
+            met,
+        );
         let next = block.next;
         p = q;
         k = next;
@@ -62,11 +79,12 @@ pub fn keys_proved(
 }
 
 // One block more, after what the blocks before it gave: nothing is looked at once a block has failed. `sent` and `spare` are the block's key
-// and spare bits.
+// and spare bits. A key that did not come is checked by neither 13 nor 12.
 fn next_block(
     c: Chain,
     g: u32,
     prn: u8,
+    marks: u16,
     first: u64,
     via: u64,
     b: u64,
@@ -77,12 +95,18 @@ fn next_block(
     met: &mut [u8; 32],
 ) -> Keys
     requires { ⌜ Sound c × ((first < 2 ^ 34) × ((p .slot < 2 ^ 34) × ((1 ≤ b) × (b ≤ c .nmack)))) ⌝ }
-    ensures { λ r. ⌜ ((m : List ℕ) → sent ≡ splice (replicate 32 0) 0 (S.blockKey c m b) → spare ≡ S.spareBits c m b → Hands (unless (p .code) (S.blockProved c g prn first m (held (p .slot) (take (c .width) (now (key .entry)))) b) (record { code = p .code; held = held (p .slot) (take (c .width) (now (key .entry))) })) (r .code) (r .slot) (now (key .entry)) (now (key .exit))) × ((r .slot < 2 ^ 34) × (Met c (held (p .slot) (take (c .width) (now (key .entry)))) (p .met) (now (met .entry)) → Met c (held (r .slot) (take (c .width) (now (key .exit)))) (r .met) (now (met .exit)))) ⌝ }
+    ensures { λ r. ⌜ ((m : List ℕ) → sent ≡ splice (replicate 32 0) 0 (S.blockKey c m b) → spare ≡ S.spareBits c m b → Hands (unless (p .code) (blockReceived c g prn first m marks (held (p .slot) (take (c .width) (now (key .entry)))) b) (record { code = p .code; held = held (p .slot) (take (c .width) (now (key .entry))) })) (r .code) (r .slot) (now (key .entry)) (now (key .exit))) × ((r .slot < 2 ^ 34) × (Met c (held (p .slot) (take (c .width) (now (key .entry)))) (p .met) (now (met .entry)) → Met c (held (r .slot) (take (c .width) (now (key .exit)))) (r .met) (now (met .exit)))) ⌝ }
 {
     if p.code != 0 {
         return p;
     }
-    block_proved(c, g, prn, first, via, b, sent, spare, p, key, met)
+    if mack_items::key_came(c, marks, b) {
+        return block_proved(c, g, prn, first, via, b, sent, spare, p, key, met);
+    }
+    if spare != 0 {
+        return still(p, 12);
+    }
+    p
 }
 
 // Block b against the highest key proved so far, `key` of slot p.slot; `first` is the slot held when the section came.

@@ -8,6 +8,7 @@ ghost use Rattle.regions.specs.Told.{told};
 ghost use Rattle.call_subframe.specs.Told.{subframeTold, subframe};
 ghost use Rattle.call_reads.specs.Reads.{setTold, offerTold};
 ghost use Rattle.rules.specs.Calls.{startCall, wordCall, subframeCall, verdictCall, setRead, offerRead};
+ghost use Rattle.rules.specs.Whole.{wholeSubframe};
 ghost use Rattle.rules.specs.State.{state};
 
 // Begins: installs the settings and the first public key, and clears all else (01, start).
@@ -142,7 +143,7 @@ pub extern "C" fn osnma_regions_word(
 }
 
 // Lends the authentication fields of a sub-frame, 15 of five bytes, with its GST_SF (01, sub-frame). The two halves' numbers go to `hkroot`
-// and `mack`; it returns how many tag records of 12 bytes now stand at the front of `area`.
+// and `mack`; it returns how many tag records of 12 bytes now stand at the front of `area`. Every field came: its rule is the one of 01 alone.
 #[no_mangle]
 pub extern "C" fn osnma_regions_subframe(
     config: &mut [u8],
@@ -168,7 +169,64 @@ pub extern "C" fn osnma_regions_subframe(
     hkroot: &mut u32,
     mack: &mut u32,
 ) -> u32
-    ensures { λ r. ⌜ subframeTold (now (hkroot .exit)) (now (mack .exit)) r (state (now (config .exit)) (now (clocks .exit)) (now (words .entry)) (now (stamps .entry)) (now (blocks .exit)) (now (headers .exit)) (now (present .exit)) (now (since .exit)) (now (pubkeys .exit)) (now (offer .exit)) (now (chain .entry)) (now (numbers .exit)) (now (heldkey .exit)) (now (waiting .exit)) (now (sets .exit)) (now (arrivals .exit))) (now (area .exit)) ≡ subframeCall (state (now (config .entry)) (now (clocks .entry)) (now (words .entry)) (now (stamps .entry)) (now (blocks .entry)) (now (headers .entry)) (now (present .entry)) (now (since .entry)) (now (pubkeys .entry)) (now (offer .entry)) (now (chain .entry)) (now (numbers .entry)) (now (heldkey .entry)) (now (waiting .entry)) (now (sets .entry)) (now (arrivals .entry))) (now (area .entry)) (subframe prn time (now (bytes .entry))) ⌝ }
+    ensures { λ r. ⌜ subframeTold (now (hkroot .exit)) (now (mack .exit)) r (state (now (config .exit)) (now (clocks .exit)) (now (words .entry)) (now (stamps .entry)) (now (blocks .exit)) (now (headers .exit)) (now (present .exit)) (now (since .exit)) (now (pubkeys .exit)) (now (offer .exit)) (now (chain .entry)) (now (numbers .exit)) (now (heldkey .exit)) (now (waiting .exit)) (now (sets .exit)) (now (arrivals .exit))) (now (area .exit)) ≡ wholeSubframe (state (now (config .entry)) (now (clocks .entry)) (now (words .entry)) (now (stamps .entry)) (now (blocks .entry)) (now (headers .entry)) (now (present .entry)) (now (since .entry)) (now (pubkeys .entry)) (now (offer .entry)) (now (chain .entry)) (now (numbers .entry)) (now (heldkey .entry)) (now (waiting .entry)) (now (sets .entry)) (now (arrivals .entry))) (now (area .entry)) (subframe prn time 65535 (now (bytes .entry))) ⌝ }
+{
+    osnma_regions_subframe_marked(
+        config,
+        clocks,
+        words,
+        stamps,
+        blocks,
+        headers,
+        present,
+        since,
+        pubkeys,
+        offer,
+        chain,
+        numbers,
+        heldkey,
+        waiting,
+        sets,
+        arrivals,
+        area,
+        prn,
+        time,
+        65535,
+        bytes,
+        hkroot,
+        mack,
+    )
+}
+
+// The same where fields may be missing (02, P3): `marks` say which came, field 0 in the first of sixteen bits; the last bit is not read, nor is what is
+// lent for a field that did not come.
+#[no_mangle]
+pub extern "C" fn osnma_regions_subframe_marked(
+    config: &mut [u8],
+    clocks: &mut [u32],
+    words: &[u8],
+    stamps: &[u32],
+    blocks: &mut [u8],
+    headers: &mut [u8],
+    present: &mut [u16],
+    since: &mut [u32],
+    pubkeys: &mut [u8],
+    offer: &mut [u8],
+    chain: &[u8],
+    numbers: &mut [u64],
+    heldkey: &mut [u8],
+    waiting: &mut [u8],
+    sets: &mut [u8],
+    arrivals: &mut [u32],
+    area: &mut [u8],
+    prn: u8,
+    time: u32,
+    marks: u16,
+    bytes: &[u8],
+    hkroot: &mut u32,
+    mack: &mut u32,
+) -> u32
+    ensures { λ r. ⌜ subframeTold (now (hkroot .exit)) (now (mack .exit)) r (state (now (config .exit)) (now (clocks .exit)) (now (words .entry)) (now (stamps .entry)) (now (blocks .exit)) (now (headers .exit)) (now (present .exit)) (now (since .exit)) (now (pubkeys .exit)) (now (offer .exit)) (now (chain .entry)) (now (numbers .exit)) (now (heldkey .exit)) (now (waiting .exit)) (now (sets .exit)) (now (arrivals .exit))) (now (area .exit)) ≡ subframeCall (state (now (config .entry)) (now (clocks .entry)) (now (words .entry)) (now (stamps .entry)) (now (blocks .entry)) (now (headers .entry)) (now (present .entry)) (now (since .entry)) (now (pubkeys .entry)) (now (offer .entry)) (now (chain .entry)) (now (numbers .entry)) (now (heldkey .entry)) (now (waiting .entry)) (now (sets .entry)) (now (arrivals .entry))) (now (area .entry)) (subframe prn time marks (now (bytes .entry))) ⌝ }
 {
     let lent = bools::both(area.len() == regions::AREA_LENGTH, bytes.len() == 75);
     let shaped = regions::shaped(
@@ -214,6 +272,7 @@ pub extern "C" fn osnma_regions_subframe(
         area,
         prn,
         time,
+        marks,
         bytes,
     );
     *hkroot = r.hkroot;

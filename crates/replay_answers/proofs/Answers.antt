@@ -1,7 +1,9 @@
 -- A call's contract as the answer to a record of its kind. Assumes nothing.
 use mathlib.Core.Path.{_≡_}
+use mathlib.Core.Bool.{true, false, _||_}
 use mathlib.Core.List.{List}
 use Prim.Native.Nat.{ℕ}
+use lib.Dec.{eqb}
 use lib.ListN.{length}
 use borrow.Author.Tests.{eq-eqb, ne-eqb}
 use Rattle.laws.specs.Refusal.{unless}
@@ -61,15 +63,15 @@ module _ (s : Session) (input : List ℕ) (e : length input ≡ recordLength) wh
   unfolding answered
   word-kind k = rw (eq-eqb (length input) recordLength e, k)
 
-  pub subframe-kind : kindOf input ≡ 3 → subframeAnswered s input ≡ answered s input
+  pub subframe-kind : (kindOf input ≡ 1 → ⊥) → (kindOf input ≡ 2 → ⊥) → (eqb (kindOf input) 3 || eqb (kindOf input) 6) ≡ true → subframeAnswered s input ≡ answered s input
   unfolding answered
-  subframe-kind k = rw (eq-eqb (length input) recordLength e, k)
+  subframe-kind a b k = rw (eq-eqb (length input) recordLength e, ne-eqb (kindOf input) 1 a, ne-eqb (kindOf input) 2 b, k)
 
   pub verdict-kind : kindOf input ≡ 4 → verdictAnswered s input ≡ answered s input
   unfolding answered
   verdict-kind k = rw (eq-eqb (length input) recordLength e, k)
 
-  pub other-kind : (kindOf input ≡ 1 → ⊥) → (kindOf input ≡ 2 → ⊥) → (kindOf input ≡ 3 → ⊥) → (kindOf input ≡ 4 → ⊥) → gave 2 0 0 s ≡ answered s input
+  pub other-kind : (kindOf input ≡ 1 → ⊥) → (kindOf input ≡ 2 → ⊥) → (eqb (kindOf input) 3 || eqb (kindOf input) 6) ≡ false → (kindOf input ≡ 4 → ⊥) → gave 2 0 0 s ≡ answered s input
   unfolding answered
   other-kind a b c d =
-      rw (eq-eqb (length input) recordLength e, ne-eqb (kindOf input) 1 a, ne-eqb (kindOf input) 2 b, ne-eqb (kindOf input) 3 c, ne-eqb (kindOf input) 4 d)
+      rw (eq-eqb (length input) recordLength e, ne-eqb (kindOf input) 1 a, ne-eqb (kindOf input) 2 b, c, ne-eqb (kindOf input) 4 d)

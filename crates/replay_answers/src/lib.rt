@@ -1,15 +1,17 @@
 // The replay program's calls (01, "The replay program"): a record as a call of the core, and the numbers that the program gives itself.
-//   answer                 the answers to a record: a short one, one of kinds 1 to 4, or another
+//   answer                 the answers to a record: a short one, one of kinds 1 to 4 or 6, or another
 //   start, word, subframe, verdict    a record of that kind: its parts are lent to the call
 // The caller keeps, between records, the sixteen regions of the core, the area for tag records (3,240 bytes) and whether a start was accepted (0
 // before the first record). `input` is one record of the input.
 ghost use mathlib.Core.Path.{_≡_};
+ghost use mathlib.Core.Bool.{_||_};
 ghost use mathlib.Core.List.{List};
-ghost use Prim.Native.Nat.{ℕ};
+ghost use Prim.Native.Nat.{ℕ, _+_, _*_};
+ghost use lib.Dec.{eqb};
 ghost use lib.ListN.{length};
 ghost use Rattle.laws.specs.Refusal.{unless};
 ghost use Rattle.rules.specs.State.{state};
-ghost use Rattle.rules.specs.Replay.{startAnswered, wordAnswered, subframeAnswered, verdictAnswered, answered, recordLength};
+ghost use Rattle.rules.specs.Replay.{marksOf, startAnswered, wordAnswered, subframeAnswered, verdictAnswered, answered, recordLength};
 ghost use Rattle.replay_answers.specs.Answers.{session, gave};
 
 // "A last record under 256 bytes is 1 and 0, another kind 2": the first answer is returned, the second and the count of tag records are written.
@@ -88,7 +90,7 @@ pub fn answer(
             input,
         );
     }
-    if kind == 3 {
+    if subframe_kind(kind) {
         return subframe(
             config,
             clocks,
@@ -252,7 +254,32 @@ fn word(
     )
 }
 
-// Kind 3: PRN, GST_SF, 75 bytes; 11 twice before a start. The HKROOT number is returned, the MACK number and the count of tag records are written.
+// A record of kind 3 or 6 is a sub-frame.
+fn subframe_kind(kind: u8) -> bool
+    ensures { λ r. ⌜ r ≡ (eqb kind 3 || eqb kind 6) ⌝ }
+{
+    bools::either(kind == 3, kind == 6)
+}
+
+// The marks of a sub-frame: kind 6 has them in bytes 81 and 82, of kind 3 all are 1.
+fn marks_of(input: &[u8]) -> u16
+    requires { ⌜ length (now input) ≡ recordLength ⌝ }
+    ensures { λ r. ⌜ r ≡ marksOf (now (input .entry)) ⌝ }
+{
+    if input[0] != 6 {
+        return 65535;
+    }
+    joined(input[81], input[82])
+}
+
+// Two bytes as a number, the high one first.
+fn joined(high: u8, low: u8) -> u16
+    ensures { λ r. ⌜ r ≡ high * 256 + low ⌝ }
+{
+    high as u16 * 256 + low as u16
+}
+
+// Kinds 3 and 6: PRN, GST_SF, 75 bytes, and of kind 6 the marks; 11 twice before a start. The HKROOT number is returned, the MACK number and the count of tag records are written.
 fn subframe(
     config: &mut [u8],
     clocks: &mut [u32],
@@ -286,7 +313,8 @@ fn subframe(
     }
     let time = buffer::get_u32(input, 2);
     let mut hkroot: u32 = 0;
-    *count = osnma::osnma_regions_subframe(
+    let marks = marks_of(input);
+    *count = osnma::osnma_regions_subframe_marked(
         config,
         clocks,
         words,
@@ -306,6 +334,7 @@ fn subframe(
         area,
         input[1],
         time,
+        marks,
         &input[6..81],
         &mut hkroot,
         mack,

@@ -1,7 +1,7 @@
 -- A record brings at most 270 tag records (A73), and they fit the area: 256 waiting tags and the 14 fields of a section, each with one record of 12
 -- bytes at most. Assumes nothing.
 use mathlib.Core.Path.{_≡_, refl, sym, subst, _∙_}
-use mathlib.Core.Bool.{true, false, cond, not}
+use mathlib.Core.Bool.{Bool, true, false, cond, not, _||_}
 use mathlib.Core.Logic.{⊎-elim}
 use mathlib.Core.List.{List, []}
 use Prim.Native.Nat.{ℕ, zero, suc, _+_, _*_, _≤_}
@@ -9,7 +9,7 @@ use native.Mathlib.Omega.{arith}
 use lib.Dec.{eqb}
 use lib.ListN.{length, getD, length-append}
 use borrow.Author.Tests.{eqb-true, not-false, not-true}
-use Rattle.laws.specs.Refusal.{firstOf, neb}
+use Rattle.laws.specs.Refusal.{firstOf, unless, neb}
 use Rattle.laws.proofs.Refusal.{by-test, clear}
 use Rattle.laws.proofs.Splice.{either}
 use Rattle.laws.proofs.Tests.{and-left, and-right, neither}
@@ -17,14 +17,16 @@ use Rattle.rules.proofs.Bounds.{count-bound, ns-range}
 use Rattle.rules.proofs.Choices.{by-number}
 use Rattle.rules.proofs.TagRecords.{length-record}
 use Rattle.section_tags.proofs.Forced.{chain-laid}
-use Rattle.rules.specs.Calls.{Subframe, SubframeTold, MackDone, hkrootHalf, noted, chainOf, sectionUnfit, sectionProved, tagsWorked, mackHalf, halvesDone, subframeChecks, subframeCall}
+use Rattle.rules.specs.Calls.{Subframe, SubframeTold, MackDone, fieldsOf, hkrootReceived, noted, chainOf, sectionUnfit, sectionProved, tagsWorked, mackHalf, halvesDone, subframeChecks, subframeCall}
 use Rattle.rules.specs.Chain.{Held}
 use Rattle.rules.specs.Gather.{hkrootOf, mackOf, headerOf, statusOf}
 use Rattle.rules.specs.Kroot.{inForce, chainContents}
+use Rattle.rules.specs.Mack.{Proved}
+use Rattle.rules.specs.Received.{fieldCame, fieldLost, lostTag, fieldJudged, fieldsJudged}
 use Rattle.rules.specs.Replay.{Session, Answered, startAnswered, wordAnswered, subframeAnswered, verdictAnswered, answered, kindOf, recordLength, subframeOf}
 use Rattle.rules.specs.State.{State, shaped, nsOf, waitingCount}
 use Rattle.rules.specs.Navdata.{setOf}
-use Rattle.rules.specs.Tags.{Section, Work, told, kept, tagEntry, entryAt, entryTag, entrySet, isDue, tagMatches, dueJudged, duesJudged, ownTag, ownOutcome, ownJudged, ownsJudged}
+use Rattle.rules.specs.Tags.{Section, Work, told, kept, tagEntry, entryAt, entryTag, entrySet, isDue, tagMatches, dueJudged, duesJudged, ownTag, ownOutcome, ownJudged}
 use Rattle.rules.specs.declared.Chain.{Chain}
 use Rattle.rules.specs.declared.Tag.{Tag}
 use Rattle.replay_answers.specs.Answers.{gave}
@@ -59,11 +61,18 @@ own-one config s c h x j w =
     let o = ownOutcome config (s .nav) c h x j (w .count) in
     by-test (λ (v : Work). length (v .records) ≤ length (w .records) + 12) (eqb o 5) (λ _. omega (arith, told-one o t n w, kept-none (tagEntry t n) (told o t n w))) (λ _. omega (arith, told-one o t n w))
 
-owns-few : (config : List ℕ) (s : State) (c : Chain) (h : Held) (x : Section) (n : ℕ) (w : Work)
-    → length ((ownsJudged config (s .nav) c h x n w) .records) ≤ length (w .records) + n * 12
-unfolding ownsJudged
-owns-few config s c h x zero w = omega arith
-owns-few config s c h x (suc n) w = omega (arith, owns-few config s c h x n w, own-one config s c h x n (ownsJudged config (s .nav) c h x n w))
+-- a lost field has one too
+field-one : (config : List ℕ) (s : State) (c : Chain) (h : Held) (x : Section) (marks j : ℕ) (w : Work)
+    → length ((fieldJudged config (s .nav) c h x marks j w) .records) ≤ length (w .records) + 12
+unfolding fieldJudged
+field-one config s c h x marks j w =
+    by-test (λ (v : Work). length (v .records) ≤ length (w .records) + 12) (fieldLost config c (x .time) marks j) (λ _. omega (arith, told-one 8 (lostTag c x marks j) [] w)) (λ _. own-one config s c h x j w)
+
+judged-few : (config : List ℕ) (s : State) (c : Chain) (h : Held) (x : Section) (marks n : ℕ) (w : Work)
+    → length ((fieldsJudged config (s .nav) c h x marks n w) .records) ≤ length (w .records) + n * 12
+unfolding fieldsJudged
+judged-few config s c h x marks zero w = omega arith
+judged-few config s c h x marks (suc n) w = omega (arith, judged-few config s c h x marks n w, field-one config s c h x marks n (fieldsJudged config (s .nav) c h x marks n w))
 
 -- ---- at most 256 wait, and a chain in force has at most 14 fields
 
@@ -73,38 +82,39 @@ fields-few s f =
     let r = ns-range (s .config) in
     chain-laid (nsOf (s .config)) (s .config) (chainContents (s .chain)) (r .0) (r .1) (not-true _ (and-right (eqb (getD (s .chain) 0 0) 1) _ f)) .few
 
-worked-few : (s : State) (h : Held) (x : Section) → inForce (s .config) (s .chain) ≡ true → length ((tagsWorked s h x) .records) ≤ 3240
+worked-few : (s : State) (h : Held) (x : Section) (marks : ℕ) → inForce (s .config) (s .chain) ≡ true → length ((tagsWorked s h x marks) .records) ≤ 3240
 unfolding tagsWorked
-worked-few s h x f =
+worked-few s h x marks f =
     let c = chainOf s in
     let n = waitingCount (s .tesla .numbers) in
     let w : Work = record { kept = []; count = 0; sets = s .auth .sets; arrivals = s .auth .arrivals; records = [] } in
-    omega (arith, fields-few s f, count-bound (s .tesla .numbers), dues-few c h (s .tesla .waiting) n w, owns-few (s .config) s c h x (c .nmack * c .fields) (duesJudged c h (s .tesla .waiting) n w))
+    omega (arith, fields-few s f, count-bound (s .tesla .numbers), dues-few c h (s .tesla .waiting) n w, judged-few (s .config) s c h x marks (c .nmack * c .fields) (duesJudged c h (s .tesla .waiting) n w))
 
 -- ---- the halves, the call, the record
 
 -- a section is proved only under a chain in force
-unfit-eleven : (s : State) (prn t header : ℕ) (mack : List ℕ) → sectionUnfit s t header ≡ true → (sectionProved s prn t header mack) .code ≡ 11
+refused-by : (a : Bool) (x : Proved) (h : Held) → (unless (cond a 17 11) x (record { code = cond a 17 11; held = h })) .code ≡ 0 → ⊥
+refused-by true x h e = absurd (omega (arith, e))
+refused-by false x h e = absurd (omega (arith, e))
+
+unfit-refused : (s : State) (prn t marks header : ℕ) (mack : List ℕ) → sectionUnfit s t header ≡ true → (sectionProved s prn t marks header mack) .code ≡ 0 → ⊥
 unfolding sectionProved
-unfit-eleven s prn t header mack e = rw e
+unfit-refused s prn t marks header mack e z = refused-by (not (fieldCame marks 0)) _ _ (rw e at z)
 
 fit-forced : (s : State) (t header : ℕ) → sectionUnfit s t header ≡ false → inForce (s .config) (s .chain) ≡ true
 unfolding sectionUnfit
 fit-forced s t header e = not-false _ (neither (not (inForce (s .config) (s .chain))) _ e .0)
 
-proved-forced : (s : State) (prn t header : ℕ) (mack : List ℕ) → (sectionProved s prn t header mack) .code ≡ 0 → inForce (s .config) (s .chain) ≡ true
-proved-forced s prn t header mack e =
-    ⊎-elim
-    (λ u. let z : _≡_ {A = ℕ} 11 0 = sym (unfit-eleven s prn t header mack u) ∙ e in absurd (omega arith))
-    (λ u. fit-forced s t header u)
-    (either (sectionUnfit s t header))
+proved-forced : (s : State) (prn t marks header : ℕ) (mack : List ℕ) → (sectionProved s prn t marks header mack) .code ≡ 0 → inForce (s .config) (s .chain) ≡ true
+proved-forced s prn t marks header mack e =
+    ⊎-elim (λ u. absurd (unfit-refused s prn t marks header mack u e)) (λ u. fit-forced s t header u) (either (sectionUnfit s t header))
 
-mack-few : (s : State) (prn t header : ℕ) (mack : List ℕ) → length ((mackHalf s prn t header mack) .records) ≤ 3240
+mack-few : (s : State) (prn t marks header : ℕ) (mack : List ℕ) → length ((mackHalf s prn t marks header mack) .records) ≤ 3240
 unfolding mackHalf
-mack-few s prn t header mack =
-    let p = sectionProved s prn t header mack in
+mack-few s prn t marks header mack =
+    let p = sectionProved s prn t marks header mack in
     by-number (λ (m : MackDone). length (m .records) ≤ 3240) (p .code)
-    (λ e. worked-few s (p .held) (record { prn = prn; time = t; status = statusOf header; mack = mack }) (proved-forced s prn t header mack e))
+    (λ e. worked-few s (p .held) (record { prn = prn; time = t; status = statusOf header; mack = mack }) marks (proved-forced s prn t marks header mack e))
     (λ _. omega arith)
 
 -- what is shown of a count: against the area that was lent
@@ -117,9 +127,9 @@ no-records area = (omega arith, omega arith)
 halves-few : (s : State) (area : List ℕ) (x : Subframe) → length area ≡ 3240 → Few area ((halvesDone s area x) .count)
 unfolding halvesDone
 halves-few s area x e =
-    let hk = hkrootOf (x .bytes) 15 in
-    let a = hkrootHalf s (x .time) hk in
-    let f = mack-few (a .state) (x .prn) (x .time) (headerOf hk) (mackOf (x .bytes) 15) in
+    let hk = hkrootOf (fieldsOf x) 15 in
+    let a = hkrootReceived s (x .time) (x .marks) hk in
+    let f = mack-few (a .state) (x .prn) (x .time) (x .marks) (headerOf hk) (mackOf (fieldsOf x) 15) in
     by-test (λ (d : SubframeTold). Few area (d .count)) (a .stops) (λ _. no-records area) (λ _. (omega arith, omega arith))
 
 area-lent : (s : State) (area : List ℕ) (x : Subframe) → firstOf (subframeChecks s area x) ≡ 0 → length area ≡ 3240
@@ -144,7 +154,7 @@ records-few s input =
     by-test P (neb (length input) recordLength) (λ _. none)
     (λ _. by-test P (eqb k 1) (λ _. none)
     (λ _. by-test P (eqb k 2) (λ _. by-test P (eqb (s .started) 0) (λ _. none) (λ _. none))
-    (λ _. by-test P (eqb k 3) (λ _. by-test P (eqb (s .started) 0) (λ _. none) (λ _. subframe-few (s .core) (s .area) (subframeOf input)))
+    (λ _. by-test P (eqb k 3 || eqb k 6) (λ _. by-test P (eqb (s .started) 0) (λ _. none) (λ _. subframe-few (s .core) (s .area) (subframeOf input)))
     (λ _. by-test P (eqb k 4) (λ _. by-test P (eqb (s .started) 0) (λ _. none) (λ _. none)) (λ _. none)))))
 
 -- of numbers that are a record's answers

@@ -17,8 +17,9 @@ use Rattle.laws.proofs.Tests.{true-false, neither}
 use Rattle.laws.specs.Refusal.{neb}
 use Rattle.rules.specs.Bits.{anyOf}
 use Rattle.rules.specs.Chain.{Held}
+use Rattle.rules.specs.Received.{fieldLost, lostTag, fieldJudged, fieldsJudged}
 use Rattle.rules.specs.State.{Nav, markOf, prnValid}
-use Rattle.rules.specs.Tags.{Work, Section, told, marksSet, kept, recordIssue, tagEntry, tagMatches, ownTag, notAllowed, secondHalf, flexible, macseqFits, ownOutcome, ownJudged, ownsJudged}
+use Rattle.rules.specs.Tags.{Work, Section, told, marksSet, kept, recordIssue, tagEntry, tagMatches, ownTag, notAllowed, secondHalf, flexible, macseqFits, ownOutcome, ownJudged}
 use Rattle.rules.specs.Times.{delayOf}
 use Rattle.rules.specs.Navdata.{usable, setOf}
 use Rattle.rules.specs.declared.Chain.{Chain}
@@ -56,7 +57,11 @@ allowed-prn config j t p =
     prn-known (not (anyOf (eqb (t .adkd) 0 ∷ eqb (t .adkd) 11 ∷ eqb (t .adkd) 12 ∷ [])))
     (not (flexible config (t .time) j) && neb (t .adkd) (markOf config (secondHalf (t .time)) j)) (prnValid (t .prn)) p
 
--- the record of a refused tag does not read the set
+-- the record of a lost field, or of a refused tag, does not read the set
+pub lost-any : (t : Tag) (s : List ℕ) (w : Work) → settled 8 t s w ≡ told 8 t [] w
+unfolding settled told marksSet recordIssue
+lost-any t s w = refl
+
 refused-any : (t : Tag) (s u : List ℕ) (w : Work) → settled 4 t s w ≡ settled 4 t u w
 unfolding settled told marksSet recordIssue
 refused-any t s u w = refl
@@ -89,6 +94,17 @@ pub one-judged : (config : List ℕ) (n : Nav) (c : Chain) (h : Held) (x : Secti
     → settled o t set w ≡ ownJudged config n c h x j w
 one-judged config n c h x j fits w p o set t e f s v q =
     rw (q, e) (field-judged config n c h x j fits w p set f s (λ u. v (rw e u) ∙ ap (λ (i : Tag). i .prn) e))
+
+-- a field that is lost, by its tag's record, and one that is not
+module _ (config : List ℕ) (n : Nav) (c : Chain) (h : Held) (x : Section) (marks j : ℕ) (w : Work) where
+  pub lost-judged : (o : ℕ) (t : Tag) (s : List ℕ) → o ≡ 8 → t ≡ lostTag c x marks j → fieldLost config c (x .time) marks j ≡ true
+      → settled o t s w ≡ fieldJudged config n c h x marks j w
+  unfolding fieldJudged
+  lost-judged o t s e q l = rw (e, q, l) (lost-any (lostTag c x marks j) s w)
+
+  pub own-judged : fieldLost config c (x .time) marks j ≡ false → fieldJudged config n c h x marks j w ≡ ownJudged config n c h x j w
+  unfolding fieldJudged
+  own-judged l = rw l
 
 -- ---- a tag's work adds to what was there
 
@@ -126,9 +142,9 @@ module _ (o : ℕ) (t : Tag) (s : List ℕ) (w : Work) where
   count-by false = refl
 
   -- how much it is
-  kept-long-by : (b : Bool) → length s ≡ 69 → length ((by-wait b o t s before) .kept) + w .count * 84 ≡ (by-wait b o t s before) .count * 84
+  kept-long-by : (b : Bool) → (b ≡ true → length s ≡ 69) → length ((by-wait b o t s before) .kept) + w .count * 84 ≡ (by-wait b o t s before) .count * 84
   unfolding kept told
-  kept-long-by true q = omega (arith, length-tag-entry t s q)
+  kept-long-by true q = omega (arith, length-tag-entry t s (q refl))
   kept-long-by false q = omega arith
 
   records-long-by : (b : Bool) → length ((by-wait b o t s before) .records) ≡ 12
@@ -146,13 +162,13 @@ module _ (o : ℕ) (t : Tag) (s : List ℕ) (w : Work) where
   count-high-by true q r = omega (arith, r refl)
   count-high-by false q r = omega arith
 
--- the same of a field
+-- the same of a field that is not lost
 module _ (config : List ℕ) (n : Nav) (c : Chain) (h : Held) (x : Section) (j : ℕ) (w : Work) where
-  abbrev pub one : Work
-  one = ownJudged config n c h x j (start (w .count) (w .sets) (w .arrivals))
+  abbrev own-one : Work
+  own-one = ownJudged config n c h x j (start (w .count) (w .sets) (w .arrivals))
 
-  abbrev all : Work
-  all = ownJudged config n c h x j w
+  abbrev own-all : Work
+  own-all = ownJudged config n c h x j w
 
   abbrev o : ℕ
   o = ownOutcome config n c h x j (w .count)
@@ -163,90 +179,180 @@ module _ (config : List ℕ) (n : Nav) (c : Chain) (h : Held) (x : Section) (j :
   abbrev s : List ℕ
   s = setOf (n .words) ((ownTag c x j) .prn)
 
-  pub field-kept : all .kept ≡ w .kept ++ one .kept
+  own-kept : own-all .kept ≡ w .kept ++ own-one .kept
   unfolding ownJudged
-  field-kept = kept-by o t s w (eqb o 5)
+  own-kept = kept-by o t s w (eqb o 5)
 
-  pub field-records : all .records ≡ w .records ++ one .records
+  own-records : own-all .records ≡ w .records ++ own-one .records
   unfolding ownJudged
-  field-records = records-by o t s w (eqb o 5)
+  own-records = records-by o t s w (eqb o 5)
 
-  pub field-sets : all .sets ≡ one .sets
+  own-sets : own-all .sets ≡ own-one .sets
   unfolding ownJudged
-  field-sets = sets-by o t s w (eqb o 5)
+  own-sets = sets-by o t s w (eqb o 5)
 
-  pub field-arrivals : all .arrivals ≡ one .arrivals
+  own-arrivals : own-all .arrivals ≡ own-one .arrivals
   unfolding ownJudged
-  field-arrivals = arrivals-by o t s w (eqb o 5)
+  own-arrivals = arrivals-by o t s w (eqb o 5)
 
-  pub field-count : all .count ≡ one .count
+  own-count : own-all .count ≡ own-one .count
   unfolding ownJudged
-  field-count = count-by o t s w (eqb o 5)
+  own-count = count-by o t s w (eqb o 5)
 
-  field-kept-long : length (one .kept) + w .count * 84 ≡ one .count * 84
+  own-kept-long : length (own-one .kept) + w .count * 84 ≡ own-one .count * 84
   unfolding ownJudged
-  field-kept-long = kept-long-by o t s w (eqb o 5) (length-set-of (n .words) ((ownTag c x j) .prn))
+  own-kept-long = kept-long-by o t s w (eqb o 5) (λ _. length-set-of (n .words) ((ownTag c x j) .prn))
 
-  field-records-long : length (one .records) ≡ 12
+  own-records-long : length (own-one .records) ≡ 12
   unfolding ownJudged
-  field-records-long = records-long-by o t s w (eqb o 5)
+  own-records-long = records-long-by o t s w (eqb o 5)
 
-  field-count-low : w .count ≤ one .count
+  own-count-low : w .count ≤ own-one .count
   unfolding ownJudged
-  field-count-low = count-low-by o t s w (eqb o 5)
+  own-count-low = count-low-by o t s w (eqb o 5)
 
-  field-free : o ≡ 5 → w .count < 256
+  own-free : o ≡ 5 → w .count < 256
   unfolding ownOutcome
-  field-free e =
+  own-free e =
       ltb-true (w .count) 256
       (waits-free (notAllowed config j t) (flexible config (t .time) j && not (macseqFits config c h x)) (not (usable n (t .prn) (t .time)))
       (eqb (delayOf (t .adkd)) 0 && tagMatches c h (eqb j 0) t s) (eqb (delayOf (t .adkd)) 0) (ltb (w .count) 256) e)
 
-  field-count-high : w .count ≤ 256 → one .count ≤ 256
+  own-count-high : w .count ≤ 256 → own-one .count ≤ 256
   unfolding ownJudged
-  field-count-high q = count-high-by o t s w (eqb o 5) q (λ e. field-free (eqb-true o 5 e))
+  own-count-high q = count-high-by o t s w (eqb o 5) q (λ e. own-free (eqb-true o 5 e))
+
+-- the same of any field: a lost one adds its record alone
+module _ (config : List ℕ) (n : Nav) (c : Chain) (h : Held) (x : Section) (marks j : ℕ) (w : Work) where
+  abbrev pub one : Work
+  one = fieldJudged config n c h x marks j (start (w .count) (w .sets) (w .arrivals))
+
+  abbrev all : Work
+  all = fieldJudged config n c h x marks j w
+
+  -- field j by whether it is lost
+  abbrev by-loss : Bool → Work → Work
+  by-loss b v = cond b (told 8 (lostTag c x marks j) [] v) (ownJudged config n c h x j v)
+
+  abbrev alone : Work
+  alone = start (w .count) (w .sets) (w .arrivals)
+
+  abbrev lost : Bool
+  lost = fieldLost config c (x .time) marks j
+
+  loss-kept : (b : Bool) → (by-loss b w) .kept ≡ w .kept ++ (by-loss b alone) .kept
+  loss-kept true = kept-by 8 (lostTag c x marks j) [] w false
+  loss-kept false = own-kept config n c h x j w
+
+  loss-records : (b : Bool) → (by-loss b w) .records ≡ w .records ++ (by-loss b alone) .records
+  loss-records true = records-by 8 (lostTag c x marks j) [] w false
+  loss-records false = own-records config n c h x j w
+
+  loss-sets : (b : Bool) → (by-loss b w) .sets ≡ (by-loss b alone) .sets
+  loss-sets true = sets-by 8 (lostTag c x marks j) [] w false
+  loss-sets false = own-sets config n c h x j w
+
+  loss-arrivals : (b : Bool) → (by-loss b w) .arrivals ≡ (by-loss b alone) .arrivals
+  loss-arrivals true = arrivals-by 8 (lostTag c x marks j) [] w false
+  loss-arrivals false = own-arrivals config n c h x j w
+
+  loss-count : (b : Bool) → (by-loss b w) .count ≡ (by-loss b alone) .count
+  loss-count true = count-by 8 (lostTag c x marks j) [] w false
+  loss-count false = own-count config n c h x j w
+
+  loss-kept-long : (b : Bool) → length ((by-loss b alone) .kept) + w .count * 84 ≡ (by-loss b alone) .count * 84
+  loss-kept-long true = kept-long-by 8 (lostTag c x marks j) [] w false (λ e. true-false (sym e))
+  loss-kept-long false = own-kept-long config n c h x j w
+
+  loss-records-long : (b : Bool) → length ((by-loss b alone) .records) ≡ 12
+  loss-records-long true = records-long-by 8 (lostTag c x marks j) [] w false
+  loss-records-long false = own-records-long config n c h x j w
+
+  loss-count-low : (b : Bool) → w .count ≤ (by-loss b alone) .count
+  loss-count-low true = count-low-by 8 (lostTag c x marks j) [] w false
+  loss-count-low false = own-count-low config n c h x j w
+
+  loss-count-high : (b : Bool) → w .count ≤ 256 → (by-loss b alone) .count ≤ 256
+  loss-count-high true q = count-high-by 8 (lostTag c x marks j) [] w false q (λ e. true-false (sym e))
+  loss-count-high false q = own-count-high config n c h x j w q
+
+  pub field-kept : all .kept ≡ w .kept ++ one .kept
+  unfolding fieldJudged
+  field-kept = loss-kept lost
+
+  pub field-records : all .records ≡ w .records ++ one .records
+  unfolding fieldJudged
+  field-records = loss-records lost
+
+  pub field-sets : all .sets ≡ one .sets
+  unfolding fieldJudged
+  field-sets = loss-sets lost
+
+  pub field-arrivals : all .arrivals ≡ one .arrivals
+  unfolding fieldJudged
+  field-arrivals = loss-arrivals lost
+
+  pub field-count : all .count ≡ one .count
+  unfolding fieldJudged
+  field-count = loss-count lost
+
+  field-kept-long : length (one .kept) + w .count * 84 ≡ one .count * 84
+  unfolding fieldJudged
+  field-kept-long = loss-kept-long lost
+
+  field-records-long : length (one .records) ≡ 12
+  unfolding fieldJudged
+  field-records-long = loss-records-long lost
+
+  field-count-low : w .count ≤ one .count
+  unfolding fieldJudged
+  field-count-low = loss-count-low lost
+
+  field-count-high : w .count ≤ 256 → one .count ≤ 256
+  unfolding fieldJudged
+  field-count-high q = loss-count-high lost q
 
 -- ---- and so do the regions
 module _ (config : List ℕ) (n : Nav) (c : Chain) (h : Held) (x : Section) (waiting area waiting₁ sets₁ times₁ area₁ waiting₂ sets₂ times₂ area₂ : List ℕ)
-    (count at k r r₂ : ℕ) (w : Work) (small : at + k < 270) (long-waiting : length waiting ≡ 21504) (long-area : length area ≡ 3240)
+    (marks count at k r r₂ : ℕ) (w : Work) (small : at + k < 270) (long-waiting : length waiting ≡ 21504) (long-area : length area ≡ 3240)
     (l : Leaves w count at waiting area waiting₁ sets₁ times₁ area₁ r) (g : Grows w count k r)
-    (m : Leaves (ownJudged config n c h x k (start r sets₁ times₁)) r (at + k) waiting₁ area₁ waiting₂ sets₂ times₂ area₂ r₂) where
-  same-work : ownJudged config n c h x k (start r sets₁ times₁) ≡ one config n c h x k w
+    (m : Leaves (fieldJudged config n c h x marks k (start r sets₁ times₁)) r (at + k) waiting₁ area₁ waiting₂ sets₂ times₂ area₂ r₂) where
+  same-work : fieldJudged config n c h x marks k (start r sets₁ times₁) ≡ one config n c h x marks k w
   same-work = rw (l .sets, l .arrivals, l .count)
 
-  grows : Grows (ownJudged config n c h x k w) count (k + 1) r₂
+  grows : Grows (fieldJudged config n c h x marks k w) count (k + 1) r₂
   grows =
       let e = m .count ∙ ap (λ (v : Work). v .count) same-work in
       let q = l .count in
-      let high = field-count-high config n c h x k w (omega (arith, g .places)) in
-      let low = field-count-low config n c h x k w in
-      let a = field-kept-long config n c h x k w in
-      let b = field-records-long config n c h x k w in
+      let high = field-count-high config n c h x marks k w (omega (arith, g .places)) in
+      let low = field-count-low config n c h x marks k w in
+      let a = field-kept-long config n c h x marks k w in
+      let b = field-records-long config n c h x marks k w in
       record {
         places = omega arith;
         more = omega (arith, g .more);
-        kept-long = rw (field-kept config n c h x k w, length-append) (omega (arith, g .more, g .kept-long));
-        records-long = rw (field-records config n c h x k w, length-append) (omega (arith, g .records-long));
+        kept-long = rw (field-kept config n c h x marks k w, length-append) (omega (arith, g .more, g .kept-long));
+        records-long = rw (field-records config n c h x marks k w, length-append) (omega (arith, g .records-long));
       }
 
-  leaves : Leaves (ownJudged config n c h x k w) count at waiting area waiting₂ sets₂ times₂ area₂ r₂
+  leaves : Leaves (fieldJudged config n c h x marks k w) count at waiting area waiting₂ sets₂ times₂ area₂ r₂
   leaves =
       let q = l .count in
-      let high = field-count-high config n c h x k w (omega (arith, g .places)) in
-      let a = field-kept-long config n c h x k w in
-      let b = field-records-long config n c h x k w in
+      let high = field-count-high config n c h x marks k w (omega (arith, g .places)) in
+      let a = field-kept-long config n c h x marks k w in
+      let b = field-records-long config n c h x marks k w in
       record {
         entries =
             m .entries
-            ∙ rw (same-work, l .entries, field-kept config n c h x k w)
-            (splice-after waiting (count * 84) (r * 84) (w .kept) ((one config n c h x k w) .kept) (omega (arith, g .more, g .kept-long)) (omega arith));
-        sets = m .sets ∙ rw (same-work) (sym (field-sets config n c h x k w));
-        arrivals = m .arrivals ∙ rw (same-work) (sym (field-arrivals config n c h x k w));
+            ∙ rw (same-work, l .entries, field-kept config n c h x marks k w)
+            (splice-after waiting (count * 84) (r * 84) (w .kept) ((one config n c h x marks k w) .kept) (omega (arith, g .more, g .kept-long)) (omega arith));
+        sets = m .sets ∙ rw (same-work) (sym (field-sets config n c h x marks k w));
+        arrivals = m .arrivals ∙ rw (same-work) (sym (field-arrivals config n c h x marks k w));
         records =
             m .records
-            ∙ rw (same-work, l .records, field-records config n c h x k w)
-            (splice-after area (at * 12) ((at + k) * 12) (w .records) ((one config n c h x k w) .records) (omega (arith, g .records-long)) (omega arith));
-        count = m .count ∙ rw (same-work) (sym (field-count config n c h x k w));
+            ∙ rw (same-work, l .records, field-records config n c h x marks k w)
+            (splice-after area (at * 12) ((at + k) * 12) (w .records) ((one config n c h x marks k w) .records) (omega (arith, g .records-long)) (omega arith));
+        count = m .count ∙ rw (same-work) (sym (field-count config n c h x marks k w));
       }
 
 -- ---- what one tag leaves
@@ -283,24 +389,24 @@ waits-leaves o count at t s waiting sets arrivals area waiting′ sets′ arriva
 
 -- ---- no field yet, and one more of the first fields
 
-pub none-judged : (config : List ℕ) (n : Nav) (c : Chain) (h : Held) (x : Section) (waiting sets arrivals area : List ℕ) (count at : ℕ) → count ≤ 256
-    → Leaves (ownsJudged config n c h x 0 (start count sets arrivals)) count at waiting area waiting sets arrivals area count
-    × Grows (ownsJudged config n c h x 0 (start count sets arrivals)) count 0 count
-unfolding ownsJudged
-none-judged config n c h x waiting sets arrivals area count at p = (
+pub none-judged : (config : List ℕ) (n : Nav) (c : Chain) (h : Held) (x : Section) (waiting sets arrivals area : List ℕ) (marks count at : ℕ) → count ≤ 256
+    → Leaves (fieldsJudged config n c h x marks 0 (start count sets arrivals)) count at waiting area waiting sets arrivals area count
+    × Grows (fieldsJudged config n c h x marks 0 (start count sets arrivals)) count 0 count
+unfolding fieldsJudged
+none-judged config n c h x waiting sets arrivals area marks count at p = (
   record { entries = sym (splice-nil waiting (count * 84)); sets = refl; arrivals = refl; records = sym (splice-nil area (at * 12)); count = refl },
   record { places = p; more = omega arith; kept-long = rw (sub-self count); records-long = refl },
 )
 
 pub next-judged : (config : List ℕ) (n : Nav) (c : Chain) (h : Held) (x : Section) (waiting area waiting₁ sets₁ times₁ area₁ waiting₂ sets₂ times₂ area₂ : List ℕ)
-    (count at k r r₂ : ℕ) (w : Work) → at + k < 270 → length waiting ≡ 21504 → length area ≡ 3240
-    → Leaves (ownsJudged config n c h x k w) count at waiting area waiting₁ sets₁ times₁ area₁ r → Grows (ownsJudged config n c h x k w) count k r
-    → Leaves (ownJudged config n c h x k (start r sets₁ times₁)) r (at + k) waiting₁ area₁ waiting₂ sets₂ times₂ area₂ r₂
-    → Leaves (ownsJudged config n c h x (k + 1) w) count at waiting area waiting₂ sets₂ times₂ area₂ r₂
-    × Grows (ownsJudged config n c h x (k + 1) w) count (k + 1) r₂
-unfolding ownsJudged
-next-judged config n c h x waiting area waiting₁ sets₁ times₁ area₁ waiting₂ sets₂ times₂ area₂ count at k r r₂ w small lw la l g m =
+    (marks count at k r r₂ : ℕ) (w : Work) → at + k < 270 → length waiting ≡ 21504 → length area ≡ 3240
+    → Leaves (fieldsJudged config n c h x marks k w) count at waiting area waiting₁ sets₁ times₁ area₁ r → Grows (fieldsJudged config n c h x marks k w) count k r
+    → Leaves (fieldJudged config n c h x marks k (start r sets₁ times₁)) r (at + k) waiting₁ area₁ waiting₂ sets₂ times₂ area₂ r₂
+    → Leaves (fieldsJudged config n c h x marks (k + 1) w) count at waiting area waiting₂ sets₂ times₂ area₂ r₂
+    × Grows (fieldsJudged config n c h x marks (k + 1) w) count (k + 1) r₂
+unfolding fieldsJudged
+next-judged config n c h x waiting area waiting₁ sets₁ times₁ area₁ waiting₂ sets₂ times₂ area₂ marks count at k r r₂ w small lw la l g m =
     rw (add-one k) (
-      leaves config n c h x waiting area waiting₁ sets₁ times₁ area₁ waiting₂ sets₂ times₂ area₂ count at k r r₂ (ownsJudged config n c h x k w) small lw la l g m,
-      rw (← (add-one k)) (grows config n c h x waiting area waiting₁ sets₁ times₁ area₁ waiting₂ sets₂ times₂ area₂ count at k r r₂ (ownsJudged config n c h x k w) small lw la l g m),
+      leaves config n c h x waiting area waiting₁ sets₁ times₁ area₁ waiting₂ sets₂ times₂ area₂ marks count at k r r₂ (fieldsJudged config n c h x marks k w) small lw la l g m,
+      rw (← (add-one k)) (grows config n c h x waiting area waiting₁ sets₁ times₁ area₁ waiting₂ sets₂ times₂ area₂ marks count at k r r₂ (fieldsJudged config n c h x marks k w) small lw la l g m),
     )

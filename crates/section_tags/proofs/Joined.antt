@@ -7,27 +7,28 @@ use Prim.Native.Nat.{ℕ, zero, suc, _+_, _-_, _*_, _≤_}
 use native.Mathlib.Omega.{arith}
 use lib.ListN.{length, length-append}
 use Rattle.rules.specs.Chain.{Held}
+use Rattle.rules.specs.Received.{fieldsJudged}
 use Rattle.rules.specs.State.{Nav}
-use Rattle.rules.specs.Tags.{Work, Section, ownsJudged}
+use Rattle.rules.specs.Tags.{Work, Section}
 use Rattle.rules.specs.declared.Chain.{Chain}
 use Rattle.tag_records.specs.Told.{start, Leaves, Counts}
 use Rattle.laws.proofs.Splice.{splice-after}
 use Rattle.section_tags.specs.Own.{Behind, Grows}
 use Rattle.section_tags.proofs.Fields.{one, field-kept, field-records, field-sets, field-arrivals, field-count}
 
-module _ (config : List ℕ) (n : Nav) (c : Chain) (h : Held) (x : Section) (w : Work) where
+module _ (config : List ℕ) (n : Nav) (c : Chain) (h : Held) (x : Section) (marks : ℕ) (w : Work) where
   abbrev alone : ℕ → Work
-  alone k = ownsJudged config n c h x k (start (w .count) (w .sets) (w .arrivals))
+  alone k = fieldsJudged config n c h x marks k (start (w .count) (w .sets) (w .arrivals))
 
   abbrev after : ℕ → Work
-  after k = ownsJudged config n c h x k w
+  after k = fieldsJudged config n c h x marks k w
 
-  same-one : (k : ℕ) → Behind w (alone k) (after k) → one config n c h x k (after k) ≡ one config n c h x k (alone k)
+  same-one : (k : ℕ) → Behind w (alone k) (after k) → one config n c h x marks k (after k) ≡ one config n c h x marks k (alone k)
   same-one k b = rw (b .sets-are, b .arrivals-are, b .count-is)
 
   -- fields only add to what is there
   pub behind : (k : ℕ) → Behind w (alone k) (after k)
-  unfolding ownsJudged
+  unfolding fieldsJudged
   behind zero =
       record { kept-is = sym (append-nil (w .kept)); records-are = sym (append-nil (w .records)); sets-are = refl; arrivals-are = refl; count-is = refl }
   behind (suc k) =
@@ -37,28 +38,28 @@ module _ (config : List ℕ) (n : Nav) (c : Chain) (h : Held) (x : Section) (w :
       let v = alone k in
       record {
         kept-is =
-            field-kept config n c h x k u
-            ∙ rw (e, b .kept-is, field-kept config n c h x k v) (append-assoc (w .kept) (v .kept) ((one config n c h x k v) .kept));
+            field-kept config n c h x marks k u
+            ∙ rw (e, b .kept-is, field-kept config n c h x marks k v) (append-assoc (w .kept) (v .kept) ((one config n c h x marks k v) .kept));
         records-are =
-            field-records config n c h x k u
-            ∙ rw (e, b .records-are, field-records config n c h x k v) (append-assoc (w .records) (v .records) ((one config n c h x k v) .records));
-        sets-are = field-sets config n c h x k u ∙ rw e (sym (field-sets config n c h x k v));
-        arrivals-are = field-arrivals config n c h x k u ∙ rw e (sym (field-arrivals config n c h x k v));
-        count-is = field-count config n c h x k u ∙ rw e (sym (field-count config n c h x k v));
+            field-records config n c h x marks k u
+            ∙ rw (e, b .records-are, field-records config n c h x marks k v) (append-assoc (w .records) (v .records) ((one config n c h x marks k v) .records));
+        sets-are = field-sets config n c h x marks k u ∙ rw e (sym (field-sets config n c h x marks k v));
+        arrivals-are = field-arrivals config n c h x marks k u ∙ rw e (sym (field-arrivals config n c h x marks k v));
+        count-is = field-count config n c h x marks k u ∙ rw e (sym (field-count config n c h x marks k v));
       }
 
 -- the due tags' work w, of m waiting tags, then that of the first k fields
 pub both-leave : (config : List ℕ) (n : Nav) (c : Chain) (h : Held) (x : Section) (waiting area waiting₁ sets₁ times₁ area₁ waiting₂ sets₂ times₂ area₂ : List ℕ)
-    (m k r r₂ : ℕ) (w : Work) → length waiting ≡ 21504 → length area ≡ 3240 → m - r + k ≤ 270
+    (marks m k r r₂ : ℕ) (w : Work) → length waiting ≡ 21504 → length area ≡ 3240 → m - r + k ≤ 270
     → Leaves w 0 0 waiting area waiting₁ sets₁ times₁ area₁ r → Counts w m r
-    → Leaves (ownsJudged config n c h x k (start r sets₁ times₁)) r (m - r) waiting₁ area₁ waiting₂ sets₂ times₂ area₂ r₂
-    → Grows (ownsJudged config n c h x k (start r sets₁ times₁)) r k r₂
-    → Leaves (ownsJudged config n c h x k w) 0 0 waiting area waiting₂ sets₂ times₂ area₂ r₂
-    × ((length ((ownsJudged config n c h x k w) .kept) ≡ r₂ * 84) × (length ((ownsJudged config n c h x k w) .records) ≡ (m - r + k) * 12))
-both-leave config n c h x waiting area waiting₁ sets₁ times₁ area₁ waiting₂ sets₂ times₂ area₂ m k r r₂ w lw la few l d o g =
-    let v = ownsJudged config n c h x k (start r sets₁ times₁) in
-    let e : v ≡ ownsJudged config n c h x k (start (w .count) (w .sets) (w .arrivals)) = rw (l .sets, l .arrivals, l .count) in
-    let b : Behind w v (ownsJudged config n c h x k w) = rw e (behind config n c h x w k) in
+    → Leaves (fieldsJudged config n c h x marks k (start r sets₁ times₁)) r (m - r) waiting₁ area₁ waiting₂ sets₂ times₂ area₂ r₂
+    → Grows (fieldsJudged config n c h x marks k (start r sets₁ times₁)) r k r₂
+    → Leaves (fieldsJudged config n c h x marks k w) 0 0 waiting area waiting₂ sets₂ times₂ area₂ r₂
+    × ((length ((fieldsJudged config n c h x marks k w) .kept) ≡ r₂ * 84) × (length ((fieldsJudged config n c h x marks k w) .records) ≡ (m - r + k) * 12))
+both-leave config n c h x waiting area waiting₁ sets₁ times₁ area₁ waiting₂ sets₂ times₂ area₂ marks m k r r₂ w lw la few l d o g =
+    let v = fieldsJudged config n c h x marks k (start r sets₁ times₁) in
+    let e : v ≡ fieldsJudged config n c h x marks k (start (w .count) (w .sets) (w .arrivals)) = rw (l .sets, l .arrivals, l .count) in
+    let b : Behind w v (fieldsJudged config n c h x marks k w) = rw e (behind config n c h x marks w k) in
     let gk = g .kept-long in
     let gr = g .records-long in
     let gm = g .more in

@@ -62,7 +62,7 @@ pub fn tell(
 
 // ---- the record
 
-// The IODnav of a record: that of the set, or 0 for outcomes 3, 4 and 6.
+// The IODnav of a record: that of the set, or 0 for outcomes 3, 4, 6 and 8.
 pub fn record_issue(outcome: u8, set: &[u8]) -> u16
     requires { ⌜ length (now set) ≡ 69 ⌝ }
     ensures { λ r. ⌜ r ≡ recordIssue outcome (now (set .entry)) ⌝ }
@@ -74,6 +74,9 @@ pub fn record_issue(outcome: u8, set: &[u8]) -> u16
         return 0;
     }
     if outcome == 6 {
+        return 0;
+    }
+    if outcome == 8 {
         return 0;
     }
     navdata::set_issue(set)

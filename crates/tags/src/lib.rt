@@ -1,18 +1,21 @@
 // The tags of a MACK section, the marks that say which ADKD a field has, and outcomes (01, "MACK"; 000, 4). One proof serves every tag width.
 // Public calls:
-//   own_tag                              a field as a tag
+//   own_tag, lost_tag                    a field as a tag; what the record of a lost one says
 //   flexible, not_allowed                what a field's mark says
 //   own_outcome, judged, outcome_number  what becomes of a tag
+use received::Item;
 use rules::Chain;
 use rules::Outcome;
 use rules::Tag;
 ghost use mathlib.Core.Path.{_≡_};
 ghost use mathlib.Core.Bool.{true, cond, _&&_};
 ghost use mathlib.Core.List.{[], _∷_};
-ghost use Prim.Native.Nat.{_*_, _<_};
+ghost use Prim.Native.Nat.{_+_, _*_, _<_};
 ghost use lib.ListN.{length};
 ghost use Rattle.laws.specs.Refusal.{refuse, firstOf};
+ghost use Rattle.rules.specs.Mack.{fieldAt};
 ghost use Rattle.rules.specs.Outcomes.{outcomeNumber};
+ghost use Rattle.rules.specs.Received.{shown, lostTag};
 ghost use Rattle.rules.specs.State.{markOf, configLength};
 ghost use Rattle.rules.specs.Tags.{ownTag, secondHalf, notAllowed};
 ghost use Rattle.rules.specs.Tags as rules;
@@ -47,6 +50,49 @@ pub fn own_tag(c: Chain, prn: u8, time: u32, status: u8, mack: &[u8], j: usize) 
         time: time,
         status: status,
         bits: f.tag,
+    }
+}
+
+// Field j's PRN, 0 where a bit of it is lost.
+fn shown_prn(c: Chain, mack: &[u8], marks: u16, j: usize) -> u8
+    requires { ⌜ Laid c × ((j < c .nmack * c .fields) × (length (now mack) ≡ 60)) ⌝ }
+    ensures { λ r. ⌜ r ≡ shown (now (mack .entry)) marks (fieldAt c j + c .ms) 8 ⌝ }
+{
+    let Item::Came(prn) = mack_items::prn_item(c, mack, marks, j) else {
+        return 0;
+    };
+    prn as u8
+}
+
+// Field j's ADKD, 0 where a bit of it is lost.
+fn shown_adkd(c: Chain, mack: &[u8], marks: u16, j: usize) -> u8
+    requires { ⌜ Laid c × ((j < c .nmack * c .fields) × (length (now mack) ≡ 60)) ⌝ }
+    ensures { λ r. ⌜ r ≡ shown (now (mack .entry)) marks (fieldAt c j + c .ms + 8) 4 ⌝ }
+{
+    let Item::Came(adkd) = mack_items::adkd_item(c, mack, marks, j) else {
+        return 0;
+    };
+    adkd as u8
+}
+
+// What the record of outcome 8 says of field j: block and position as of any tag, PRN and ADKD as far as they came. It has no tag bits.
+pub fn lost_tag(c: Chain, prn: u8, time: u32, status: u8, mack: &[u8], marks: u16, j: usize) -> Tag
+    requires { ⌜ Laid c × ((j < c .nmack * c .fields) × (length (now mack) ≡ 60)) ⌝ }
+    ensures { λ r. ⌜ r ≡ lostTag c (section prn time status (now (mack .entry))) marks j ⌝ }
+{
+    let t = own_tag(c, prn, time, status, mack, j);
+    let first = j == 0;
+    let named = pick(first, prn, shown_prn(c, mack, marks, j));
+    let adkd = pick(first, 0, shown_adkd(c, mack, marks, j));
+    Tag {
+        sender: prn,
+        prn: named,
+        adkd: adkd,
+        block: t.block,
+        position: t.position,
+        time: time,
+        status: status,
+        bits: 0,
     }
 }
 
@@ -146,5 +192,6 @@ pub fn outcome_number(o: Outcome) -> u8
         Outcome::Waits => 5,
         Outcome::SequenceUnfit => 6,
         Outcome::NoPlace => 7,
+        Outcome::Lost => 8,
     }
 }

@@ -38,11 +38,11 @@ returns c =
     let a = entered r in
     let g = a .args in
     let n = k .before .before .before .before .before .before in (
-      λ s ec en eh et ea f.
+      λ s ec en eh et ea d f.
           keys-by s (r .chain-of .result) (now (g .config)) (now (g .words)) (now (g .stamps)) (now (g .chain)) (now (g .numbers)) (now (g .heldkey)) (now (g .waiting)) (now (g .sets)) (now (g .arrivals))
-          (k .before .before .before .before .held-key .result) (now (g .mack)) (n .before .before .held-slot .result) (n .waiting-count .result) (g .prn) (g .time)
+          (k .before .before .before .before .held-key .result) (now (g .mack)) (n .before .before .held-slot .result) (n .waiting-count .result) (g .prn) (g .time) (g .marks)
           ec en eh et ea (r .chain-of .ensures .0) (n .before .before .held-slot .ensures .0) (n .waiting-count .ensures .0) (k .before .before .before .before .held-key .ensures) ((fits r) .0 .walks .width-high) (a .pre .1 .1 .1 .0)
-          (g .header) (now (g .area)) f _ (c .if1 .taken) (k .prove-keys .ensures .0 .code-is),
+          (g .header) (now (g .area)) d f _ (c .if1 .taken) (k .prove-keys .ensures .0 .code-is),
       omega arith,
     )
 
@@ -69,11 +69,11 @@ returns-2 c =
     let a = entered r in
     let g = a .args in
     let n = k .before .before .before .before .before .before in (
-      λ s ec en eh et ea f.
+      λ s ec en eh et ea d f.
           taken-by s (r .chain-of .result) (now (g .config)) (now (g .words)) (now (g .stamps)) (now (g .chain)) (now (g .numbers)) (now (g .heldkey)) (now (g .waiting)) (now (g .sets)) (now (g .arrivals))
-          (k .before .before .before .before .held-key .result) (now (g .mack)) (n .before .before .held-slot .result) (n .waiting-count .result) (g .prn) (g .time)
+          (k .before .before .before .before .held-key .result) (now (g .mack)) (n .before .before .held-slot .result) (n .waiting-count .result) (g .prn) (g .time) (g .marks)
           ec en eh et ea (r .chain-of .ensures .0) (n .before .before .held-slot .ensures .0) (n .waiting-count .ensures .0) (k .before .before .before .before .held-key .ensures) ((fits r) .0 .walks .width-high) (a .pre .1 .1 .1 .0)
-          (g .header) (now (g .area)) f _ _ _ (k .prove-keys .ensures .0)
+          (g .header) (now (g .area)) d f _ _ _ (k .prove-keys .ensures .0)
           (st .status-of .result) (j .judge-tags .result .records) (j .judge-tags .result .kept) _ _ _ _ _ _ (st .before .if1 .left) (st .status-of .ensures)
           (j .judge-tags .ensures .0) (j .judge-tags .ensures .1 .0) (h .hold .ensures .0) (h .hold .ensures .1),
       j .judge-tags .ensures .1 .1,

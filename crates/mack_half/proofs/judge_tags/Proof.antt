@@ -6,6 +6,7 @@ use lib.ListN.{take}
 use denote.Ref.{now}
 use Rattle.rules.specs.Chain.{held}
 use Rattle.rules.specs.Tags.{duesJudged}
+use Rattle.mack_keys.proofs.Places.{keys-fit}
 use Rattle.navdata.specs.Pieces.{nav}
 use Rattle.section_tags.proofs.Joined.{both-leave}
 use Rattle.tag_records.specs.Told.{start}
@@ -41,10 +42,10 @@ judge-own-requires c κs =
     let d = judged (c .before .before .before .before .before) in
     let q = (entered d) .pre in
     let l = q .1 .1 .0 .0 .1 .few in
-    (q .0, (search needs, ((q .1 .1 .0 .0 .0 .walks, q .1 .1 .0 .0 .1), (q .1 .1 .0 .1 .0, (omega (arith, few d), omega (arith, few d, l))))))
+    (q .0, (search needs, ((q .1 .1 .0 .0 .0 .walks, (q .1 .1 .0 .0 .1, keys-fit ((entered d) .args .c) (q .1 .1 .0 .0 .0))), (q .1 .1 .0 .1 .0, (omega (arith, few d), omega (arith, few d, l))))))
 
-add-t39 : tie.Need-add-t39
-add-t39 c =
+add-t40 : tie.Need-add-t40
+add-t40 c =
     let d = judged (c .before .before .before .before .before .before .before .before .before .before .before .before .before .before) in
     omega (arith, few d, (entered d) .pre .1 .1 .0 .0 .1 .few, (entered d) .pre .1 .1 .0 .1 .1)
 
@@ -59,7 +60,7 @@ returns c =
     let r = both-leave (now (g .config)) (nav (now (g .words)) (now (g .stamps))) (g .c) h (section (g .prn) (g .time) (g .status) (now (g .mack)))
     (now (g .waiting)) (now (g .area))
     (d .judge-due .last .1 .1 .1 .1 .1 .0) (d .judge-due .last .1 .1 .1 .1 .1 .1 .1 .0) (d .judge-due .last .1 .1 .1 .1 .1 .1 .1 .1 .0) (d .judge-due .last .1 .1 .1 .1 .1 .1 .1 .1 .1 .0)
-    _ _ _ _ (g .n) (g .c .nmack * g .c .fields) (d .judge-due .result) (o .judge-own .result) w
+    _ _ _ _ (g .marks) (g .n) (g .c .nmack * g .c .fields) (d .judge-due .result) (o .judge-own .result) w
     (a .pre .1 .0 .1 .0) (a .pre .1 .0 .1 .1) (omega (arith, few d, a .pre .1 .1 .0 .0 .1 .few))
     (d .judge-due .ensures .0) (d .judge-due .ensures .1) (o .judge-own .ensures .0) (o .judge-own .ensures .1) in
     (r .0, (r .1 .1, omega (arith, few d, a .pre .1 .1 .0 .0 .1 .few, a .pre .1 .1 .0 .1 .1)))
@@ -72,5 +73,5 @@ judge-tags-spec =
     sub-told
     mul-fields
     judge-own-requires
-    add-t39 (λ c. search needs) (λ c. search needs) (λ c. search needs) (λ c. search needs)
+    add-t40 (λ c. search needs) (λ c. search needs) (λ c. search needs) (λ c. search needs)
     returns)

@@ -10,6 +10,7 @@ use lib.ListN.{take}
 use lib.Seq.{length-take-le}
 use Rattle.rules.specs.Chain.{held}
 use Rattle.rules.specs.Mack as S
+use Rattle.rules.specs.Received.{keysReceived}
 use Rattle.chain.specs.Sound.{Met}
 use Rattle.chain.proofs.Steps.{met-here}
 use Rattle.mack.specs.declared.Block.{Block}
@@ -21,19 +22,19 @@ use Rattle.mack_keys.proofs.keys_proved.Statement.{statement}
 use Rattle.mack_keys.proofs.keys_proved.Tie as tie
 
 abbrev Inv-loop : tie.InvT-loop
-Inv-loop c g prn m slot via key₀ met₀ nmack p₀ k₀ b₀ key met p k b =
+Inv-loop c g prn m marks slot via key₀ met₀ nmack p₀ k₀ b₀ key met p k b =
     ((b ≤ nmack) × (p .slot < 2 ^ 34))
-    × (Hands (S.keysProved c g prn m (held slot (take (c .width) key₀)) b) (p .code) (p .slot) key₀ key
+    × (Hands (keysReceived c g prn m marks (held slot (take (c .width) key₀)) b) (p .code) (p .slot) key₀ key
     × (Met c (held (p .slot) (take (c .width) key)) (p .met) met
     × (k .used ≡ S.blockAt c (b + 1))))
 
 abbrev μ-loop : tie.MeasureT-loop
-μ-loop c g prn m slot via key₀ met₀ nmack p₀ k₀ b₀ key met p k b = nmack - b
+μ-loop c g prn m marks slot via key₀ met₀ nmack p₀ k₀ b₀ key met p k b = nmack - b
 
 loop-holds : tie.Need-loop-holds Inv-loop μ-loop
 loop-holds c =
     let g = c .before .before .before .args in
-    ((omega arith, search needs), (no-block _ _ _ _ _ _, (met-here (g .c) (g .slot) (now (g .key)), c .section-start .ensures ∙ sym (first-block (g .c)))))
+    ((omega arith, search needs), (no-block _ _ _ _ _ _ _, (met-here (g .c) (g .slot) (now (g .key)), c .section-start .ensures ∙ sym (first-block (g .c)))))
 
 next-key-requires : tie.Need-next-key-requires Inv-loop μ-loop
 next-key-requires c κs =
@@ -53,7 +54,7 @@ loop-again c =
     let e = k .next-key .ensures in (
       (omega arith, n .next-block .ensures .1 .0),
       (
-        one-more (g .c) (g .g) (g .prn) (l .b) (l .p .code) (l .p .slot) _ _ (now (g .m)) (now (g .key)) (l .key) _ _ w (l .inv .1 .0)
+        one-more (g .c) (g .g) (g .prn) (g .marks) (l .b) (l .p .code) (l .p .slot) _ _ (now (g .m)) (now (g .key)) (l .key) _ _ w (l .inv .1 .0)
             (n .next-block .ensures .0 (now (g .m)) (ap (λ (x : Block). x .key) e) (ap (λ (x : Block). x .spare) e)),
         (n .next-block .ensures .1 .1 (l .inv .1 .1 .0), ap (λ (x : Block). x .next .used) e),
       ),
@@ -62,7 +63,7 @@ loop-again c =
 returns : tie.Need-returns Inv-loop μ-loop
 returns c =
     let l = c .before .loop in
-    (all-blocks _ _ _ (l .b) _ _ _ _ _ _ _ (search needs) (search needs) (l .inv .1 .0), (l .inv .0 .1, l .inv .1 .1 .0))
+    (all-blocks _ _ _ _ (l .b) _ _ _ _ _ _ _ (search needs) (search needs) (l .inv .1 .0), (l .inv .0 .1, l .inv .1 .1 .0))
 
 pub keys-proved-spec : {M : Type 1} → statement M
 keys-proved-spec =

@@ -1,6 +1,6 @@
 -- `replay_answers::answer` meets its contract: each kind by its own function.
 -- Assumes nothing.
-use mathlib.Core.Path.{_∙_}
+use mathlib.Core.Path.{sym, _∙_}
 use borrow.Author.Needs.{needs}
 use Rattle.rules.specs.Replay.{kindOf}
 use Rattle.replay_answers.proofs.Answers.{short-record, start-kind, word-kind, subframe-kind, verdict-kind, other-kind}
@@ -119,7 +119,7 @@ same-length-49 c = c .before .before .before .before .before .before .before .be
 
 returns-4 : tie.Need-returns-4
 unfolding kindOf
-returns-4 c = c .before .before .before .before .before .before .before .before .before .before .before .before .before .before .before .before .before .before .before .before .before .before .before .before .before .before .before .before .subframe .ensures ∙ subframe-kind _ _ (c .before .before .before .before .before .before .before .before .before .before .before .before .before .before .before .before .before .before .before .before .before .before .before .before .before .before .before .before .before .before .before .before .before .before .before .before .before .before .before .before .before .before .before .before .before .before .before .before .before .before .before .before .before .if1 .left) (c .before .before .before .before .before .before .before .before .before .before .before .before .before .before .before .before .before .before .before .before .before .before .before .before .before .before .before .before .before .before .before .before .before .before .before .before .before .before .before .before .before .before .before .before .before .before .before .before .before .if4 .taken)
+returns-4 c = c .before .before .before .before .before .before .before .before .before .before .before .before .before .before .before .before .before .before .before .before .before .before .before .before .before .before .before .before .subframe .ensures ∙ subframe-kind _ _ (c .before .before .before .before .before .before .before .before .before .before .before .before .before .before .before .before .before .before .before .before .before .before .before .before .before .before .before .before .before .before .before .before .before .before .before .before .before .before .before .before .before .before .before .before .before .before .before .before .before .before .before .before .before .before .if1 .left) (c .before .before .before .before .before .before .before .before .before .before .before .before .before .before .before .before .before .before .before .before .before .before .before .before .before .before .before .before .before .before .before .before .before .before .before .before .before .before .before .before .before .before .before .before .before .before .before .before .before .before .before .before .if2 .left) (c .before .before .before .before .before .before .before .before .before .before .before .before .before .before .before .before .before .before .before .before .before .before .before .before .before .before .before .before .before .before .before .before .before .before .before .before .before .before .before .before .before .before .before .before .before .before .before .before .before .before .before .if3 .left) (sym (c .before .before .before .before .before .before .before .before .before .before .before .before .before .before .before .before .before .before .before .before .before .before .before .before .before .before .before .before .before .before .before .before .before .before .before .before .before .before .before .before .before .before .before .before .before .before .before .before .before .before .subframe-kind .ensures) ∙ c .before .before .before .before .before .before .before .before .before .before .before .before .before .before .before .before .before .before .before .before .before .before .before .before .before .before .before .before .before .before .before .before .before .before .before .before .before .before .before .before .before .before .before .before .before .before .before .before .before .if4 .taken)
 
 same-length-58 : tie.Need-same-length-58
 same-length-58 c = c .before .before .before .before .before .before .before .before .before .before .before .before .verdict .kept .1 .1 .1 .1 .1 .1 .1 .1 .0
@@ -141,13 +141,13 @@ same-length-63 c = c .before .before .before .before .before .before .before .be
 
 returns-5 : tie.Need-returns-5
 unfolding kindOf
-returns-5 c = c .before .before .before .before .before .before .before .before .before .before .before .before .verdict .ensures _ ∙ verdict-kind _ _ (c .before .before .before .before .before .before .before .before .before .before .before .before .before .before .before .before .before .before .before .before .before .before .before .before .before .before .before .before .before .before .before .before .before .before .before .if1 .left) (c .before .before .before .before .before .before .before .before .before .before .before .before .before .before .before .before .before .before .before .before .before .before .before .before .before .before .before .before .before .before .if5 .taken)
+returns-5 c = c .before .before .before .before .before .before .before .before .before .before .before .before .verdict .ensures _ ∙ verdict-kind _ _ (c .before .before .before .before .before .before .before .before .before .before .before .before .before .before .before .before .before .before .before .before .before .before .before .before .before .before .before .before .before .before .before .before .before .before .before .before .if1 .left) (c .before .before .before .before .before .before .before .before .before .before .before .before .before .before .before .before .before .before .before .before .before .before .before .before .before .before .before .before .before .before .if5 .taken)
 
 returns-6 : tie.Need-returns-6
 unfolding kindOf
-returns-6 c = other-kind _ _ (c .before .before .before .before .before .if1 .left) (c .before .before .before .if2 .left) (c .before .before .if3 .left) (c .before .if4 .left) (c .if5 .left)
+returns-6 c = other-kind _ _ (c .before .before .before .before .before .before .if1 .left) (c .before .before .before .before .if2 .left) (c .before .before .before .if3 .left) (sym (c .before .before .subframe-kind .ensures) ∙ c .before .if4 .left) (c .if5 .left)
 
 pub answer-spec : {M : Type 1} → statement M
 answer-spec =
     tie.close
-    (tie.spec returns (λ c. search needs) (λ c κs. search needs) same-length same-length-2 same-length-3 same-length-4 same-length-5 same-length-6 same-length-7 same-length-8 same-length-9 same-length-10 same-length-11 same-length-12 same-length-13 same-length-14 same-length-15 same-length-16 returns-2 (λ c κs. search needs) (λ c. search needs) same-length-18 same-length-19 same-length-20 (λ c. search needs) (λ c. search needs) (λ c. search needs) (λ c. search needs) (λ c. search needs) (λ c. search needs) (λ c. search needs) (λ c. search needs) (λ c. search needs) (λ c. search needs) (λ c. search needs) (λ c. search needs) returns-3 (λ c κs. search needs) same-length-33 same-length-34 (λ c. search needs) (λ c. search needs) same-length-37 same-length-38 same-length-39 same-length-40 same-length-41 same-length-42 (λ c. search needs) same-length-44 same-length-45 same-length-46 same-length-47 same-length-48 same-length-49 returns-4 (λ c κs. search needs) (λ c. search needs) (λ c. search needs) (λ c. search needs) (λ c. search needs) (λ c. search needs) (λ c. search needs) (λ c. search needs) (λ c. search needs) same-length-58 same-length-59 same-length-60 same-length-61 same-length-62 same-length-63 (λ c. search needs) (λ c. search needs) returns-5 returns-6)
+    (tie.spec returns (λ c. search needs) (λ c κs. search needs) same-length same-length-2 same-length-3 same-length-4 same-length-5 same-length-6 same-length-7 same-length-8 same-length-9 same-length-10 same-length-11 same-length-12 same-length-13 same-length-14 same-length-15 same-length-16 returns-2 (λ c κs. search needs) (λ c. search needs) same-length-18 same-length-19 same-length-20 (λ c. search needs) (λ c. search needs) (λ c. search needs) (λ c. search needs) (λ c. search needs) (λ c. search needs) (λ c. search needs) (λ c. search needs) (λ c. search needs) (λ c. search needs) (λ c. search needs) (λ c. search needs) returns-3 (λ c κs. search needs) (λ c κs. search needs) same-length-33 same-length-34 (λ c. search needs) (λ c. search needs) same-length-37 same-length-38 same-length-39 same-length-40 same-length-41 same-length-42 (λ c. search needs) same-length-44 same-length-45 same-length-46 same-length-47 same-length-48 same-length-49 returns-4 (λ c κs. search needs) (λ c. search needs) (λ c. search needs) (λ c. search needs) (λ c. search needs) (λ c. search needs) (λ c. search needs) (λ c. search needs) (λ c. search needs) same-length-58 same-length-59 same-length-60 same-length-61 same-length-62 same-length-63 (λ c. search needs) (λ c. search needs) returns-5 returns-6)
