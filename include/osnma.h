@@ -10,6 +10,7 @@
  *
  *     osnma_start(&core, &settings)             once, and again to begin anew
  *     osnma_subframe(&core, prn, time, ..)      the authentication fields of each sub-frame, 75 bytes
+ *     osnma_subframe_marked(&core, ..)          the same where fields of it may be lost
  *     osnma_word(&core, prn, time, word)        each I/NAV word of 16 bytes
  *     osnma_read_message(&core, &message)       what waits for the signature chip, if something does
  *     osnma_verdict(&core, good, ..)            the chip's answer on it
@@ -56,6 +57,13 @@ extern "C" {
 /* The mark of a flexible field. The others are 0 to 15, the ADKD of a fixed one. */
 #define OSNMA_FLEXIBLE 255u
 
+/*
+ * Which of the fifteen fields of a sub-frame were received: sixteen bits, 1 for received, the first
+ * field's in the top bit. The lowest bit is not read. Fields are counted from 0 to 14.
+ */
+#define OSNMA_ALL_RECEIVED 0xFFFEu
+#define OSNMA_RECEIVED(field) (0x8000u >> (field))
+
 /* Elements of the regions of a core, in their order. */
 #define OSNMA_CONFIG_COUNT 63u
 #define OSNMA_CLOCKS_COUNT 73u
@@ -80,8 +88,8 @@ extern "C" {
 /* ---- what calls answer */
 
 /*
- * The numbers of document 01's table. All but 0 are refusals. What a number leaves behind is said at
- * each call.
+ * The numbers of document 01's table, and 17 of document 02. All but 0 are refusals. What a number
+ * leaves behind is said at each call.
  */
 enum osnma_answer {
     /* Nothing below applies. */
@@ -94,7 +102,7 @@ enum osnma_answer {
     OSNMA_OUT_OF_ORDER = 3,
     /* An emergency message stopped the core. Only a new start ends this. */
     OSNMA_STOPPED = 4,
-    /* Sub-frame: 75 zero bytes. */
+    /* Sub-frame: all fields that were received are zero bytes. */
     OSNMA_ALL_ZERO = 5,
     /* Sub-frame: NB reserved, block ID too high, size or emergency ID wrong, DSM-PKR type above 4. */
     OSNMA_BLOCK_UNFIT = 6,
@@ -118,10 +126,12 @@ enum osnma_answer {
     /* The verdict is bad. */
     OSNMA_VERDICT_BAD = 15,
     /* No authentic set for this PRN since the start. */
-    OSNMA_NO_SET = 16
+    OSNMA_NO_SET = 16,
+    /* Sub-frame: fields are missing: any for the HKROOT half, the first for the MACK half. */
+    OSNMA_FIELDS_MISSING = 17
 };
 
-/* What became of a tag: document 01's outcomes. */
+/* What became of a tag: document 01's outcomes, and 8 of document 02. */
 enum osnma_outcome {
     /* It matches its satellite's set, which is now authentic unless a later tag's set is held. */
     OSNMA_AUTHENTIC = 1,
@@ -136,7 +146,9 @@ enum osnma_outcome {
     /* Its field is flexible and MACSEQ fails. */
     OSNMA_SEQUENCE_UNFIT = 6,
     /* It would wait, but all 256 places are taken. */
-    OSNMA_NO_PLACE = 7
+    OSNMA_NO_PLACE = 7,
+    /* Bits of it, of its block's key, of its MAC-Info or of what MACSEQ is made of are missing. */
+    OSNMA_BITS_MISSING = 8
 };
 
 /* ---- times */
@@ -221,11 +233,11 @@ struct osnma_halves {
 struct osnma_tag_record {
     enum osnma_outcome outcome;
     uint8_t sender;   /* PRN of the satellite that sent it */
-    uint8_t prn;      /* PRN of the satellite that it authenticates, as the tag names it */
-    uint8_t adkd;     /* its ADKD */
+    uint8_t prn;      /* PRN that it authenticates, as the tag names it; 0 where a bit is missing */
+    uint8_t adkd;     /* its ADKD; 0 where a bit is missing */
     uint8_t block;    /* block of the section that it came in, from 1 */
     uint8_t position; /* position in the block, from 1 */
-    uint16_t iodnav;  /* IODnav of its set; 0 for outcomes 3, 4 and 6 */
+    uint16_t iodnav;  /* IODnav of its set; 0 for outcomes 3, 4, 6 and 8 */
     uint32_t time;    /* GST_SF of its arrival */
 };
 
@@ -297,6 +309,28 @@ static inline enum osnma_answer osnma_start(struct osnma_core *core,
 static inline struct osnma_halves osnma_subframe(struct osnma_core *core, uint8_t prn, uint32_t time,
                                                  const uint8_t fields[OSNMA_FIELDS],
                                                  uint8_t records[OSNMA_RECORDS]);
+
+/*
+ * The same for a sub-frame of which some of the fifteen fields may not have been received: `marks` says
+ * which were. With OSNMA_ALL_RECEIVED it is osnma_subframe in all.
+ *
+ * Lent: as osnma_subframe. What the bytes of a field hold that was not received changes nothing.
+ *
+ * A tag that cannot be judged for want of a bit leaves a record with OSNMA_BITS_MISSING: every tag of a
+ * block whose key is missing; a tag that is missing itself, or, of a fixed field of the section but the
+ * first, its MAC-Info; every flexible one where MACSEQ or the MAC-Info of a flexible field is missing.
+ * A missing key is not looked at, and neither is a missing spare bit.
+ *
+ * It answers as osnma_subframe, but for:
+ * OSNMA_ALL_ZERO        All fields that were received, if any, are zero. The time is noted.
+ * OSNMA_FIELDS_MISSING  After it, with the time noted. The HKROOT half, before its other answers: a
+ *                       field was not received; blocks and messages stay. The MACK half, before its
+ *                       others: the first field was not.
+ */
+static inline struct osnma_halves osnma_subframe_marked(struct osnma_core *core, uint8_t prn,
+                                                        uint32_t time, uint16_t marks,
+                                                        const uint8_t fields[OSNMA_FIELDS],
+                                                        uint8_t records[OSNMA_RECORDS]);
 
 /*
  * Record `i` of those that osnma_subframe wrote, from 0. An `i` that the area has no room for gives
@@ -450,6 +484,28 @@ uint32_t osnma_regions_subframe(
     const uint8_t *bytes, size_t bytes_count,
     uint32_t *hkroot, uint32_t *mack);
 
+uint32_t osnma_regions_subframe_marked(
+    uint8_t *config, size_t config_count,
+    uint32_t *clocks, size_t clocks_count,
+    const uint8_t *words, size_t words_count,
+    const uint32_t *stamps, size_t stamps_count,
+    uint8_t *blocks, size_t blocks_count,
+    uint8_t *headers, size_t headers_count,
+    uint16_t *present, size_t present_count,
+    uint32_t *since, size_t since_count,
+    uint8_t *pubkeys, size_t pubkeys_count,
+    uint8_t *offer, size_t offer_count,
+    const uint8_t *chain, size_t chain_count,
+    uint64_t *numbers, size_t numbers_count,
+    uint8_t *heldkey, size_t heldkey_count,
+    uint8_t *waiting, size_t waiting_count,
+    uint8_t *sets, size_t sets_count,
+    uint32_t *arrivals, size_t arrivals_count,
+    uint8_t *area, size_t area_count,
+    uint8_t prn, uint32_t time, uint16_t marks,
+    const uint8_t *bytes, size_t bytes_count,
+    uint32_t *hkroot, uint32_t *mack);
+
 uint32_t osnma_regions_verdict(
     const uint8_t *config, size_t config_count,
     const uint32_t *clocks, size_t clocks_count,
@@ -542,6 +598,20 @@ static inline struct osnma_halves osnma_subframe(struct osnma_core *core, uint8_
     uint32_t hkroot, mack;
     answer.records = osnma_regions_subframe(OSNMA_REGIONS_OF(core), records, OSNMA_RECORDS, prn, time,
                                             fields, OSNMA_FIELDS, &hkroot, &mack);
+    answer.hkroot = (enum osnma_answer)hkroot;
+    answer.mack = (enum osnma_answer)mack;
+    return answer;
+}
+
+static inline struct osnma_halves osnma_subframe_marked(struct osnma_core *core, uint8_t prn,
+                                                        uint32_t time, uint16_t marks,
+                                                        const uint8_t fields[OSNMA_FIELDS],
+                                                        uint8_t records[OSNMA_RECORDS])
+{
+    struct osnma_halves answer;
+    uint32_t hkroot, mack;
+    answer.records = osnma_regions_subframe_marked(OSNMA_REGIONS_OF(core), records, OSNMA_RECORDS, prn,
+                                                   time, marks, fields, OSNMA_FIELDS, &hkroot, &mack);
     answer.hkroot = (enum osnma_answer)hkroot;
     answer.mack = (enum osnma_answer)mack;
     return answer;

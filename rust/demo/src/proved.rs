@@ -1,7 +1,7 @@
 //! The proved core (libosnma.a) on a recorded run: the lines that 01's replay program prints, and the
 //! core after them.
 
-use osnma::{Core, Gst, Refusal, Settings, NO_RECORDS, RECORD_LEN};
+use osnma::{Core, Gst, Marks, Refusal, Settings, NO_RECORDS, RECORD_LEN};
 use std::fmt::Write;
 
 /// Bytes of a record of the run.
@@ -44,8 +44,13 @@ pub fn replayed(run: &[u8]) -> Result<(Core, String), String> {
         let (first, second, count) = match r[0] {
             1 => (number(core.start(&settings(r)?)), 0, 0),
             2 => (number(core.word(r[1], gst(r)?, &bytes(r, 6)?)), 0, 0),
-            3 => {
-                let answer = core.subframe(r[1], gst(r)?, &bytes(r, 6)?, &mut area);
+            3 | 6 => {
+                let fields = bytes(r, 6)?;
+                let marks = match r[0] {
+                    6 => Marks::from_bits(u16::from_be_bytes(bytes(r, 81)?)),
+                    _ => Marks::ALL,
+                };
+                let answer = core.subframe_marked(r[1], gst(r)?, marks, &fields, &mut area);
                 (
                     number(answer.hkroot),
                     number(answer.mack),

@@ -19,6 +19,7 @@ pub fn meaning(outcome: Outcome) -> &'static str {
         Outcome::Waits => "waits",
         Outcome::SequenceUnfit => "MACSEQ fails",
         Outcome::NoPlace => "no place",
+        Outcome::BitsMissing => "bits missing",
         _ => "not listed",
     }
 }

@@ -66,8 +66,15 @@ impl Receiver {
             Record::Subframe { .. } if !self.started => Answer::both(Refusal::NotInForce),
             _ if !self.started => Answer::one(Err(Refusal::NotInForce)),
             Record::Word { prn, time, word } => Answer::one(self.core.word(*prn, *time, word)),
-            Record::Subframe { prn, time, fields } => {
-                let answer = self.core.subframe(*prn, *time, fields, &mut self.area);
+            Record::Subframe {
+                prn,
+                time,
+                marks,
+                fields,
+            } => {
+                let answer = self
+                    .core
+                    .subframe_marked(*prn, *time, *marks, fields, &mut self.area);
                 Answer {
                     first: answer.hkroot,
                     second: answer.mack,

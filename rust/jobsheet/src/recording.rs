@@ -1,7 +1,7 @@
 //! Recordings as the replay program reads them: 256-byte records, no header (01, The replay
-//! program).
+//! program; 02, P3).
 
-use osnma::{Gst, Settings, FIELDS_LEN, MESSAGE_LEN, SIGNATURE_LEN, WORD_LEN};
+use osnma::{Gst, Marks, Settings, FIELDS_LEN, MESSAGE_LEN, SIGNATURE_LEN, WORD_LEN};
 use std::array::from_fn;
 use std::fmt;
 use std::io::{self, Read};
@@ -23,12 +23,14 @@ pub enum Record {
         /// Its 16 bytes.
         word: [u8; WORD_LEN],
     },
-    /// 3: the authentication fields of a sub-frame.
+    /// 3: the authentication fields of a sub-frame; 6: the same with their marks.
     Subframe {
         /// PRN of the satellite.
         prn: u8,
         /// The sub-frame.
         time: Gst,
+        /// Which fields were received; all in records of kind 3.
+        marks: Marks,
         /// Its 75 bytes.
         fields: [u8; FIELDS_LEN],
     },
@@ -66,9 +68,13 @@ impl Record {
                 time,
                 word: part(bytes, 6),
             },
-            3 => Record::Subframe {
+            3 | 6 => Record::Subframe {
                 prn: bytes[1],
                 time,
+                marks: match bytes[0] {
+                    6 => Marks::from_bits(u16::from_be_bytes(part(bytes, 81))),
+                    _ => Marks::ALL,
+                },
                 fields: part(bytes, 6),
             },
             4 => Record::Verdict {
@@ -84,7 +90,7 @@ impl Record {
 
 /// Whether records of this kind are a recording's.
 pub fn is_kind(kind: u8) -> bool {
-    (1..=4).contains(&kind)
+    matches!(kind, 1..=4 | 6)
 }
 
 /// The N bytes of a record from a place on.
@@ -108,7 +114,7 @@ pub enum Trouble {
         /// Its bytes.
         len: usize,
     },
-    /// It has no record of kinds 1 to 4.
+    /// It has no record of kinds 1 to 4 and 6.
     NotARecording,
     /// It has no accepted start.
     NoStart,
@@ -126,7 +132,7 @@ impl fmt::Display for Trouble {
             ),
             Trouble::NotARecording => write!(
                 f,
-                "is no recording: none of its 256-byte records is of kinds 1 to 4"
+                "is no recording: none of its 256-byte records is of kinds 1 to 4 or 6"
             ),
             Trouble::NoStart => write!(
                 f,

@@ -24,6 +24,8 @@ pub enum Said {
     NotTaken,
     /// There was no usable set.
     NoSet,
+    /// Bits were missing, so that it could not be judged.
+    Missing,
     /// None came, and the satellite's own section was refused.
     Refused,
     /// None came.
@@ -32,13 +34,14 @@ pub enum Said {
 
 impl Said {
     /// All that have a sign, in the order of the legend.
-    pub const ALL: [Said; 7] = [
+    pub const ALL: [Said; 8] = [
         Said::Authentic,
         Said::Wrong,
         Said::Waits,
         Said::NoSet,
         Said::NoPlace,
         Said::NotTaken,
+        Said::Missing,
         Said::Refused,
     ];
 
@@ -49,6 +52,7 @@ impl Said {
             Outcome::Waits => Said::Waits,
             Outcome::NoPlace => Said::NoPlace,
             Outcome::NoUsableSet => Said::NoSet,
+            Outcome::BitsMissing => Said::Missing,
             _ => Said::NotTaken,
         }
     }
@@ -62,6 +66,7 @@ impl Said {
             Said::NoSet => ("no set", "no whole data to compare"),
             Said::NoPlace => ("no place", "256 slow tags waited already"),
             Said::NotTaken => ("not taken", "tag not allowed there"),
+            Said::Missing => ("missing", "bits of the tag or its key lost"),
             Said::Refused => ("refused", "its section was refused, no other tag"),
             Said::Nothing => ("", "no tag"),
         }
@@ -305,8 +310,12 @@ fn tags_told(run: &Run) -> String {
     let n = |outcome| run.tags.iter().filter(with(outcome)).count();
     let (authentic, wrong) = (n(Outcome::Authentic), n(Outcome::Wrong));
     let waits = run.waiting();
+    let missing = match n(Outcome::BitsMissing) {
+        0 => String::new(),
+        n => format!(", of these {n} with bits missing"),
+    };
     format!(
-        "{authentic} authentic, {wrong} wrong, {waits} wait still, {} without judgement",
+        "{authentic} authentic, {wrong} wrong, {waits} wait still, {} without judgement{missing}",
         run.tags.len() - authentic - wrong - waits
     )
 }

@@ -30,6 +30,7 @@ pub const SIGNS: &str = r##"<svg width="0" height="0" aria-hidden="true"><defs>
 <symbol id="noset" viewBox="0 0 20 24" preserveAspectRatio="none"><rect x=".6" y=".6" width="18.8" height="22.8" fill="#fff" stroke="#888" stroke-width="1.2"/><path d="M5 12H15" stroke="#333" stroke-width="2.6"/></symbol>
 <symbol id="noplace" viewBox="0 0 20 24" preserveAspectRatio="none"><rect x=".6" y=".6" width="18.8" height="22.8" fill="#fdeec2" stroke="#8a7a45" stroke-width="1.2"/><circle cx="10" cy="12" r="5" fill="none" stroke="#4a4024" stroke-width="2.4"/></symbol>
 <symbol id="nottaken" viewBox="0 0 20 24" preserveAspectRatio="none"><rect x=".6" y=".6" width="18.8" height="22.8" fill="#fff" stroke="#888" stroke-width="1.2"/><text x="10" y="18.6" font-size="18" font-weight="700" text-anchor="middle" fill="#222">?</text></symbol>
+<symbol id="missing" viewBox="0 0 20 24" preserveAspectRatio="none"><rect x=".6" y=".6" width="18.8" height="22.8" fill="#d3e3f4" stroke="#56789c" stroke-width="1.2"/><path d="M10 3V9M10 15V21" stroke="#173a5e" stroke-width="3.2" fill="none"/></symbol>
 <symbol id="refused" viewBox="0 0 20 24" preserveAspectRatio="none"><rect x=".6" y=".6" width="18.8" height="22.8" fill="#fff" stroke="#777" stroke-width="1.2"/><path d="M1 9L9 1M1 17L17 1M2 23L19 6M10 23L19 14" stroke="#666" stroke-width="1.8" fill="none"/></symbol>
 <symbol id="nothing" viewBox="0 0 20 24" preserveAspectRatio="none"><path d="M0 23.5H20" stroke="#bbb" stroke-width="1"/></symbol>
 <symbol id="ownrefused" viewBox="0 0 20 24" preserveAspectRatio="none"><rect y="19" width="20" height="5" fill="#000"/></symbol>
@@ -46,6 +47,7 @@ pub fn sign(said: Said) -> &'static str {
         Said::NoSet => "noset",
         Said::NoPlace => "noplace",
         Said::NotTaken => "nottaken",
+        Said::Missing => "missing",
         Said::Refused => "refused",
         Said::Nothing => "nothing",
     }

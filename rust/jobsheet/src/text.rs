@@ -21,6 +21,7 @@ pub fn letter(said: Said) -> char {
         Said::NoSet => '-',
         Said::NoPlace => 'o',
         Said::NotTaken => '?',
+        Said::Missing => ':',
         Said::Refused => '/',
         Said::Nothing => '.',
     }

@@ -130,6 +130,8 @@ pub fn of(run: &Run, clock: Clock) -> Vec<Warning> {
     all.extend(no_place(run, clock));
     all.extend(not_taken(run, clock));
     all.extend(refusals(run, clock));
+    all.extend(fields_missing(run, clock));
+    all.extend(bits_missing(run, clock));
     all.extend(given_up(run));
     // A stable sort: the order above within each grade.
     all.sort_by_key(|warning| warning.grade == Grade::Note);
@@ -369,6 +371,63 @@ fn not_taken(run: &Run, clock: Clock) -> Vec<Warning> {
     reasons.into_iter().filter_map(warning).collect()
 }
 
+/// Sub-frames of which fields were lost: both halves in one.
+fn fields_missing(run: &Run, clock: Clock) -> Option<Warning> {
+    let lost = |part: Part| {
+        let of = move |r: &&Refused| r.part == part && r.refusal == Refusal::FieldsMissing;
+        run.refused.iter().filter(of)
+    };
+    // One lost field is enough for this half.
+    let (all, sections) = (lost(Part::Message), lost(Part::Section).count());
+    let prns: BTreeSet<u8> = all.clone().filter_map(|refused| refused.prn).collect();
+    let n = all.clone().count();
+    (n > 0).then(|| {
+        Warning::new(
+            Grade::Note,
+            format!("Fields missing in {}.", count(n, "sub-frame")),
+            format!(
+                "Ordinary under trees. Their message blocks were not taken (number 17){}. The rest \
+                 of each was used. {}, {}.",
+                match sections {
+                    0 => String::new(),
+                    _ => format!(
+                        "; nor {} whose first field was lost",
+                        count(sections, "section")
+                    ),
+                },
+                capital(which(run, &prns)),
+                span(clock, all.filter_map(|refused| refused.at))
+            ),
+        )
+    })
+}
+
+/// Tags that could not be judged for want of bits.
+fn bits_missing(run: &Run, clock: Clock) -> Option<Warning> {
+    let tags = with(run, Outcome::BitsMissing);
+    let senders: BTreeSet<u8> = tags.clone().map(|tag| tag.sender).collect();
+    let n = tags.clone().count();
+    (n > 0).then(|| {
+        Warning::new(
+            Grade::Note,
+            format!("Bits missing of {}.", count(n, "tag")),
+            format!(
+                "They, their key or their places in the section were lost, so that they say \
+                 nothing for or against any data: sent by {}, {}.",
+                which(run, &senders),
+                span(clock, tags.map(|tag| tag.time))
+            ),
+        )
+    })
+}
+
+fn capital(mut text: String) -> String {
+    if let Some(first) = text.get_mut(..1) {
+        first.make_ascii_uppercase();
+    }
+    text
+}
+
 fn given_up(run: &Run) -> Option<Warning> {
     let n = run.tags.iter().filter(|tag| tag.given_up).count();
     (n > 0).then(|| {
@@ -383,7 +442,9 @@ fn given_up(run: &Run) -> Option<Warning> {
 /// Refusals of one kind: what, why, and whether a chain was in force.
 fn refusals(run: &Run, clock: Clock) -> Vec<Warning> {
     let mut groups: BTreeMap<(Part, u32, bool), Vec<&Refused>> = BTreeMap::new();
-    for refused in &run.refused {
+    // Missing fields are told by themselves.
+    let told = |refused: &&Refused| refused.refusal != Refusal::FieldsMissing;
+    for refused in run.refused.iter().filter(told) {
         // Whether a chain was in force says something of a section alone.
         let chain = refused.part == Part::Section && refused.chain;
         let group = (refused.part, refused.refusal.number(), chain);
@@ -407,8 +468,7 @@ fn refusal(run: &Run, clock: Clock, group: &[&Refused]) -> Warning {
     if group.len() == 1 || place.is_empty() {
         place.push(format!("record {}", one.place));
     }
-    let mut place = place.join(", ");
-    place[..1].make_ascii_uppercase();
+    let place = capital(place.join(", "));
     let (grade, why) = why(one);
     let what = match one.part {
         Part::Subframe => "sub-frame",

@@ -9,7 +9,7 @@ use jobsheet::receiver::{Answer, Receiver};
 use jobsheet::recording::{Reader, Record, RECORD_LEN};
 use jobsheet::sheet::Sheet;
 use jobsheet::{csv, html, phone, text, time};
-use osnma::{Outcome, Refusal, TagRecord};
+use osnma::{Marks, Outcome, Refusal, TagRecord};
 use second_receiver::navdata::SET_LEN;
 use std::collections::{BTreeMap, BTreeSet};
 use std::fmt::Write;
@@ -182,6 +182,7 @@ fn same_iodnav_other_bits() {
     let subframe = Record::Subframe {
         prn: 1,
         time: set.time,
+        marks: Marks::ALL,
         fields: [1; 75],
     };
     let answer = Answer {
@@ -368,6 +369,7 @@ fn expected(outcomes: &[u8], refused: bool) -> &'static str {
         (4, "nottaken"),
         (6, "nottaken"),
         (3, "noset"),
+        (8, "missing"),
     ];
     let first = order.iter().find(|(outcome, _)| outcomes.contains(outcome));
     match (first, refused) {
@@ -433,6 +435,7 @@ fn letter(sign: &str) -> char {
         ("noset", '-'),
         ("noplace", 'o'),
         ("nottaken", '?'),
+        ("missing", ':'),
         ("refused", '/'),
         ("nothing", '.'),
     ];
@@ -469,5 +472,5 @@ fn strips_are_the_replays_outcomes() {
             }
         }
     }
-    assert_eq!(seen.len(), 8, "{seen:?}");
+    assert_eq!(seen.len(), 9, "{seen:?}");
 }

@@ -101,11 +101,44 @@ fn plain_words() {
     assert!(text::sheet(&sheet("nominal")).contains("Nothing to warn of."));
 }
 
-// The strips and tables of the fitter's half hour fit a terminal of 100 columns.
+// Half an hour under trees: nothing to warn of, two notes on what was lost, and a sign of its own.
+#[test]
+fn lost_fields() {
+    for name in ["trees", "trees_1", "trees_3"] {
+        assert_eq!(told(name, Grade::Warning), [""; 0], "{name}");
+        let notes = told(name, Grade::Note);
+        says(
+            &notes,
+            &[
+                "Fields missing in",
+                "sub-frames. Ordinary under trees.",
+                "(number 17); nor ",
+                "sections whose first field was lost. The rest",
+            ],
+        );
+        says(&notes, &["Bits missing of", "tags."]);
+        assert_eq!(notes.iter().filter(|t| t.contains("issing")).count(), 2);
+        assert!(notes.iter().all(|t| !t.contains("blocks refused")));
+        let sheet = sheet(name);
+        let page = html::page(&sheet);
+        assert!(page.contains("<use href=\"#missing\""), "{name}");
+        assert!(page.contains("with bits missing</dd>"), "{name}");
+        assert!(text::sheet(&sheet).contains(": missing"));
+        let csv = jobsheet::csv::sheet(&history(&recording(name)));
+        assert!(csv.contains(",8,bits missing,"), "{name}");
+    }
+    // Where nothing is lost nothing is said of it.
+    let page = html::page(&sheet("nominal"));
+    assert!(!page.contains("bits missing<") && !page.contains("Fields missing"));
+}
+
+// The strips and tables of the fitter's half hour, and of one under trees, fit a terminal of 100 columns.
 #[test]
 fn text_is_narrow() {
-    for line in text::sheet(&sheet("fitter")).lines() {
-        assert!(line.chars().count() <= 100, "{line}");
+    for name in ["fitter", "trees"] {
+        for line in text::sheet(&sheet(name)).lines() {
+            assert!(line.chars().count() <= 100, "{line}");
+        }
     }
 }
 
@@ -122,7 +155,14 @@ fn warnings_first() {
 // No network, no script; a name cannot leave its place; every element that is opened is closed.
 #[test]
 fn page_stands_alone() {
-    for name in ["fitter", "emergency", "starts", "week_change", "records"] {
+    for name in [
+        "fitter",
+        "emergency",
+        "starts",
+        "week_change",
+        "records",
+        "trees",
+    ] {
         let sheet = Sheet::of("<a&\"'b>.rec", &history(&recording(name)));
         let page = html::page(&sheet);
         assert!(page.contains("&lt;a&amp;&quot;&#39;b&gt;.rec"));

@@ -1,18 +1,19 @@
-//! A digest of all that the core answers and leaves: `digest_calls COUNT SEED`.
+//! A digest of all that the core answers and leaves: `digest_calls COUNT SEED [whole]`.
 //!
 //! Makes every call of the named runs and COUNT calls drawn at random, and prints a digest of every answer, tag record
-//! and byte of every region so far: after each run, then after every 10,000 calls.
+//! and byte of every region so far: after each run, then after every 10,000 calls. With `whole` no sub-frame has marks,
+//! for an archive that does not know them.
 //! Two archives of the core print the same lines only if they do the same; `side_by_side` compares them.
 
 #[path = "../tests/common/mod.rs"]
 mod common;
 
-use common::driver::{call_of, Driver};
+use common::driver::{call_of, input_without_marks, Driver};
 use common::twin::{Answer, Twin};
 use osnma::regions::Regions;
 use signal::replay::RECORD;
 use signal::rng::Rng;
-use signal::scenario::{self, MacFunctions};
+use signal::scenario::{self, MacFunctions, Pages};
 use std::process::ExitCode;
 
 const EVERY: u64 = 10_000;
@@ -103,17 +104,20 @@ fn replay(input: &[u8], digest: &mut Digest) -> Result<(), String> {
     Ok(())
 }
 
-fn run(count: u64, seed: u64) -> Result<(), String> {
+fn run(count: u64, seed: u64, pages: Pages) -> Result<(), String> {
     let mut digest = Digest {
         lanes: [1, 2],
         calls: 0,
     };
     for scenario in scenario::all() {
-        let run = scenario.run(scenario::SEED);
+        let mut run = scenario.run(scenario::SEED);
+        if pages == Pages::Whole {
+            input_without_marks(&mut run.bytes);
+        }
         replay(&run.bytes, &mut digest).map_err(|error| format!("{}: {error}", run.name))?;
         digest.print(&run.name);
     }
-    let mut driver = Driver::new(seed, 60, MacFunctions::Both)?;
+    let mut driver = Driver::new(seed, 60, MacFunctions::Both, pages)?;
     for _ in 0..count.div_ceil(EVERY) {
         driver.run_and_show(EVERY, |answer, twin| digest.call(answer, twin))?;
         digest.print("random");
@@ -123,13 +127,17 @@ fn run(count: u64, seed: u64) -> Result<(), String> {
 }
 
 fn main() -> ExitCode {
-    let words = std::env::args().skip(1);
-    let numbers: Vec<u64> = words.map_while(|word| word.parse().ok()).collect();
+    let words: Vec<String> = std::env::args().skip(1).collect();
+    let numbers: Vec<u64> = words.iter().map_while(|word| word.parse().ok()).collect();
     let [count, seed] = numbers[..] else {
-        eprintln!("digest_calls COUNT SEED");
+        eprintln!("digest_calls COUNT SEED [whole]");
         return ExitCode::from(2);
     };
-    match run(count, seed) {
+    let pages = match words.last().is_some_and(|word| word == "whole") {
+        true => Pages::Whole,
+        false => Pages::Lost,
+    };
+    match run(count, seed, pages) {
         Ok(()) => ExitCode::SUCCESS,
         Err(error) => {
             println!("DIFFERENCE from the second receiver: {error}");

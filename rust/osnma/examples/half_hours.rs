@@ -1,5 +1,5 @@
-//! Half hours of the bench signal, some of twelve minutes and with CMAC-AES, with random damage, into the
-//! core and the second receiver: `half_hours COUNT SEED`. Records are left out, repeated, exchanged, or
+//! Half hours of the bench signal, some of twelve minutes and with CMAC-AES, some under trees, with random damage,
+//! into the core and the second receiver: `half_hours COUNT SEED`. Records are left out, repeated, exchanged, or
 //! changed in a bit or in their satellite. Stops at the first difference; prints how often each answer came
 //! for each call.
 
@@ -15,7 +15,7 @@ use std::process::ExitCode;
 use std::time::Instant;
 
 /// Bytes of a record that are read, by its kind.
-const READ: [u64; 5] = [1, 132, 22, 81, 180];
+const READ: [u64; 7] = [1, 132, 22, 81, 180, 1, 83];
 
 /// The records with about one in `rate` damaged.
 fn damaged(records: &[u8], rng: &mut Rng, rate: u64) -> Vec<u8> {
@@ -35,7 +35,7 @@ fn damaged(records: &[u8], rng: &mut Rng, rate: u64) -> Vec<u8> {
                 2 if at + 1 < records.len() => records.swap(at, at + 1),
                 3 => records[at][1] = rng.range(1, 37) as u8,
                 _ => {
-                    let place = rng.below(READ[kind.min(4)]) as usize;
+                    let place = rng.below(READ[kind % 7]) as usize;
                     records[at][place] ^= 1 << rng.below(8);
                 }
             }
@@ -62,6 +62,7 @@ fn main() -> ExitCode {
             1 => "cmac_128",
             2 => "cmac_192",
             3 => "cmac_256",
+            4 => ["trees", "trees_1", "trees_3"][(at / 8 % 3) as usize],
             _ => "fitter",
         };
         let run = find(name).expect("a scenario").run(rng.number());

@@ -1,30 +1,33 @@
-//! Random calls into the core and the second receiver: `random_calls COUNT SEED [hmac]`. Stops at the
-//! first difference; prints how often each answer came for each call. With `hmac` no root names CMAC-AES.
+//! Random calls into the core and the second receiver: `random_calls COUNT SEED [hmac] [whole]`. Stops at
+//! the first difference; prints how often each answer came for each call. With `hmac` no root names
+//! CMAC-AES, with `whole` no sub-frame has marks.
 
 #[path = "../tests/common/mod.rs"]
 mod common;
 
 use common::driver::Driver;
-use signal::scenario::MacFunctions;
+use signal::scenario::{MacFunctions, Pages};
 use std::process::ExitCode;
 use std::time::Instant;
 
 fn main() -> ExitCode {
-    let mut words: Vec<String> = std::env::args().skip(1).collect();
-    let functions = match words.last().map(String::as_str) {
-        Some("hmac") => {
-            words.pop();
-            MacFunctions::Hmac
-        }
-        _ => MacFunctions::Both,
+    let words: Vec<String> = std::env::args().skip(1).collect();
+    let says = |wanted: &str| words.iter().any(|word| word == wanted);
+    let functions = match says("hmac") {
+        true => MacFunctions::Hmac,
+        false => MacFunctions::Both,
+    };
+    let pages = match says("whole") {
+        true => Pages::Whole,
+        false => Pages::Lost,
     };
     let numbers: Vec<u64> = words.iter().map_while(|word| word.parse().ok()).collect();
     let [count, seed] = numbers[..] else {
-        eprintln!("random_calls COUNT SEED [hmac]");
+        eprintln!("random_calls COUNT SEED [hmac] [whole]");
         return ExitCode::from(2);
     };
     let began = Instant::now();
-    let run = Driver::new(seed, 60, functions).and_then(|mut driver| {
+    let run = Driver::new(seed, 60, functions, pages).and_then(|mut driver| {
         let result = driver.run(count);
         println!("seed {seed}, {} states to begin at", driver.states());
         print!("{}", driver.tally);

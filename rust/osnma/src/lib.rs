@@ -56,6 +56,9 @@
 //! # let (mut core, mut records) = (Core::new(), osnma::NO_RECORDS);
 //! # half_minute(&mut core, &mut records, 1, Gst::from_bits(0), &[0; 75]);
 //! ```
+//!
+//! A sub-frame of which fields did not come is lent with its [`Marks`], by
+//! [`Core::subframe_marked`].
 
 #![no_std]
 #![warn(missing_docs)]
@@ -69,6 +72,7 @@
 )]
 
 mod gst;
+mod marks;
 mod raw;
 mod refusal;
 #[doc(hidden)]
@@ -76,6 +80,7 @@ pub mod regions;
 mod tag_record;
 
 pub use gst::Gst;
+pub use marks::Marks;
 pub use refusal::Refusal;
 pub use tag_record::{Outcome, TagRecord, TagRecords};
 
@@ -241,6 +246,40 @@ impl Core {
         let (mut hkroot, mut mack) = (0, 0);
         let mut lent = self.regions.lend();
         let count = lent.subframe(records, prn, time.bits(), fields, &mut hkroot, &mut mack);
+        SubframeAnswer {
+            hkroot: answered(hkroot),
+            mack: answered(mack),
+            tags: TagRecords::of(records, count),
+        }
+    }
+
+    /// The authentication fields of a sub-frame of which some may not have been received. With
+    /// [`Marks::ALL`] it is [`subframe`](Core::subframe) in all. What the bytes of a lost field hold
+    /// changes nothing.
+    ///
+    /// Tags that cannot be judged for want of a bit have [`Outcome::BitsMissing`]: all of a block
+    /// whose key is missing; a tag that is missing itself, or, of a fixed field but the first, its
+    /// MAC-Info; and all flexible ones where MACSEQ or MAC-Info of a flexible field is. A missing key
+    /// is not looked at, and neither is a missing spare bit.
+    ///
+    /// # Refusals
+    /// Those of [`subframe`](Core::subframe), in its order, but for:
+    /// - [`Refusal::AllZero`]: all fields that were received, if any, are zero;
+    /// - [`Refusal::FieldsMissing`], after it, with the time noted: in the HKROOT half, before its
+    ///   others, where any field is lost (nothing is stored, dropped or taken out); in the MACK half,
+    ///   before its others, where the first is.
+    pub fn subframe_marked<'a>(
+        &mut self,
+        prn: u8,
+        time: Gst,
+        marks: Marks,
+        fields: &[u8; FIELDS_LEN],
+        records: &'a mut Records,
+    ) -> SubframeAnswer<'a> {
+        let (mut hkroot, mut mack) = (0, 0);
+        let mut lent = self.regions.lend();
+        let (time, marks) = (time.bits(), marks.bits());
+        let count = lent.subframe_marked(records, prn, time, marks, fields, &mut hkroot, &mut mack);
         SubframeAnswer {
             hkroot: answered(hkroot),
             mack: answered(mack),

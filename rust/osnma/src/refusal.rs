@@ -2,7 +2,7 @@
 
 use core::fmt;
 
-/// Why a call was refused: the numbers of document 01's table. What a refusal leaves behind is said
+/// Why a call was refused: the numbers of document 01's table, and 17 of document 02. What a refusal leaves behind is said
 /// at each call.
 #[derive(Clone, Copy, Debug, PartialEq, Eq, Hash)]
 #[non_exhaustive]
@@ -16,7 +16,7 @@ pub enum Refusal {
     OutOfOrder,
     /// 4: an emergency message stopped the core; only a new start ends this.
     Stopped,
-    /// 5: 75 zero bytes.
+    /// 5: all fields that were received are zero bytes: 75 of them where none is lost.
     AllZero,
     /// 6: a block or message whose number of blocks, block ID, size or type cannot be.
     BlockUnfit,
@@ -42,13 +42,16 @@ pub enum Refusal {
     VerdictBad,
     /// 16: no authentic set for this PRN since the start.
     NoSet,
+    /// 17: fields of the sub-frame are missing: any for the HKROOT half, the first for the MACK
+    /// half.
+    FieldsMissing,
     /// A number that the table has not. The contracts of the proved calls leave none; it would tell
     /// of another library.
     Unlisted(u32),
 }
 
 /// The refusals by number, from 1 on.
-const LISTED: [Refusal; 16] = [
+const LISTED: [Refusal; 17] = [
     Refusal::WrongLength,
     Refusal::OutOfRange,
     Refusal::OutOfOrder,
@@ -65,6 +68,7 @@ const LISTED: [Refusal; 16] = [
     Refusal::NotWaiting,
     Refusal::VerdictBad,
     Refusal::NoSet,
+    Refusal::FieldsMissing,
 ];
 
 impl Refusal {
@@ -87,6 +91,7 @@ impl Refusal {
             Refusal::NotWaiting => 14,
             Refusal::VerdictBad => 15,
             Refusal::NoSet => 16,
+            Refusal::FieldsMissing => 17,
             Refusal::Unlisted(number) => number,
         }
     }
@@ -108,7 +113,7 @@ impl fmt::Display for Refusal {
             Refusal::OutOfRange => "an argument is out of its range",
             Refusal::OutOfOrder => "earlier than what came before",
             Refusal::Stopped => "stopped by an emergency message",
-            Refusal::AllZero => "75 zero bytes",
+            Refusal::AllZero => "nothing but zero bytes",
             Refusal::BlockUnfit => "a block or message of a size or type that cannot be",
             Refusal::KeyNotHeld => "the public key is not held",
             Refusal::ParametersUnfit => "chain parameters that are not taken",
@@ -120,6 +125,7 @@ impl fmt::Display for Refusal {
             Refusal::NotWaiting => "this does not wait for a verdict",
             Refusal::VerdictBad => "the verdict is bad",
             Refusal::NoSet => "no authentic set",
+            Refusal::FieldsMissing => "fields are missing",
             Refusal::Unlisted(_) => "a number that is not listed",
         };
         write!(f, "{text} ({})", self.number())
@@ -139,7 +145,7 @@ mod tests {
             assert_eq!(refusal.number(), number);
             assert_eq!(answered(number), Err(refusal));
         }
-        for number in [17, u32::MAX] {
+        for number in [18, u32::MAX] {
             assert_eq!(answered(number), Err(Refusal::Unlisted(number)));
         }
     }

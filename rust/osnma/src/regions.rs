@@ -193,6 +193,37 @@ impl Lent<'_> {
         }
     }
 
+    /// The same with a mark a field, 1 for received: field 0 in the top bit, and the lowest bit is
+    /// not read.
+    #[allow(clippy::too_many_arguments)]
+    pub fn subframe_marked(
+        &mut self,
+        area: &mut [u8],
+        prn: u8,
+        time: u32,
+        marks: u16,
+        fields: &[u8],
+        hkroot: &mut u32,
+        mack: &mut u32,
+    ) -> u32 {
+        // SAFETY: as above.
+        unsafe {
+            lend!(
+                osnma_regions_subframe_marked,
+                self.as_mut_ptr,
+                area.as_mut_ptr(),
+                area.len(),
+                prn,
+                time,
+                marks,
+                fields.as_ptr(),
+                fields.len(),
+                hkroot,
+                mack
+            )
+        }
+    }
+
     /// 1 good, 0 bad.
     pub fn verdict(&mut self, good: u8, key_id: u8, message: &[u8], signature: &[u8]) -> u32 {
         // SAFETY: as above.

@@ -3,7 +3,7 @@
 use crate::{Gst, RECORDS_LEN, RECORD_LEN};
 use core::iter::FusedIterator;
 
-/// What became of a tag: document 01's outcomes.
+/// What became of a tag: document 01's outcomes, and 8 of document 02.
 #[derive(Clone, Copy, Debug, PartialEq, Eq, Hash)]
 #[non_exhaustive]
 pub enum Outcome {
@@ -21,13 +21,16 @@ pub enum Outcome {
     SequenceUnfit,
     /// 7: it would wait, but all 256 places are taken.
     NoPlace,
+    /// 8: bits of it, of its block's key, of its field's MAC-Info or of what MACSEQ is made of are
+    /// missing, so that it cannot be judged.
+    BitsMissing,
     /// A number that is no outcome. The contracts of the proved calls leave none; it would tell of
     /// another library.
     Unlisted(u8),
 }
 
 /// The outcomes by number, from 1 on.
-const LISTED: [Outcome; 7] = [
+const LISTED: [Outcome; 8] = [
     Outcome::Authentic,
     Outcome::Wrong,
     Outcome::NoUsableSet,
@@ -35,6 +38,7 @@ const LISTED: [Outcome; 7] = [
     Outcome::Waits,
     Outcome::SequenceUnfit,
     Outcome::NoPlace,
+    Outcome::BitsMissing,
 ];
 
 impl Outcome {
@@ -48,6 +52,7 @@ impl Outcome {
             Outcome::Waits => 5,
             Outcome::SequenceUnfit => 6,
             Outcome::NoPlace => 7,
+            Outcome::BitsMissing => 8,
             Outcome::Unlisted(number) => number,
         }
     }
@@ -67,15 +72,16 @@ pub struct TagRecord {
     pub outcome: Outcome,
     /// PRN of the satellite that sent it.
     pub sender: u8,
-    /// PRN of the satellite that it authenticates, as the tag names it.
+    /// PRN of the satellite that it authenticates, as the tag names it; 0 where bits of it are
+    /// missing.
     pub prn: u8,
-    /// Its ADKD.
+    /// Its ADKD; 0 where bits of it are missing.
     pub adkd: u8,
     /// Block of the section that it came in, from 1.
     pub block: u8,
     /// Position in the block, from 1.
     pub position: u8,
-    /// IODnav of its set; 0 for outcomes 3, 4 and 6.
+    /// IODnav of its set; 0 for outcomes 3, 4, 6 and 8.
     pub iodnav: u16,
     /// When it came.
     pub time: Gst,
@@ -142,7 +148,7 @@ mod tests {
             assert_eq!(outcome.number(), number);
             assert_eq!(Outcome::of(number), outcome);
         }
-        for number in [0, 8, 255] {
+        for number in [0, 9, 255] {
             assert_eq!(Outcome::of(number), Outcome::Unlisted(number));
             assert_eq!(Outcome::of(number).number(), number);
         }

@@ -199,6 +199,10 @@ fn one_change_of_a_declaration_is_seen() {
             "uint8_t prn, uint32_t time,\n    const",
             "uint8_t prn, uint16_t time,\n    const",
         ),
+        (
+            "uint32_t time, uint16_t marks,\n    const",
+            "uint32_t time, uint8_t marks,\n    const",
+        ),
         ("uint32_t *clocks", "const uint32_t *clocks"),
         ("const uint16_t *present", "uint16_t *present"),
         ("uint32_t osnma_regions_word", "uint8_t osnma_regions_word"),
@@ -216,6 +220,7 @@ fn one_change_of_a_declaration_is_seen() {
         ("ns: u8,\n        id: u8", "id: u8,\n        ns: u8"),
         ("since: *mut u32", "sinc: *mut u32"),
         ("time: u32", "time: u64"),
+        ("marks: u16", "marks: u32"),
         ("clocks: *mut u32", "clocks: *const u32"),
         ("present: *const u16", "present: *mut u16"),
         (") -> u32;", ") -> u8;"),

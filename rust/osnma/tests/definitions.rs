@@ -15,7 +15,7 @@ use second_receiver::chain::{Chain, TeslaKey};
 use second_receiver::mack::Layout;
 use second_receiver::Receiver;
 use signal::rng::Rng;
-use signal::scenario::MacFunctions;
+use signal::scenario::{MacFunctions, Pages};
 use signal::subframe;
 use signal::time::Gst;
 use std::collections::BTreeMap;
@@ -179,7 +179,18 @@ fn subframe(r: &mut Regions, rng: &mut Rng) -> Call {
         0 => [0; 75],
         _ => subframe::join(&hkroot, &right.unwrap_or(any)),
     };
-    Call::Subframe { prn, time, fields }
+    // Flexible fields in any place, the first too.
+    if rng.once_in(4) {
+        r.config[rng.range(2, 29) as usize] = 255;
+    }
+    let marks = None;
+    let call = Call::Subframe {
+        prn,
+        time,
+        marks,
+        fields,
+    };
+    draw::with_marks(rng, call)
 }
 
 /// What a call gives: its number, the bytes read and the numbers read; of a sub-frame the count of records,
@@ -206,9 +217,20 @@ fn by_core(r: &mut Regions, call: &Call) -> Given {
             ))
         }
         Call::Word { prn, time, word } => told(lent.word(*prn, *time, word)),
-        Call::Subframe { prn, time, fields } => {
-            let (mut area, mut hkroot, mut mack) = (AREA, 17, 17);
-            let count = lent.subframe(&mut area, *prn, *time, fields, &mut hkroot, &mut mack);
+        Call::Subframe {
+            prn,
+            time,
+            marks,
+            fields,
+        } => {
+            let (mut area, mut hkroot, mut mack) = (AREA, 77, 77);
+            let (prn, time, lent_area) = (*prn, *time, &mut area);
+            let count = match *marks {
+                None => lent.subframe(lent_area, prn, time, fields, &mut hkroot, &mut mack),
+                Some(bits) => {
+                    lent.subframe_marked(lent_area, prn, time, bits, fields, &mut hkroot, &mut mack)
+                }
+            };
             (count.into(), area.to_vec(), [hkroot.into(), mack.into()])
         }
         Call::Verdict {
@@ -250,9 +272,14 @@ fn by_rules(run: &mut rules::Run, call: &Call) -> Given {
             ))
         }
         Call::Word { prn, time, word } => told(run.word(*prn, *time, word)),
-        Call::Subframe { prn, time, fields } => {
+        Call::Subframe {
+            prn,
+            time,
+            marks,
+            fields,
+        } => {
             run.lend_area(&AREA);
-            let told = run.subframe(*prn, *time, fields);
+            let told = run.subframe(*prn, *time, marks.unwrap_or(rules::ALL_CAME), fields);
             (told.records as u64, run.area(), [told.hkroot, told.mack])
         }
         Call::Verdict {
@@ -292,8 +319,8 @@ fn any_contents() {
         let rules = Rules::load(&crates, Hashes::Portable).unwrap_or_else(|e| panic!("{e}"));
         let mut rng = Rng::new(11);
         let tree = draw::tree(&mut rng);
-        let states =
-            driver::states(11, 2, MacFunctions::Both).unwrap_or_else(|error| panic!("{error}"));
+        let states = driver::states(11, 2, MacFunctions::Both, Pages::Lost)
+            .unwrap_or_else(|error| panic!("{error}"));
         let mut answers: BTreeMap<(Kind, [u64; 2]), u64> = BTreeMap::new();
         for at in 0..CALLS {
             let mut regions = match rng.below(8) {

@@ -57,7 +57,7 @@ fn recorded_runs() {
             count += 1;
         }
     }
-    assert_eq!(count, 22, "recorded runs found");
+    assert_eq!(count, 24, "recorded runs found");
 }
 
 /// What `rt check replay` runs.
@@ -99,7 +99,7 @@ fn mixed(rng: &mut Rng, records: usize) -> Vec<u8> {
     for _ in 1..records {
         let mut record = rng.bytes(RECORD);
         if !rng.once_in(4) {
-            record[0] = rng.below(6) as u8;
+            record[0] = rng.below(7) as u8;
         }
         // Mostly a satellite, and a time of some week.
         if !rng.once_in(4) {

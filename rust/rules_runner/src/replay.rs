@@ -1,6 +1,6 @@
-//! The replay program over the definitions: 256-byte records in, lines out (01, "The replay program").
+//! The replay program over the definitions: 256-byte records in, lines out (01, "The replay program"; 02, P3).
 
-use crate::rules::{Rules, Run, RECORD_LEN};
+use crate::rules::{Rules, Run, ALL_CAME, RECORD_LEN};
 use std::fmt::Write;
 
 const INPUT_LEN: usize = 256;
@@ -52,10 +52,14 @@ impl<'r> Replay<'r> {
                 (number, 0, 0)
             }
             2 | 4 if !self.started => (NO_START, 0, 0),
-            3 if !self.started => (NO_START, NO_START, 0),
+            3 | 6 if !self.started => (NO_START, NO_START, 0),
             2 => (self.run.word(r[1], gst(&r[2..6]), &r[6..22]), 0, 0),
-            3 => {
-                let answer = self.run.subframe(r[1], gst(&r[2..6]), &r[6..81]);
+            3 | 6 => {
+                let marks = match r[0] {
+                    6 => u16::from_be_bytes([r[81], r[82]]),
+                    _ => ALL_CAME,
+                };
+                let answer = self.run.subframe(r[1], gst(&r[2..6]), marks, &r[6..81]);
                 (answer.hkroot, answer.mack, answer.records)
             }
             4 => (self.run.verdict(r[1], r[2], &r[3..48], &r[48..180]), 0, 0),

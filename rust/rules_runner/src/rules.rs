@@ -10,6 +10,8 @@ use std::rc::Rc;
 /// Bytes lent for tag records, and of one of them.
 pub const AREA_LEN: usize = 3240;
 pub const RECORD_LEN: usize = 12;
+/// The marks of a sub-frame whose fields all came.
+pub const ALL_CAME: u16 = u16::MAX;
 
 /// The sixteen regions of a state, in the order of crates/rules/specs/State.antt.
 pub type Regions = [Vec<u64>; 16];
@@ -293,10 +295,12 @@ impl Run<'_> {
         )
     }
 
-    pub fn subframe(&mut self, prn: u8, time: u32, fields: &[u8]) -> SubframeAnswer {
+    /// Of the marks the first field's is the top bit, and the lowest bit is not read (02, P3).
+    pub fn subframe(&mut self, prn: u8, time: u32, marks: u16, fields: &[u8]) -> SubframeAnswer {
         let input = self.rules.record(vec![
             ("prn", number(prn)),
             ("time", Value::Number(time.into())),
+            ("marks", Value::Number(marks.into())),
             ("bytes", list(fields)),
         ]);
         let arguments = vec![self.state.clone(), self.area.clone(), input];

@@ -10,9 +10,11 @@ use std::fs;
 use std::path::{Path, PathBuf};
 
 /// The recorded inputs that are run here.
-const RUN: [&str; 21] = [
+const RUN: [&str; 23] = [
     "P1_cmac_nominal",
     "P1_mf_changes",
+    "P3_hkroot",
+    "P3_lost_2_128_12",
     "a_empty",
     "a_example",
     "a_framing",

@@ -12,7 +12,7 @@ use signal::scenario;
 use std::collections::HashSet;
 
 /// Named runs that take long here: by their length, or by long ways down the key chain.
-const LONG: [&str; 13] = [
+const LONG: [&str; 17] = [
     "cmac_damaged",
     "every_ns",
     "field_bits",
@@ -20,11 +20,15 @@ const LONG: [&str; 13] = [
     "full_sky",
     "gap_full",
     "gaps",
+    "lost_fields_1",
+    "lost_fields_2",
     "message_bits",
     "outcomes",
     "sections",
     "sizes_1",
     "sizes_2",
+    "trees",
+    "trees_3",
     "word_bits",
 ];
 

@@ -6,6 +6,7 @@
 //! in one place:
 //!
 //! - `numbers`: the numbers that calls return;
+//! - `received`: which fields of a sub-frame came;
 //! - `bits`: bit strings read from and written to bytes;
 //! - `times`: GST_SF, seconds, key slots;
 //! - `navdata`: I/NAV words 1 to 5 of each satellite and the 549 authenticated bits;
@@ -15,7 +16,7 @@
 //! - `mac`: the MAC functions that a root can name;
 //! - `chain`: the TESLA chain in force and its key walk;
 //! - `verdict`: the message that waits and what a verdict on it does;
-//! - `mack`: the layout of a MACK section and the check of its keys;
+//! - `mack`: the layout of a MACK section, what of it is missing, and the check of its keys;
 //! - `tags`: MACSEQ, tag outcomes, waiting tags, authentic sets, tag records;
 //! - `receiver`: the calls of 01 over the whole state;
 //! - `replay`: the replay program's format.
@@ -32,6 +33,7 @@ pub mod navdata;
 pub mod numbers;
 pub mod pkr;
 pub mod public_keys;
+pub mod received;
 pub mod receiver;
 pub mod replay;
 pub mod tags;

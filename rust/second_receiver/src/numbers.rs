@@ -36,3 +36,5 @@ pub const NOT_WAITING: Number = 14;
 pub const BAD_VERDICT: Number = 15;
 /// No authentic set for this PRN since start.
 pub const NO_SET: Number = 16;
+/// Fields of the sub-frame are missing (02, P3).
+pub const FIELDS_MISSING: Number = 17;

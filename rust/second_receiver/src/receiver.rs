@@ -3,18 +3,19 @@
 use crate::chain::Chain;
 use crate::gather::{nma_status, Dsm, DsmStore, Gathered, Hkroot, HKROOT_LEN};
 use crate::kroot;
-use crate::mack::{self, Layout, Section, SECTION_LEN};
+use crate::mack::{self, Layout, Missing, Section, SECTION_LEN};
 use crate::navdata::{svid, word_type, SatelliteWords, Words, SET_LEN, WORD_LEN};
 use crate::numbers::*;
 use crate::pkr::{self, Proved, NODE_LEN};
 use crate::public_keys::{is_key_id, key_len, PublicKey, PublicKeys, MAX_KEY_LEN};
+use crate::received::{Received, FIELDS, FIELD_LEN};
 use crate::tags::{AuthenticSet, AuthenticSets, Marks, ProvedSection, Record};
 use crate::tags::{WaitingTag, MARKS, RECORD_LEN};
 use crate::times::{is_prn, Gst, RootTime, SATELLITES};
 use crate::verdict::{filled, Vouched, WaitingMessage, MESSAGE_LEN, SIGNATURE_LEN};
 
 /// The authentication fields of a sub-frame: 15 of five bytes.
-pub const FIELDS_LEN: usize = 75;
+pub const FIELDS_LEN: usize = FIELDS * FIELD_LEN;
 /// The lent record area: 256 due tags and 14 of the section's own.
 pub const RECORDS_LEN: usize = 3_240;
 
@@ -186,9 +187,21 @@ impl Receiver {
         fields: &[u8],
         records: &mut [u8],
     ) -> SubframeAnswer {
+        self.subframe_received(prn, gst, Received::ALL, fields, records)
+    }
+
+    /// The same with a mark for each field, 1 for received (02, P3). Each half's first check is 17.
+    pub fn subframe_received(
+        &mut self,
+        prn: u8,
+        gst: u32,
+        received: Received,
+        fields: &[u8],
+        records: &mut [u8],
+    ) -> SubframeAnswer {
         let time = Gst(gst);
-        let (hkroot, section) = match self.admit(prn, time, fields, records.len()) {
-            Ok(fields) => split(fields),
+        let (hkroot, section) = match self.admit(prn, time, received, fields, records.len()) {
+            Ok(fields) => split(&fields),
             Err(number) => {
                 return SubframeAnswer {
                     hkroot: number,
@@ -198,7 +211,7 @@ impl Receiver {
             }
         };
         let hkroot = Hkroot::read(&hkroot);
-        let hkroot_number = number(self.hkroot_half(&hkroot, time));
+        let hkroot_number = number(self.hkroot_half(&hkroot, received, time));
         // The sub-frame of a proved emergency message returns 0 and 4 (A37).
         if self.stopped {
             return SubframeAnswer {
@@ -207,7 +220,7 @@ impl Receiver {
                 records: 0,
             };
         }
-        match self.mack_half(prn, time, hkroot.header, &section) {
+        match self.mack_half(prn, time, received, hkroot.header, &section) {
             Ok(list) => {
                 for (place, record) in records.chunks_exact_mut(RECORD_LEN).zip(&list) {
                     place.copy_from_slice(record);
@@ -226,14 +239,16 @@ impl Receiver {
         }
     }
 
-    /// Checks 1, 2, 4, 3, 5. The time is noted by all that pass 3 (A10, A11).
-    fn admit<'a>(
+    /// Checks 1, 2, 4, 3, 5. The time is noted by all that pass 3 (A10, A11). Gives the fields, zero
+    /// where they did not come.
+    fn admit(
         &mut self,
         prn: u8,
         time: Gst,
-        fields: &'a [u8],
+        received: Received,
+        fields: &[u8],
         records_len: usize,
-    ) -> Result<&'a [u8; FIELDS_LEN], Number> {
+    ) -> Result<[u8; FIELDS_LEN], Number> {
         require(self.is_started(), NO_CHAIN)?;
         let fields: &[u8; FIELDS_LEN] = fields.try_into().map_err(|_| WRONG_LENGTH)?;
         require(records_len == RECORDS_LEN, WRONG_LENGTH)?;
@@ -245,12 +260,22 @@ impl Receiver {
         require(!earlier && !not_later, OUT_OF_ORDER)?;
         *clock = Some(time);
         self.last_subframe = Some(time);
-        require(fields.iter().any(|&byte| byte != 0), ZERO_FIELDS)?;
-        Ok(fields)
+        // 5 is judged on the fields that came, if any (B10).
+        let came = received.only(fields);
+        let all_zero = received.has_any() && came == [0; FIELDS_LEN];
+        require(!all_zero, ZERO_FIELDS)?;
+        Ok(came)
     }
 
-    /// Gathers a block; judges a complete DSM: KROOT 7, 8, 6; PKR 6, 10, 9.
-    fn hkroot_half(&mut self, hkroot: &Hkroot, time: Gst) -> Result<(), Number> {
+    /// Check 17: each field brings one byte of HKROOT, and all are needed (B9b). Then gathers a
+    /// block; judges a complete DSM: KROOT 7, 8, 6; PKR 6, 10, 9.
+    fn hkroot_half(
+        &mut self,
+        hkroot: &Hkroot,
+        received: Received,
+        time: Gst,
+    ) -> Result<(), Number> {
+        require(received.has_all(), FIELDS_MISSING)?;
         let Some(setup) = &self.setup else {
             return Err(NO_CHAIN);
         };
@@ -268,19 +293,23 @@ impl Receiver {
         Ok(())
     }
 
-    /// Checks 11, then block by block 13, 12; then the tags.
+    /// Checks 17 where the first field, with status and CID, is missing (B9); 11, then block by
+    /// block 13, 12; then the tags.
     fn mack_half(
         &mut self,
         prn: u8,
         time: Gst,
+        received: Received,
         header: u8,
         section: &[u8; SECTION_LEN],
     ) -> Result<Vec<Record>, Number> {
+        require(received.has(0), FIELDS_MISSING)?;
         let setup = self.setup.as_ref().ok_or(NO_CHAIN)?;
         let chain = mack::applicable(self.vouched.chain.as_mut(), header, time)?;
         let layout = Layout::of(&chain.parameters).ok_or(NO_CHAIN)?;
         let section = Section::read(section, &layout);
-        mack::prove_keys(chain, &section, prn, time)?;
+        let missing = Missing::of(received, &layout);
+        mack::prove_received_keys(chain, &section, &missing, prn, time)?;
         let proved = ProvedSection {
             sender: prn,
             time,
@@ -289,7 +318,8 @@ impl Receiver {
             tag_bits: layout.tag_bits,
         };
         let waiting = &mut self.vouched.waiting_tags;
-        Ok(proved.judge(
+        Ok(proved.judge_received(
+            &missing,
             chain,
             &setup.marks,
             &self.words,

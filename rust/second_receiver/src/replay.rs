@@ -1,8 +1,10 @@
-//! The replay program: 256-byte records in, lines out (01, "The replay program").
+//! The replay program: 256-byte records in, lines out (01, "The replay program"). Kind 6 is a
+//! sub-frame with its marks (02, P3).
 
 use crate::navdata::SET_LEN;
 use crate::numbers::{Number, ACCEPTED, OUT_OF_RANGE, WRONG_LENGTH};
 use crate::public_keys::{key_len, MAX_KEY_LEN};
+use crate::received::Received;
 use crate::receiver::{Receiver, SubframeAnswer, RECORDS_LEN};
 use crate::tags::RECORD_LEN;
 use crate::times::SATELLITES;
@@ -58,6 +60,10 @@ fn answer(receiver: &mut Receiver, record: &[u8; INPUT_LEN], area: &mut [u8]) ->
         2 => one(receiver.word(r[1], gst(&r[2..6]), &r[6..22])),
         3 => receiver.subframe(r[1], gst(&r[2..6]), &r[6..81], area),
         4 => one(receiver.verdict(r[1], r[2], &r[3..48], &r[48..180])),
+        6 => {
+            let received = Received(u16::from_be_bytes([r[81], r[82]]));
+            receiver.subframe_received(r[1], gst(&r[2..6]), received, &r[6..81], area)
+        }
         _ => one(OUT_OF_RANGE),
     }
 }

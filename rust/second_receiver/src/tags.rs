@@ -1,10 +1,10 @@
 //! MACSEQ, the outcomes of tags, waiting tags, authentic sets and tag records (000, 5.5 and 5.6;
-//! 01, MACK).
+//! 01, MACK; 02, P3).
 
 use crate::bits::BitString;
 use crate::chain::Chain;
 use crate::mac::MacKey;
-use crate::mack::{Field, Section};
+use crate::mack::{Field, Missing, Section, FIRST};
 use crate::navdata::{NavSet, Words};
 use crate::times::{is_prn, Gst, Slots, SATELLITES, SUBFRAME_SECONDS};
 use std::collections::BTreeMap;
@@ -28,6 +28,7 @@ pub enum Outcome {
     Waits = 5,
     MacseqFails = 6,
     NoPlace = 7,
+    BitsMissing = 8,
 }
 
 /// The two lists of marks given at start.
@@ -181,7 +182,7 @@ impl AuthenticSets {
 /// The twelve bytes that tell what became of a tag.
 pub type Record = [u8; RECORD_LEN];
 
-/// IODnav is 0 for outcomes 3, 4, 6, where there is no set (A69).
+/// IODnav is 0 for outcomes 3, 4, 6 and 8, where there is no set (A69).
 fn record(outcome: Outcome, tag: &Tag, set: Option<&NavSet>) -> Record {
     let iodnav = set.map_or(0, NavSet::iodnav).to_be_bytes();
     let time = tag.time.0.to_be_bytes();
@@ -249,10 +250,37 @@ impl ProvedSection<'_> {
         macseq == key.code(&self.macseq_message(marks), MACSEQ_BITS)
     }
 
-    /// Judges the waiting tags that are due, in the order in which they came, then the section's
-    /// own in theirs.
+    /// A tag of which bits are missing, as its record shows it: 0 for a PRN or ADKD with a lost bit.
+    /// Those of tag0 are not sent (B14).
+    fn shown(&self, field: &Field, missing: &Missing) -> Tag {
+        let (mut tag, place) = (self.tag(field), field.place());
+        if place != FIRST && missing.prns.contains(&place) {
+            tag.prn = 0;
+        }
+        if place != FIRST && missing.adkds.contains(&place) {
+            tag.adkd = 0;
+        }
+        tag
+    }
+
+    /// Judges the tags of a whole section.
     pub fn judge(
         &self,
+        chain: &Chain,
+        marks: &Marks,
+        words: &Words,
+        waiting: &mut Vec<WaitingTag>,
+        authentic: &mut AuthenticSets,
+    ) -> Vec<Record> {
+        let missing = Missing::default();
+        self.judge_received(&missing, chain, marks, words, waiting, authentic)
+    }
+
+    /// Judges the waiting tags that are due, in the order in which they came, then the section's
+    /// own in theirs.
+    pub fn judge_received(
+        &self,
+        missing: &Missing,
         chain: &Chain,
         marks: &Marks,
         words: &Words,
@@ -265,8 +293,23 @@ impl ProvedSection<'_> {
         *waiting = later;
 
         let now = self.time.seconds();
-        let fields = &self.section.fields;
-        let block_slots = fields.iter().map(|f| chain.slots.of_tags(now, f.block));
+        let marks = marks.at(self.time);
+        let fields = || self.section.fields.iter().zip(marks);
+        let flexible = || fields().filter(|(_, mark)| **mark == FLEXIBLE);
+        let macseq_missing =
+            missing.macseq || flexible().any(|(field, _)| missing.infos.contains(&field.place()));
+        let is_missing = |field: &Field, mark| bits_missing(field, mark, missing, macseq_missing);
+        // A field that is judged has its block's key, so that no slot wanted is above the held one;
+        // block 1's, for MACSEQ, is not above any (B6b).
+        let judged: Vec<_> = fields()
+            .filter(|(f, mark)| !is_missing(f, **mark))
+            .collect();
+        let macseq_wanted = judged.iter().any(|(_, mark)| **mark == FLEXIBLE);
+        let macseq_slot = chain.slots.of_tags(now, 1);
+        let block_slots = judged
+            .iter()
+            .map(|(f, _)| chain.slots.of_tags(now, f.block))
+            .chain(macseq_wanted.then_some(macseq_slot));
         let due_slots = due.iter().map(|waiting| waiting.tag.key_slot(&chain.slots));
         let keys = tag_keys(chain, block_slots.chain(due_slots).collect());
         let key_of = |tag: &Tag| &keys[&tag.key_slot(&chain.slots)];
@@ -279,9 +322,14 @@ impl ProvedSection<'_> {
             }
             records.push(record(outcome, tag, Some(set)));
         }
-        let marks = marks.at(self.time);
-        let macseq_holds = self.macseq_holds(marks, &keys[&chain.slots.of_tags(now, 1)]);
-        for (field, mark) in fields.iter().zip(marks) {
+        let macseq_holds = macseq_wanted && self.macseq_holds(marks, &keys[&macseq_slot]);
+        for (field, mark) in fields() {
+            // 8 stands before the others (B15).
+            if is_missing(field, *mark) {
+                let tag = self.shown(field, missing);
+                records.push(record(Outcome::BitsMissing, &tag, None));
+                continue;
+            }
             let tag = self.tag(field);
             let (outcome, set) = match early_outcome(&tag, *mark, macseq_holds) {
                 Some(outcome) => (outcome, None),
@@ -307,6 +355,17 @@ impl ProvedSection<'_> {
         }
         records
     }
+}
+
+/// Outcome 8: the key of its block, the tag itself, or MAC-Info that it needs is missing. That is
+/// its own for a fixed field but the first; for a flexible one all that enters MACSEQ, or MACSEQ.
+fn bits_missing(field: &Field, mark: u8, missing: &Missing, macseq_missing: bool) -> bool {
+    let place = field.place();
+    let info_missing = match mark {
+        FLEXIBLE => macseq_missing,
+        _ => place != FIRST && missing.infos.contains(&place),
+    };
+    missing.keys.contains(&field.block) || missing.tags.contains(&place) || info_missing
 }
 
 /// Outcomes 4 and 6, which need no set: ADKD not 0, 11, 12, or not the fixed one, or PRN not 1 to

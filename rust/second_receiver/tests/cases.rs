@@ -39,6 +39,6 @@ fn all_cases() {
             }
         }
     }
-    assert_eq!(count, 22, "inputs found");
+    assert_eq!(count, 24, "inputs found");
     assert!(differences.is_empty(), "{}", differences.join("\n"));
 }

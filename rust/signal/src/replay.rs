@@ -2,7 +2,7 @@
 
 use crate::mack::Marks;
 use crate::navdata::{Authenticated, Word};
-use crate::subframe::Field;
+use crate::subframe::{Field, Received};
 use crate::time::Gst;
 
 /// Bytes of a record.
@@ -76,6 +76,11 @@ pub fn word(prn: u8, gst: Gst, word: &Word) -> [u8; RECORD] {
 /// A record of kind 3.
 pub fn subframe(prn: u8, gst: Gst, field: &Field) -> [u8; RECORD] {
     record(&[&[3, prn], &gst.bytes(), field])
+}
+
+/// A record of kind 6: a sub-frame with its marks (02, P3).
+pub fn subframe_marked(prn: u8, gst: Gst, marks: Received, field: &Field) -> [u8; RECORD] {
+    record(&[&[6, prn], &gst.bytes(), field, &marks.to_be_bytes()])
 }
 
 /// A record of kind 4.
@@ -310,6 +315,17 @@ mod tests {
         run.expects.never.push(1);
         run.expects.some.push(2);
         assert!(run.check("1 0 0 0\n2 2 0 0\n3 5 5 0\n", None).is_err());
+    }
+
+    #[test]
+    fn marked_record() {
+        let (gst, field) = (Gst::new(947, 432_000), [9; 75]);
+        let (plain, marked) = (
+            subframe(18, gst, &field),
+            subframe_marked(18, gst, 0xBFFE, &field),
+        );
+        assert_eq!((marked[0], &marked[1..81]), (6, &plain[1..81]));
+        assert_eq!(marked[80..84], [9, 0xBF, 0xFE, 0]);
     }
 
     #[test]

@@ -502,6 +502,17 @@ static void test_stopped(void)
 static uint8_t hkroot[15], section[60], fields[OSNMA_FIELDS];
 static uint8_t records[OSNMA_RECORDS], want_records[OSNMA_RECORDS];
 
+/* Where 1, sub-frames are lent with these marks. */
+static int with_marks;
+static uint16_t marks = OSNMA_ALL_RECEIVED;
+
+static struct osnma_halves lend_fields(unsigned prn, uint32_t time)
+{
+    return with_marks
+               ? osnma_subframe_marked(&core, (uint8_t)prn, time, marks, fields, records)
+               : osnma_subframe(&core, (uint8_t)prn, time, fields, records);
+}
+
 static void check_halves(struct osnma_halves answer, enum osnma_answer right_hkroot,
                          enum osnma_answer right_mack, unsigned right_count, int line)
 {
@@ -520,8 +531,7 @@ static void check_halves(struct osnma_halves answer, enum osnma_answer right_hkr
 
 /* The sub-frame answers these numbers and this count, and leaves `want` and `want_records`. */
 #define HALVES(prn, time, hkroot, mack, count)                                                     \
-    check_halves(osnma_subframe(&core, (uint8_t)(prn), time, fields, records), hkroot, mack,       \
-                 count, __LINE__)
+    check_halves(lend_fields(prn, time), hkroot, mack, count, __LINE__)
 
 /* The fields of a sub-frame: a byte of HKROOT, then four of the section, fifteen times. */
 static void join(void)
@@ -725,13 +735,9 @@ static void want_annex_section(uint32_t t)
     want.arrivals[17] = t + 1;
 }
 
-static void test_section(void)
+/* The root in force, E18's words held, and its section to be sent. */
+static void await_annex_section(void)
 {
-    const uint32_t t = osnma_gst(947, 432030);
-    struct osnma_tag_record record;
-    uint8_t set[OSNMA_SET];
-    uint16_t iodnav;
-    uint32_t time;
     unsigned i;
     put_annex_root_in_force();
     for (i = 0; i < 5; i++) {
@@ -740,6 +746,16 @@ static void test_section(void)
         ANSWERS(osnma_word(&core, 18, osnma_gst(947, 432000), word), OSNMA_DONE);
     }
     memcpy(section, annex_section, sizeof section);
+}
+
+static void test_section(void)
+{
+    const uint32_t t = osnma_gst(947, 432030);
+    struct osnma_tag_record record;
+    uint8_t set[OSNMA_SET];
+    uint16_t iodnav;
+    uint32_t time;
+    await_annex_section();
     make_block(0xC2, 0, 0, annex_dsm);
     want_block(17, t);
     HALVES(17, t, OSNMA_DONE, OSNMA_NOT_IN_FORCE, 0); /* status 3 */
@@ -772,6 +788,90 @@ static void test_section(void)
     want.present[0] = 0;
     want_block(18, osnma_gst(949, 0));
     HALVES(18, osnma_gst(949, 0), OSNMA_DONE, OSNMA_TOO_FAR, 0);
+}
+
+/* The field is lost: any bytes stand in its place. */
+static void lose(unsigned field)
+{
+    marks = (uint16_t)(marks & ~OSNMA_RECEIVED(field));
+    memset(fields + 5 * field, 0x5A, 5);
+}
+
+/* The record of a tag of the annex's section of which bits are missing. */
+static void want_missing(unsigned i, unsigned prn, unsigned adkd)
+{
+    uint8_t *record = want_records + OSNMA_RECORD * i;
+    record[0] = OSNMA_BITS_MISSING;
+    record[2] = (uint8_t)prn;
+    record[3] = (uint8_t)adkd;
+    record[6] = record[7] = 0;
+}
+
+static void test_missing(void)
+{
+    const uint32_t t = osnma_gst(947, 432030);
+    struct osnma_tag_record record;
+    unsigned i, k;
+    CHECK(OSNMA_RECEIVED(0) == 0x8000u && OSNMA_RECEIVED(14) == 2u);
+    with_marks = 1;
+    /* Nothing came, with and without the bit that is not read; then all but the first field. */
+    await_annex_section();
+    make_block(0x82, 0, 0, annex_dsm);
+    for (i = 0; i < 3; i++) {
+        marks = (uint16_t)(i < 2 ? i : OSNMA_ALL_RECEIVED & ~OSNMA_RECEIVED(0));
+        want_noted(1 + i, t);
+        HALVES(1 + i, t, OSNMA_FIELDS_MISSING, OSNMA_FIELDS_MISSING, 0);
+        HALVES(1 + i, t, OSNMA_OUT_OF_ORDER, OSNMA_OUT_OF_ORDER, 0);
+    }
+    /* Each other field: the block is not held, and the section is looked at. */
+    for (i = 1; i < 15; i++) {
+        make_block(0xC2, 0, 0, annex_dsm);
+        marks = OSNMA_ALL_RECEIVED;
+        lose(i);
+        want_noted(18 + i, t);
+        HALVES(18 + i, t, OSNMA_FIELDS_MISSING, OSNMA_NOT_IN_FORCE, 0); /* status 3 */
+    }
+    /* Zeros in all fields that came. */
+    memset(fields, 0, sizeof fields);
+    marks = OSNMA_ALL_RECEIVED;
+    lose(7);
+    want_noted(4, t);
+    HALVES(4, t, OSNMA_ALL_ZERO, OSNMA_ALL_ZERO, 0);
+
+    /* The key of block 2 is bits 352 to 479 of the section: field 11 has some of them. */
+    make_block(0x82, 0, 0, annex_dsm);
+    marks = OSNMA_ALL_RECEIVED;
+    lose(11);
+    want_noted(18, t);
+    want_annex_section(t);
+    want.numbers[0] = 90;
+    memcpy(want.heldkey, annex_section + 14, 16);
+    for (i = 4; i < 8; i++)
+        want_missing(i, 0, 0);
+    HALVES(18, t, OSNMA_FIELDS_MISSING, OSNMA_DONE, 8);
+    record = osnma_record(records, 7);
+    CHECK(record.outcome == OSNMA_BITS_MISSING && record.block == 2 && record.position == 4);
+    CHECK(record.sender == 18 && record.iodnav == 0 && record.time == t);
+
+    /* Field 2 has bits 64 to 95: of the third tag and its MAC-Info, and of the fourth tag. The second
+     * and third are flexible. Of the second PRN and ADKD came. */
+    for (k = 0; k < 2; k++) {
+        marks = OSNMA_ALL_RECEIVED;
+        await_annex_section();
+        make_block(0x82, 0, 0, annex_dsm);
+        marks = (uint16_t)(OSNMA_ALL_RECEIVED | k);
+        lose(2);
+        want_noted(18, t);
+        want_annex_section(t);
+        want.numbers[1] = 0;
+        memset(want.waiting, 0, OSNMA_WAITING_COUNT);
+        want_missing(1, 255, 4);
+        want_missing(2, 0, 0);
+        want_missing(3, 0, 0);
+        HALVES(18, t, OSNMA_FIELDS_MISSING, OSNMA_DONE, 8);
+    }
+    marks = OSNMA_ALL_RECEIVED;
+    with_marks = 0;
 }
 
 /* DSM-PKR of types that no key has, of a wrong size, and with nodes that do not give the root. */
@@ -832,6 +932,17 @@ static enum osnma_answer counted_subframe(const size_t *n)
     return (enum osnma_answer)of_hkroot;
 }
 
+static enum osnma_answer counted_subframe_marked(const size_t *n)
+{
+    uint32_t of_hkroot = 77, of_mack = 77;
+    uint32_t count = osnma_regions_subframe_marked(LENT(n), records, n[17], 6, osnma_gst(947, 432000),
+                                                   OSNMA_RECEIVED(0), fields, n[16], &of_hkroot,
+                                                   &of_mack);
+    CHECK(count == 0 && memcmp(records, want_records, sizeof records) == 0);
+    CHECK(of_hkroot == OSNMA_FIELDS_MISSING ? of_mack == OSNMA_NOT_IN_FORCE : of_mack == of_hkroot);
+    return (enum osnma_answer)of_hkroot;
+}
+
 static enum osnma_answer counted_verdict(const size_t *n)
 {
     return (enum osnma_answer)osnma_regions_verdict(LENT(n), 0, 3, message, n[16], signature,
@@ -887,6 +998,8 @@ static void short_counts(enum osnma_answer (*call)(const size_t *), const size_t
         want_word(5, osnma_gst(947, 432000));
     if (call == counted_subframe)
         want_block(5, osnma_gst(947, 432000));
+    if (call == counted_subframe_marked)
+        want_noted(6, osnma_gst(947, 432000));
     if (call == counted_verdict)
         want_no_offer();
     if (call == counted_start)
@@ -908,6 +1021,7 @@ static void test_counts(void)
     short_counts(counted_word, of_word, 1, OSNMA_DONE);
     make_block(0x82, 7, 1, annex_dsm);
     short_counts(counted_subframe, of_subframe, 2, OSNMA_DONE);
+    short_counts(counted_subframe_marked, of_subframe, 2, OSNMA_FIELDS_MISSING);
     short_counts(counted_verdict, of_verdict, 2, OSNMA_VERDICT_BAD);
     short_counts(counted_start, of_start, 3, OSNMA_DONE);
 }
@@ -955,9 +1069,14 @@ int main(int argc, char **argv)
     test_verdicts();
     test_read_set();
     test_stopped();
-    test_blocks();
-    test_section();
-    test_key_messages();
+    /* With all marks 1 the call with marks is the other one. */
+    for (with_marks = 1; with_marks >= 0; with_marks--) {
+        test_blocks();
+        test_section();
+        test_key_messages();
+    }
+    with_marks = 0;
+    test_missing();
     test_counts();
     printf("%lu calls, %lu checks\n", calls, checks);
     return 0;

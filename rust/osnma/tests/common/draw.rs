@@ -303,6 +303,7 @@ fn blocks(rng: &mut Rng, header: u8, id: u8, message: &[u8], time: u32) -> Vec<C
         Call::Subframe {
             prn: first + block as u8,
             time,
+            marks: None,
             fields: subframe::join(&dsm::hkroot(header, id, message, block), &section),
         }
     });
@@ -376,7 +377,49 @@ pub fn subframe(rng: &mut Rng, receiver: &Receiver) -> Call {
         }
         _ => {}
     }
-    Call::Subframe { prn, time, fields }
+    Call::Subframe {
+        prn,
+        time,
+        marks: None,
+        fields,
+    }
+}
+
+/// Half of the sub-frames with marks: mostly all fields came, else one or two are lost, sometimes any. Any bytes in
+/// those that are lost.
+pub fn with_marks(rng: &mut Rng, mut call: Call) -> Call {
+    if let Call::Subframe { marks, fields, .. } = &mut call {
+        if marks.is_none() && rng.once_in(2) {
+            let drawn = match rng.below(16) {
+                0 => rng.number() as u16,
+                _ => subframe::under_trees(rng),
+            };
+            subframe::spoil(rng, drawn, fields);
+            *marks = Some(drawn);
+        }
+    }
+    call
+}
+
+/// The blocks of a message, half of the messages with marks; of every eighth of these one block loses a field.
+pub fn message_with_marks(rng: &mut Rng, calls: &mut [Call]) {
+    if !rng.once_in(2) {
+        return;
+    }
+    let lossy = match rng.below(8) {
+        0 => rng.below(calls.len() as u64) as usize,
+        _ => calls.len(),
+    };
+    for (at, call) in calls.iter_mut().enumerate() {
+        if let Call::Subframe { marks, fields, .. } = call {
+            let drawn = match at == lossy {
+                true => subframe::without(&[rng.below(15) as usize]),
+                false => subframe::ALL_CAME | rng.below(2) as u16,
+            };
+            subframe::spoil(rng, drawn, fields);
+            *marks = Some(drawn);
+        }
+    }
 }
 
 /// A call as it is, or one time in four with a bit turned over or another satellite.
@@ -389,8 +432,11 @@ pub fn damaged(rng: &mut Rng, mut call: Call) -> Call {
             0 => *prn = self::prn(rng),
             _ => word[rng.below(16) as usize] ^= 1 << rng.below(8),
         },
-        Call::Subframe { prn, fields, .. } => match rng.below(6) {
+        Call::Subframe {
+            prn, marks, fields, ..
+        } => match rng.below(6) {
             0 => *prn = self::prn(rng),
+            5 if marks.is_some() => *marks = marks.map(|bits| bits ^ 1 << rng.below(16)),
             // A bit of the block, or of the section.
             1 => fields[5 * rng.below(15) as usize] ^= 1 << rng.below(8),
             _ => fields[rng.below(75) as usize] ^= 1 << rng.below(8),

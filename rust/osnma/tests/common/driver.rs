@@ -8,7 +8,8 @@ use signal::chain::AES_KEYS;
 use signal::dsm::Tree;
 use signal::replay::RECORD;
 use signal::rng::Rng;
-use signal::scenario::{self, MacFunctions};
+use signal::scenario::{self, MacFunctions, Pages};
+use signal::subframe::all_came;
 use std::collections::{BTreeMap, BTreeSet};
 use std::fmt;
 use std::rc::Rc;
@@ -17,17 +18,17 @@ use std::rc::Rc;
 const ANSWERS: [(Kind, &[u32]); 6] = [
     (Kind::Start, &[0, 1, 2]),
     (Kind::Word, &[0, 1, 2, 3, 4]),
-    (Kind::Subframe, &[0, 1, 2, 3, 4, 5, 6, 7, 8, 9, 10]),
+    (Kind::Subframe, &[0, 1, 2, 3, 4, 5, 6, 7, 8, 9, 10, 17]),
     (Kind::Verdict, &[0, 1, 2, 4, 9, 11, 14, 15]),
     (Kind::ReadSet, &[0, 1, 2, 16]),
     (Kind::ReadMessage, &[0, 1, 14]),
 ];
 
 /// The numbers that a sub-frame's MACK half can answer.
-const MACK: &[u32] = &[0, 1, 2, 3, 4, 5, 11, 12, 13];
+const MACK: &[u32] = &[0, 1, 2, 3, 4, 5, 11, 12, 13, 17];
 
 /// What good verdicts and sub-frames did, and what calls met.
-const EVENTS: [&str; 16] = [
+const EVENTS: [&str; 20] = [
     "first root",
     "root with CMAC-AES",
     "later root with another MAC function",
@@ -44,6 +45,10 @@ const EVENTS: [&str; 16] = [
     "stopped by an emergency message",
     "waiting tags judged",
     "call of a full core",
+    "sub-frame with marks, all fields came",
+    "sub-frame with lost fields",
+    "message completed by a sub-frame with marks",
+    "section with lost fields judged",
 ];
 
 /// How often each answer came.
@@ -90,7 +95,7 @@ impl Tally {
         let never = |number: &&u32| !self.mack.contains_key(*number);
         missing.extend(MACK.iter().filter(never).map(|n| format!("MACK {n}")));
         let never = |outcome: &u8| !self.outcomes.contains_key(outcome);
-        missing.extend((1..=7).filter(never).map(|n| format!("outcome {n}")));
+        missing.extend((1..=8).filter(never).map(|n| format!("outcome {n}")));
         missing
     }
 
@@ -148,9 +153,10 @@ pub fn call_of(record: &[u8]) -> Option<Call> {
             time: gst(record),
             word: record[6..22].try_into().ok()?,
         }),
-        3 => Some(Call::Subframe {
+        3 | 6 => Some(Call::Subframe {
             prn: record[1],
             time: gst(record),
+            marks: (record[0] == 6).then(|| u16::from_be_bytes([record[81], record[82]])),
             fields: record[6..81].try_into().ok()?,
         }),
         4 => Some(Call::Verdict {
@@ -181,8 +187,17 @@ pub fn without_cmac(fields: &mut [u8]) {
 /// The same for all sub-frames of a replay input.
 pub fn input_without_cmac(input: &mut [u8]) {
     for record in input.chunks_exact_mut(RECORD) {
-        if record[0] == 3 {
+        if matches!(record[0], 3 | 6) {
             without_cmac(&mut record[6..81]);
+        }
+    }
+}
+
+/// A replay input whose sub-frames with marks are records of no kind.
+pub fn input_without_marks(input: &mut [u8]) {
+    for record in input.chunks_exact_mut(RECORD) {
+        if record[0] == 6 {
+            record[0] = 0;
         }
     }
 }
@@ -231,7 +246,11 @@ fn shape(receiver: &Receiver) -> [usize; 7] {
 }
 
 /// Scenarios whose states are begun at, beside random mixes.
-const SCENARIOS: [&str; 14] = [
+const SCENARIOS: [&str; 18] = [
+    "trees",
+    "trees_1",
+    "trees_3",
+    "lost_keys",
     "cmac_192",
     "mf_changes",
     "nominal",
@@ -280,17 +299,25 @@ impl State {
 }
 
 /// States in the middle of scenarios, one or a few of each shape.
-pub fn states(seed: u64, mixes: u64, functions: MacFunctions) -> Result<Vec<State>, String> {
+pub fn states(
+    seed: u64,
+    mixes: u64,
+    functions: MacFunctions,
+    pages: Pages,
+) -> Result<Vec<State>, String> {
     let mut rng = Rng::new(seed);
     let named = SCENARIOS.iter().filter_map(|name| scenario::find(name));
     let runs = named
         .map(|scenario| scenario.run(scenario::SEED))
-        .chain((0..mixes).map(|mix| scenario::random_with(seed ^ mix << 32, functions)));
+        .chain((0..mixes).map(|mix| scenario::random_with(seed ^ mix << 32, functions, pages)));
     let mut states = Vec::new();
     for mut run in runs {
         let mut seen = BTreeSet::new();
         if functions == MacFunctions::Hmac {
             input_without_cmac(&mut run.bytes);
+        }
+        if pages == Pages::Whole {
+            input_without_marks(&mut run.bytes);
         }
         let bytes = Rc::new(run.bytes);
         let keep = |twin: &Twin, next: usize, rng: &mut Rng| {
@@ -315,6 +342,7 @@ pub struct Driver {
     rng: Rng,
     tree: Tree,
     functions: MacFunctions,
+    pages: Pages,
     states: Vec<State>,
     state: State,
     /// Calls until the next state is begun at.
@@ -325,13 +353,20 @@ pub struct Driver {
 }
 
 impl Driver {
-    /// With HMAC-SHA-256 alone no root names CMAC-AES, so that a core from before it answers the same.
-    pub fn new(seed: u64, mixes: u64, functions: MacFunctions) -> Result<Driver, String> {
+    /// With HMAC-SHA-256 alone no root names CMAC-AES, so that a core from before it answers the same; with whole
+    /// pages no sub-frame has marks, for a core from before them.
+    pub fn new(
+        seed: u64,
+        mixes: u64,
+        functions: MacFunctions,
+        pages: Pages,
+    ) -> Result<Driver, String> {
         let mut rng = Rng::new(seed);
         Ok(Driver {
             tree: draw::tree(&mut rng),
             functions,
-            states: states(seed, mixes, functions)?,
+            pages,
+            states: states(seed, mixes, functions, pages)?,
             state: State::new(&mut rng),
             left: 0,
             queue: Vec::new(),
@@ -383,7 +418,10 @@ impl Driver {
         if self.rng.once_in(100) {
             self.state.twin.refill(&mut self.rng);
         }
-        let call = self.draw();
+        let mut call = self.draw();
+        if self.pages == Pages::Lost && self.queue.is_empty() {
+            call = draw::with_marks(&mut self.rng, call);
+        }
         if self.rng.once_in(12) {
             return self.wrong_length(&call);
         }
@@ -426,6 +464,9 @@ impl Driver {
             2 => draw::key_message(rng, receiver, &self.tree, true),
             _ => draw::root_message(rng, receiver, self.functions),
         };
+        if self.pages == Pages::Lost {
+            draw::message_with_marks(rng, &mut self.queue);
+        }
         match self.queue.pop() {
             Some(call) => call,
             None => draw::word(rng, receiver),
@@ -450,8 +491,9 @@ impl Driver {
             Call::Verdict { .. } if answer.number == 0 => {
                 before.tell_verdict(&twin.receiver, &mut self.tally)
             }
-            Call::Subframe { time, .. } => {
-                before.tell_subframe(&twin.receiver, *time, &mut self.tally)
+            Call::Subframe { time, marks, .. } => {
+                before.tell_subframe(&twin.receiver, *time, &mut self.tally);
+                before.tell_marks(&twin.receiver, *marks, &answer, &mut self.tally);
             }
             _ => {}
         }
@@ -522,6 +564,33 @@ impl Before {
         }
         if now.keys < self.keys {
             tally.event("public keys dropped");
+        }
+    }
+
+    /// Tallies what came of a sub-frame with marks.
+    fn tell_marks(
+        &self,
+        receiver: &Receiver,
+        marks: Option<u16>,
+        answer: &Answer,
+        tally: &mut Tally,
+    ) {
+        let Some(marks) = marks else { return };
+        let now = Before::of(receiver);
+        let completed = now.message && !self.message || now.keys > self.keys;
+        let lost = !all_came(marks);
+        for (event, came) in [
+            ("sub-frame with marks, all fields came", !lost),
+            ("sub-frame with lost fields", lost),
+            ("message completed by a sub-frame with marks", completed),
+            (
+                "section with lost fields judged",
+                lost && !answer.outcomes.is_empty(),
+            ),
+        ] {
+            if came {
+                tally.event(event);
+            }
         }
     }
 

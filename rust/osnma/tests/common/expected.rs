@@ -56,7 +56,7 @@ impl Block {
         Block(stored.then_some(new))
     }
 
-    /// The sub-frame is past check 5.
+    /// The sub-frame is past check 5, and no field of it is lost.
     pub fn write(&self, regions: &mut Regions) {
         if let Some(new) = &self.0 {
             let place = 208 * usize::from(new.dsm_id) + 13 * usize::from(new.block_id);

@@ -126,11 +126,28 @@ fn answer(lent: &mut Loose, call: &Call, what: &str, wrong: Wrong) -> Result<u32
             &cut(&s.key, "the first key"),
         )),
         Call::Word { prn, time, word } => Ok(lent.word(*prn, *time, &cut(word, "the word"))),
-        Call::Subframe { prn, time, fields } => {
+        Call::Subframe {
+            prn,
+            time,
+            marks,
+            fields,
+        } => {
             let mut area = cut(&[0x5A; 3240], "the record area");
             let fields = cut(fields, "the fields");
             let (mut hkroot, mut mack) = (0x5A5A_5A5A, 0x5A5A_5A5A);
-            let count = lent.subframe(&mut area, *prn, *time, &fields, &mut hkroot, &mut mack);
+            let (prn, time, area_lent) = (*prn, *time, &mut area[..]);
+            let count = match *marks {
+                None => lent.subframe(area_lent, prn, time, &fields, &mut hkroot, &mut mack),
+                Some(bits) => lent.subframe_marked(
+                    area_lent,
+                    prn,
+                    time,
+                    bits,
+                    &fields,
+                    &mut hkroot,
+                    &mut mack,
+                ),
+            };
             match (count, hkroot == mack) {
                 (0, true) => stayed(&[&area], hkroot),
                 _ => Err("a count that is not 0, or halves that differ"),

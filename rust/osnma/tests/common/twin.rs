@@ -2,7 +2,8 @@
 
 use super::expected::{difference, write_known, Block};
 use osnma::regions::Regions;
-use osnma::{Core, Gst, Records, Settings, TagRecord};
+use osnma::{Core, Gst, Marks, Records, Settings, TagRecord};
+use second_receiver::received::Received;
 use second_receiver::Receiver;
 use signal::rng::Rng;
 
@@ -18,6 +19,8 @@ pub enum Call {
     Subframe {
         prn: u8,
         time: u32,
+        /// For the call with marks; any sixteen bits.
+        marks: Option<u16>,
         fields: [u8; 75],
     },
     Verdict {
@@ -177,7 +180,12 @@ impl Twin {
                 number(core.word(*prn, Gst::from_bits(*time), word)),
                 receiver.word(*prn, *time, word),
             ),
-            Call::Subframe { prn, time, fields } => return self.subframe(*prn, *time, fields),
+            Call::Subframe {
+                prn,
+                time,
+                marks,
+                fields,
+            } => return self.subframe(*prn, *time, *marks, fields),
             Call::Verdict {
                 good,
                 key_id,
@@ -202,15 +210,33 @@ impl Twin {
     }
 
     /// A sub-frame: both halves, the records as they are and as `Core` hands them out.
-    fn subframe(&mut self, prn: u8, time: u32, fields: &[u8; 75]) -> Result<Answer, String> {
+    fn subframe(
+        &mut self,
+        prn: u8,
+        time: u32,
+        marks: Option<u16>,
+        fields: &[u8; 75],
+    ) -> Result<Answer, String> {
         let block = Block::of(fields, time, &self.receiver);
-        let gst = Gst::from_bits(time);
-        let got = self.core.subframe(prn, gst, fields, &mut self.area);
+        let (gst, area) = (Gst::from_bits(time), &mut self.area);
+        let got = match marks {
+            None => self.core.subframe(prn, gst, fields, area),
+            Some(bits) => {
+                let marks = Marks::from_bits(bits);
+                self.core.subframe_marked(prn, gst, marks, fields, area)
+            }
+        };
         let (hkroot, mack) = (number(got.hkroot), number(got.mack));
         let tags: Vec<TagRecord> = got.tags.collect();
-        let right = self
-            .receiver
-            .subframe(prn, time, fields, &mut self.want_area);
+        let area = &mut self.want_area;
+        let right = match marks {
+            None => self.receiver.subframe(prn, time, fields, area),
+            Some(bits) => {
+                let received = Received(bits);
+                self.receiver
+                    .subframe_received(prn, time, received, fields, area)
+            }
+        };
         let halves = (u32::from(right.hkroot), u32::from(right.mack));
         same("halves", &(hkroot, mack), &halves)?;
         same("count of records", &tags.len(), &right.records)?;
@@ -218,7 +244,7 @@ impl Twin {
         for (tag, record) in tags.iter().zip(records.clone()) {
             same("record", &&bytes(tag)[..], &record)?;
         }
-        if !(1..=5).contains(&hkroot) {
+        if !matches!(hkroot, 1..=5 | 17) {
             block.write(&mut self.want);
         }
         Ok(Answer {

@@ -8,6 +8,7 @@ pub mod annex;
 
 use portable_aes::cmac;
 use portable_hash::{hmac_sha256, sha256};
+use second_receiver::received::Received;
 use second_receiver::receiver::RECORDS_LEN;
 use second_receiver::Receiver;
 
@@ -418,10 +419,22 @@ impl Bench {
         hkroot: &[u8],
         section: &[u8],
     ) -> (Numbers, Vec<Vec<u8>>) {
+        self.received(prn, gst, u16::MAX, &fields(hkroot, section))
+    }
+
+    /// Lends the 75 bytes of a sub-frame with its marks.
+    pub fn received(
+        &mut self,
+        prn: u8,
+        gst: u32,
+        marks: u16,
+        fields: &[u8],
+    ) -> (Numbers, Vec<Vec<u8>>) {
         let before = self.area.clone();
+        let marks = Received(marks);
         let answer = self
             .receiver
-            .subframe(prn, gst, &fields(hkroot, section), &mut self.area);
+            .subframe_received(prn, gst, marks, fields, &mut self.area);
         let used = 12 * answer.records;
         assert_eq!(self.area[used..], before[used..], "bytes past the records");
         let records = self.area[..used].chunks(12).map(<[u8]>::to_vec).collect();

@@ -6,7 +6,7 @@ use crate::mack::{Info, Layout, Marks, Sending, FLEXIBLE};
 use crate::navdata::NavSet;
 use crate::replay::{self, Read, Run, Start, Verdict};
 use crate::rng::Rng;
-use crate::subframe::{self, Hkroot, Mack};
+use crate::subframe::{self, Field, Hkroot, Mack, Received};
 use crate::time::Gst;
 use std::rc::Rc;
 
@@ -234,6 +234,14 @@ impl Bench {
     pub fn subframe(&mut self, prn: u8, gst: Gst, hkroot: &Hkroot, mack: &Mack) {
         self.run
             .push(replay::subframe(prn, gst, &subframe::join(hkroot, mack)));
+    }
+
+    /// A sub-frame with its marks, at the present time; any bytes where a page did not come.
+    pub fn subframe_marked(&mut self, prn: u8, marks: Received, field: &Field) {
+        let mut field = *field;
+        subframe::spoil(&mut self.rng, marks, &mut field);
+        let record = replay::subframe_marked(prn, self.now, marks, &field);
+        self.run.push(record);
     }
 
     /// A correct sub-frame at the present time; without a chain that it fits, a MACK section of ones and zeros.

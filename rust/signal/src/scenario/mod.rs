@@ -6,6 +6,7 @@
 mod bench;
 mod cmac;
 mod gathering;
+mod lost;
 mod parameters;
 mod random;
 mod realistic;
@@ -14,7 +15,7 @@ mod tags;
 
 use crate::replay::Run;
 
-pub use random::{random, random_with, MacFunctions};
+pub use random::{random, random_with, MacFunctions, Pages};
 
 /// A named scenario.
 #[derive(Clone, Copy)]
@@ -319,6 +320,43 @@ const ALL: &[Scenario] = &[
         "mf_changes",
         "the MAC function changes while slow tags wait",
         cmac::mf_changes,
+    ),
+    scenario(
+        "trees",
+        "half an hour under trees: a field or two of a sub-frame lost now and then",
+        realistic::trees,
+    ),
+    scenario(
+        "trees_1",
+        "the same with one block and CMAC-AES",
+        realistic::trees_1,
+    ),
+    scenario("trees_3", "the same with three blocks", realistic::trees_3),
+    scenario(
+        "lost_fields_1",
+        "each field of a sub-frame lost in turn, every KS and MS with one block",
+        lost::fields_1,
+    ),
+    scenario("lost_fields_2", "the same with two blocks", lost::fields_2),
+    scenario(
+        "lost_fields_3",
+        "the same with three blocks",
+        lost::fields_3,
+    ),
+    scenario(
+        "lost_keys",
+        "keys lost: slow tags, far keys, spare bits, damaged keys",
+        lost::keys,
+    ),
+    scenario(
+        "lost_parts",
+        "tags, MAC-Info and MACSEQ lost, where other outcomes hold too",
+        lost::parts,
+    ),
+    scenario(
+        "lost_blocks",
+        "messages whose blocks lose bytes, and zeros where fields are lost",
+        lost::blocks,
     ),
 ];
 

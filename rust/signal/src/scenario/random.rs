@@ -34,9 +34,19 @@ pub enum MacFunctions {
     Both,
 }
 
+/// What comes of the pages of a mix's sub-frames.
+#[derive(Clone, Copy, Debug, PartialEq, Eq)]
+pub enum Pages {
+    /// All of them.
+    Whole,
+    /// Some are lost: half of the sub-frames have marks.
+    Lost,
+}
+
 struct Mix {
     b: Bench,
     functions: MacFunctions,
+    pages: Pages,
     /// One in so many calls is damaged; 0 for none.
     damage: u64,
     /// The leaf of the tree whose key signs the roots.
@@ -48,11 +58,11 @@ struct Mix {
 
 /// A mix from a seed. A quarter of the seeds give undamaged runs, the others are damaged more and more.
 pub fn random(seed: u64) -> Run {
-    random_with(seed, MacFunctions::Both)
+    random_with(seed, MacFunctions::Both, Pages::Lost)
 }
 
-/// The same with chains of these MAC functions.
-pub fn random_with(seed: u64, functions: MacFunctions) -> Run {
+/// The same with chains of these MAC functions, and sub-frames of which pages are lost or not.
+pub fn random_with(seed: u64, functions: MacFunctions, pages: Pages) -> Run {
     let name = format!("random_{seed}");
     let mut b = Bench::new(&name, "a mix of valid, damaged and random records", seed);
     let damage = [0, 40, 12, 4][(seed % 4) as usize];
@@ -60,6 +70,7 @@ pub fn random_with(seed: u64, functions: MacFunctions) -> Run {
     let mut mix = Mix {
         b,
         functions,
+        pages,
         damage,
         leaf,
         last: None,
@@ -95,7 +106,7 @@ fn shuffle(bytes: &mut Vec<u8>, rng: &mut Rng, damage: u64) {
         match rng.below(4) {
             0 => records.swap(at - 1, at),
             1 => records[at] = records[other].clone(),
-            2 => records[at][0] = rng.below(6) as u8,
+            2 => records[at][0] = rng.below(7) as u8,
             _ => {
                 let bit = rng.below(8 * 182) as usize;
                 bits::flip(&mut records[at], bit);
@@ -356,7 +367,19 @@ impl Mix {
                 _ => bits::flip(&mut field, self.b.rng.below(600) as usize),
             }
         }
-        self.b.run.push(replay::subframe(prn, gst, &field));
+        if self.pages == Pages::Lost && self.b.rng.once_in(2) {
+            let rng = &mut self.b.rng;
+            let marks = match rng.below(16) {
+                0 => rng.number() as u16,
+                _ => subframe::under_trees(rng),
+            };
+            subframe::spoil(rng, marks, &mut field);
+            self.b
+                .run
+                .push(replay::subframe_marked(prn, gst, marks, &field));
+        } else {
+            self.b.run.push(replay::subframe(prn, gst, &field));
+        }
     }
 
     fn half_minute(&mut self) {
@@ -531,9 +554,9 @@ impl Mix {
             let mut record: [u8; RECORD] = self.b.rng.array();
             let places = self.b.run.places();
             match self.b.rng.below(3) {
-                0 => record[0] = self.b.rng.below(6) as u8,
+                0 => record[0] = self.b.rng.below(7) as u8,
                 1 => {
-                    record[0] = self.b.rng.range(2, 3) as u8;
+                    record[0] = *self.b.rng.pick(&[2, 3, 6]);
                     record[1] = self.b.rng.range(1, 36) as u8;
                     record[2..6].copy_from_slice(&self.b.now.bytes());
                 }

@@ -6,6 +6,7 @@ use crate::dsm;
 use crate::mack::{Info, FLEXIBLE};
 use crate::navdata::NavSet;
 use crate::replay::{self, Read, Run};
+use crate::subframe;
 use crate::time::Gst;
 use std::rc::Rc;
 
@@ -419,6 +420,8 @@ pub fn last_week(name: &str, about: &str, seed: u64) -> Run {
 /// Half an hour of the satellites seen, a DSM-KROOT going round all the time.
 struct HalfHour {
     root: Root,
+    /// Pages of a sub-frame are lost now and then.
+    trees: bool,
     vouched: bool,
     turn: usize,
     /// Blocks sent so far, a bit each.
@@ -427,14 +430,20 @@ struct HalfHour {
 
 impl HalfHour {
     fn begin(b: &mut Bench) -> Self {
+        Self::begin_with(b, |params| params)
+    }
+
+    /// The same with other parameters.
+    fn begin_with(b: &mut Bench, change: fn(Params) -> Params) -> Self {
         b.start();
-        let params = b.params(0);
+        let params = change(b.params(0));
         let chain = b.chain(params, 90);
         let root = b.root(b.header, &chain);
         b.now = chain.start();
         b.force = Some(chain);
         HalfHour {
             root,
+            trees: false,
             vouched: false,
             turn: 0,
             sent: 0,
@@ -447,11 +456,24 @@ impl HalfHour {
         let count = dsm::blocks(&self.root.dsm);
         for prn in b.seen.clone() {
             let block = (self.turn + usize::from(prn) % 8) % count;
-            self.sent |= 1 << block;
             let hkroot = dsm::hkroot(self.root.header, 5, &self.root.dsm, block);
             let mack = b.section(prn, b.now);
-            b.subframe(prn, b.now, &hkroot, &mack);
-            b.run.gives(0, if self.vouched { 0 } else { 11 });
+            let second = if self.vouched { 0 } else { 11 };
+            if !self.trees {
+                self.sent |= 1 << block;
+                b.subframe(prn, b.now, &hkroot, &mack);
+                b.run.gives(0, second);
+                continue;
+            }
+            let marks = subframe::under_trees(&mut b.rng);
+            b.subframe_marked(prn, marks, &subframe::join(&hkroot, &mack));
+            if subframe::all_came(marks) {
+                self.sent |= 1 << block;
+                b.run.gives(0, second);
+            } else {
+                b.run
+                    .gives(17, if subframe::came(marks, 0) { second } else { 17 });
+            }
         }
         if !self.vouched && self.sent.count_ones() as usize == count {
             b.verdict(&self.root.verdict.clone(), 0);
@@ -518,6 +540,49 @@ pub fn full_sky(name: &str, about: &str, seed: u64) -> Run {
     b.run.expects.some = vec![1, 5, 7];
     b.run.expects.never = vec![2, 3, 4, 6];
     b.run
+}
+
+/// Under windbreak trees a page or two of a sub-frame is often missing (02, P3).
+fn trees_with(name: &str, about: &str, seed: u64, change: fn(Params) -> Params) -> Run {
+    let mut b = Bench::new(name, about, seed);
+    b.seen = vec![2, 5, 8, 13, 17, 22, 28, 34];
+    let mut signal = HalfHour::begin_with(&mut b, change);
+    signal.trees = true;
+    for n in 0..60 {
+        let changed: &[u8] = if n == 35 { &[8] } else { &[] };
+        signal.half_minute(&mut b, changed, |b, prn| b.sets[usize::from(prn) - 1]);
+    }
+    b.run.expects.some = vec![1, 5, 8];
+    b.run.expects.never = vec![2, 3, 4, 6, 7];
+    b.run
+}
+
+/// Two blocks of four fields, the second and third flexible.
+pub fn trees(name: &str, about: &str, seed: u64) -> Run {
+    trees_with(name, about, seed, |params| params)
+}
+
+/// One block of six fields under CMAC-AES.
+pub fn trees_1(name: &str, about: &str, seed: u64) -> Run {
+    let change = |params| Params {
+        nmack: 1,
+        mf: 1,
+        ks: 8,
+        ms: 5,
+        ..params
+    };
+    trees_with(name, about, seed, change)
+}
+
+/// Three blocks of two fields.
+pub fn trees_3(name: &str, about: &str, seed: u64) -> Run {
+    let change = |params| Params {
+        nmack: 3,
+        ks: 1,
+        ms: 0,
+        ..params
+    };
+    trees_with(name, about, seed, change)
 }
 
 /// A chain whose tags all are flexible and slow.

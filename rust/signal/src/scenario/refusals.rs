@@ -702,6 +702,8 @@ pub fn starts(name: &str, about: &str, seed: u64) -> Run {
         b.run.gives(11, 0);
         b.run.push(replay::subframe(0, Gst(u32::MAX), &[0; 75]));
         b.run.gives(11, 11);
+        b.run.push(replay::subframe_marked(37, Gst(0), 0, &[9; 75]));
+        b.run.gives(11, 11);
         b.run.push(replay::verdict(&Verdict::new(7, 77, &[], &[])));
         b.run.gives(11, 0);
         b.run.push([5; replay::RECORD]);
@@ -773,7 +775,7 @@ pub fn starts(name: &str, about: &str, seed: u64) -> Run {
 /// Kinds of records, and bytes that are not read.
 pub fn records(name: &str, about: &str, seed: u64) -> Run {
     let mut b = Bench::new(name, about, seed);
-    for kind in (0..=255).filter(|k| !(1..=4).contains(k)) {
+    for kind in (0..=255).filter(|k| !matches!(k, 1..=4 | 6)) {
         let mut record = [0xEE; replay::RECORD];
         record[0] = kind;
         b.run.push(record);
@@ -802,6 +804,11 @@ pub fn records(name: &str, about: &str, seed: u64) -> Run {
     let field = crate::subframe::join(&b.idle(), &b.section(1, b.now));
     let record = replay::subframe(1, b.now, &field);
     noisy(&mut b, record, 81, (0, 0));
+    b.run.outcomes(&[1, 3, 3, 3]);
+    b.step();
+    let field = crate::subframe::join(&b.idle(), &b.section(1, b.now));
+    let record = replay::subframe_marked(1, b.now, crate::subframe::ALL_CAME, &field);
+    noisy(&mut b, record, 83, (0, 0));
     b.run.outcomes(&[1, 3, 3, 3]);
     b.run
 }
