@@ -15,7 +15,7 @@ use Rattle.rules.specs.Chain.{Held, walk, keyOfSlot, keySlot}
 use Rattle.rules.specs.Claim.{Arrived, Disclosed, Vouched, FourThings, contentsBy, chainBy, rootBy, slotOfTag}
 use Rattle.rules.specs.Kroot.{chainWith, rootSecondsOf}
 use Rattle.rules.specs.Log.{Entry, Log, Once, sectionIn, chainIn}
-use Rattle.rules.specs.State.{State, waitingLength}
+use Rattle.rules.specs.State.{State, entryLength, waitingLength}
 use Rattle.rules.specs.Tags.{Work, tagMatches, tagKey, entryAt, entryTag, entrySet, isDue, dueJudged, duesJudged}
 use Rattle.rules.specs.Times.{keySeconds, tagSlot, lowestSlot, slotOf}
 use Rattle.rules.specs.Verdict.{Verdict, chainUnchanged}
@@ -77,7 +77,7 @@ module _ (o : Start) (b : State) (said : Verdict) (h : Held) (x : Entry) (l : Lo
 
   -- ---- due tags
 
-  due-is : (e : List ℕ) (w : Work) → length e ≡ 84 → WaitIs o (contentsBy said) e (x ∷ l) → WorkIs o b (contentsBy said) x l w → WorkIs o b (contentsBy said) x l (dueJudged chain h e w)
+  due-is : (e : List ℕ) (w : Work) → length e ≡ entryLength → WaitIs o (contentsBy said) e (x ∷ l) → WorkIs o b (contentsBy said) x l w → WorkIs o b (contentsBy said) x l (dueJudged chain h e w)
   unfolding dueJudged isDue
   due-is e w size i k =
       by-test (WorkIs o b (contentsBy said) x l) (leb (slotOfTag chain (entryTag e)) (h .slot))

@@ -20,7 +20,7 @@ use Rattle.rules.specs.Kroot.{offerId, inForce, parametersBad}
 use Rattle.rules.specs.Log.{Entry, Log, hkrootIn}
 use Rattle.rules.specs.Pkr.{Renewed, pkrJudged}
 use Rattle.rules.specs.Received.{fieldsCame}
-use Rattle.rules.specs.State.{State, Store, nsOf, macltOf, treeRoot, configLength, blocksLength, dsmIds, pubkeysLength}
+use Rattle.rules.specs.State.{State, Store, nsOf, macltOf, treeRoot, stoppedAt, configLength, blocksLength, dsmIds, pubkeysLength}
 use Rattle.rules.proofs.Bounds.{dsm-id-bound, offer-id-bound}
 use Rattle.rules.proofs.Choices.{by-number}
 use Rattle.rules.proofs.Gathering
@@ -75,24 +75,24 @@ module _ (st : Store) (t : ℕ) (x : Entry) (sub : Subframe) (l : Log)
 
 -- ---- settings: the mark of a stopped core leaves the others
 
-stopped-root : (c : List ℕ) → length c ≡ configLength → treeRoot (set c 62 1) ≡ treeRoot c
+stopped-root : (c : List ℕ) → length c ≡ configLength → treeRoot (set c stoppedAt 1) ≡ treeRoot c
 unfolding treeRoot
 stopped-root c h =
-    let p : length (part (set c 62 1) 30 32) ≡ 32 = length-part (set c 62 1) 30 32 (omega (arith, length-set c 62 1)) in
+    let p : length (part (set c stoppedAt 1) 30 32) ≡ 32 = length-part (set c stoppedAt 1) 30 32 (omega (arith, length-set c stoppedAt 1)) in
     let q : length (part c 30 32) ≡ 32 = length-part c 30 32 (omega arith) in
     ext-getD 0 _ _ (p ∙ sym q)
     (λ i k.
-    getD-part (set c 62 1) 30 32 i (omega arith)
-    ∙ getD-set-other c 62 (30 + i) 1 0 (λ e. absurd (omega (arith, e, k, p)))
+    getD-part (set c stoppedAt 1) 30 32 i (omega arith)
+    ∙ getD-set-other c stoppedAt (30 + i) 1 0 (λ e. absurd (omega (arith, e, k, p)))
     ∙ sym (getD-part c 30 32 i (omega arith)))
 
-stopped-ns : (c : List ℕ) → nsOf (set c 62 1) ≡ nsOf c
+stopped-ns : (c : List ℕ) → nsOf (set c stoppedAt 1) ≡ nsOf c
 unfolding nsOf
-stopped-ns c = let e = getD-set-other c 62 0 1 0 (λ z. absurd (omega (arith, z))) in rw e refl
+stopped-ns c = let e = getD-set-other c stoppedAt 0 1 0 (λ z. absurd (omega (arith, z))) in rw e refl
 
-stopped-force : (c chain : List ℕ) → inForce (set c 62 1) chain ≡ inForce c chain
+stopped-force : (c chain : List ℕ) → inForce (set c stoppedAt 1) chain ≡ inForce c chain
 unfolding inForce parametersBad macltOf
-stopped-force c chain = let e = getD-set-other c 62 1 1 0 (λ z. absurd (omega (arith, z))) in rw e refl
+stopped-force c chain = let e = getD-set-other c stoppedAt 1 1 0 (λ z. absurd (omega (arith, z))) in rw e refl
 
 -- ---- the half
 

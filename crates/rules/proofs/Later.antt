@@ -7,7 +7,7 @@ use mathlib.Core.Option.{none}
 use Rattle.rules.specs.Calls.{Start, Subframe, chainOf, heldOf}
 use Rattle.rules.specs.Chain.{Held}
 use Rattle.rules.specs.Claim.{PublicKey, KeyProved, KeyKnown, given, proved, SetBacked}
-use Rattle.rules.specs.Log.{Call, subframe, readSet, readOffer, Entry, Log, Once, earlier, stateAt, step, wordIn, verdictIn}
+use Rattle.rules.specs.Log.{Call, Question, subframe, ask, Entry, Log, Once, earlier, stateAt, step, wordIn, verdictIn}
 use Rattle.rules.specs.State.{State, Nav, Store, Auth}
 use Rattle.rules.specs.declared.Chain.{Chain}
 use Rattle.rules.proofs.Invariant.{Inv, WordsAre, BlocksAre, KeysAre, OfferHeld, InForce, HeldIs, WaitIs, SetsAre}
@@ -37,11 +37,8 @@ quiet-by (suc n) x e f = quiet-refused x n e
 pub quiet-subframe : (x : Entry) (area : List ℕ) (a : Subframe) → x .call ≡ subframe area a → Quiet x
 quiet-subframe x area a is = quiet-by (x .reply .code) x refl (λ e. record { no-word = rw (e, is) refl; no-verdict = rw (e, is) refl })
 
-pub quiet-read-set : (x : Entry) (prn : ℕ) (out : List ℕ) → x .call ≡ readSet prn out → Quiet x
-quiet-read-set x p out is = quiet-by (x .reply .code) x refl (λ e. record { no-word = rw (e, is) refl; no-verdict = rw (e, is) refl })
-
-pub quiet-read-offer : (x : Entry) (m g k : List ℕ) → x .call ≡ readOffer m g k → Quiet x
-quiet-read-offer x m g k is = quiet-by (x .reply .code) x refl (λ e. record { no-word = rw (e, is) refl; no-verdict = rw (e, is) refl })
+pub quiet-ask : (x : Entry) (q : Question) → x .call ≡ ask q → Quiet x
+quiet-ask x q is = quiet-by (x .reply .code) x refl (λ e. record { no-word = rw (e, is) refl; no-verdict = rw (e, is) refl })
 
 -- ---- one part after the other
 

@@ -1,9 +1,11 @@
 -- What row 1 tests of a state: the lengths of its regions. Assumes nothing.
 use mathlib.Core.Path.{_≡_}
 use mathlib.Core.Bool.{true}
+use lib.Dec.{eqb}
 use lib.ListN.{length}
 use borrow.Author.Tests.{eqb-true}
-use Rattle.rules.specs.State.{State, shaped, shapes, configLength, clocksLength, wordsLength, stampsLength, blocksLength, dsmIds, pubkeysLength, offerLength, chainLength, numbersLength, heldkeyLength, waitingLength, setsLength, satellites}
+use Rattle.laws.proofs.Tests.{both-true}
+use Rattle.rules.specs.State.{State, shaped, shapes, wordShaped, wordShapes, verdictShaped, verdictShapes, offerShaped, configLength, clocksLength, wordsLength, stampsLength, blocksLength, dsmIds, pubkeysLength, offerLength, chainLength, numbersLength, heldkeyLength, waitingLength, setsLength, arrivalsLength}
 use Rattle.rules.proofs.Choices.{each}
 
 pub record Sized (s : State) : Type 0 where
@@ -22,7 +24,7 @@ pub record Sized (s : State) : Type 0 where
   pub heldkey : length (s .tesla .key) ≡ heldkeyLength
   pub waiting : length (s .tesla .waiting) ≡ waitingLength
   pub sets : length (s .auth .sets) ≡ setsLength
-  pub arrivals : length (s .auth .arrivals) ≡ satellites
+  pub arrivals : length (s .auth .arrivals) ≡ arrivalsLength
 
 pub sized : (s : State) → shaped s ≡ true → Sized s
 unfolding shaped
@@ -43,5 +45,51 @@ sized s h =
       heldkey = eqb-true _ heldkeyLength (each (shapes s) h 12);
       waiting = eqb-true _ waitingLength (each (shapes s) h 13);
       sets = eqb-true _ setsLength (each (shapes s) h 14);
-      arrivals = eqb-true _ satellites (each (shapes s) h 15);
+      arrivals = eqb-true _ arrivalsLength (each (shapes s) h 15);
     }
+
+-- of what a word is lent
+pub record WordSized (s : State) : Type 0 where
+  pub config : length (s .config) ≡ configLength
+  pub clocks : length (s .clocks) ≡ clocksLength
+  pub words : length (s .nav .words) ≡ wordsLength
+  pub stamps : length (s .nav .stamps) ≡ stampsLength
+
+pub word-sized : (s : State) → wordShaped s ≡ true → WordSized s
+unfolding wordShaped
+word-sized s h =
+    record {
+      config = eqb-true _ configLength (each (wordShapes s) h 0);
+      clocks = eqb-true _ clocksLength (each (wordShapes s) h 1);
+      words = eqb-true _ wordsLength (each (wordShapes s) h 2);
+      stamps = eqb-true _ stampsLength (each (wordShapes s) h 3);
+    }
+
+-- of what a verdict is lent
+pub record VerdictSized (s : State) : Type 0 where
+  pub config : length (s .config) ≡ configLength
+  pub pubkeys : length (s .pubkeys) ≡ pubkeysLength
+  pub offer : length (s .offer) ≡ offerLength
+  pub chain : length (s .chain) ≡ chainLength
+  pub numbers : length (s .tesla .numbers) ≡ numbersLength
+  pub heldkey : length (s .tesla .key) ≡ heldkeyLength
+  pub waiting : length (s .tesla .waiting) ≡ waitingLength
+
+pub verdict-sized : (s : State) → verdictShaped s ≡ true → VerdictSized s
+unfolding verdictShaped
+verdict-sized s h =
+    record {
+      config = eqb-true _ configLength (each (verdictShapes s) h 0);
+      pubkeys = eqb-true _ pubkeysLength (each (verdictShapes s) h 1);
+      offer = eqb-true _ offerLength (each (verdictShapes s) h 2);
+      chain = eqb-true _ chainLength (each (verdictShapes s) h 3);
+      numbers = eqb-true _ numbersLength (each (verdictShapes s) h 4);
+      heldkey = eqb-true _ heldkeyLength (each (verdictShapes s) h 5);
+      waiting = eqb-true _ waitingLength (each (verdictShapes s) h 6);
+    }
+
+-- what a read of what waits is lent has its lengths where a verdict could be given on it
+pub offer-shaped : (s : State) → verdictShaped s ≡ true → offerShaped s ≡ true
+unfolding verdictShaped offerShaped
+offer-shaped s h =
+    both-true (eqb (length (s .pubkeys)) pubkeysLength) (eqb (length (s .offer)) offerLength) (each (verdictShapes s) h 1) (each (verdictShapes s) h 2)

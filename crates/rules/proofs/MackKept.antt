@@ -23,7 +23,7 @@ use Rattle.rules.specs.Kroot.{krootOf, chainWith, chainContents, inForce
 use Rattle.rules.specs.Log.{Entry, Log, here, sectionIn}
 use Rattle.rules.specs.Mack.{Proved}
 use Rattle.rules.specs.Received.{fieldCame, keysReceived}
-use Rattle.rules.specs.State.{State, nsOf, waitingCount, waitingLength, setsLength, satellites, heldkeyLength}
+use Rattle.rules.specs.State.{State, nsOf, waitingCount, waitingLength, setsLength, arrivalsLength, heldkeyLength}
 use Rattle.rules.specs.Tags.{Work, entryAt}
 use Rattle.rules.specs.Times.{secondsOf, timeValid}
 use Rattle.rules.specs.Verdict.{cidInForce}
@@ -49,7 +49,7 @@ pub record Before (o : Start) (b s : State) (l : Log) : Type 0 where
   pub auth : SetsAre o b (s .auth) l
   pub waiting-size : length (s .tesla .waiting) ≡ waitingLength
   pub sets-size : length (s .auth .sets) ≡ setsLength
-  pub arrivals-size : length (s .auth .arrivals) ≡ satellites
+  pub arrivals-size : length (s .auth .arrivals) ≡ arrivalsLength
 
 -- ---- what a section answered 0 says
 

@@ -22,7 +22,7 @@ use Rattle.rules.specs.Log.{Entry, Log, here, lastWord}
 use Rattle.rules.specs.Mack.{fieldTag}
 use Rattle.rules.specs.Navdata.{wordCame, usable, setOf}
 use Rattle.rules.specs.Received.{keyCame, fieldLost, lostTag, fieldJudged, fieldsJudged}
-use Rattle.rules.specs.State.{State, Nav, prnValid, markOf}
+use Rattle.rules.specs.State.{State, Nav, prnValid, markOf, copyLength}
 use Rattle.rules.specs.Tags.{Work, told, marksSet, recordIssue, ownTag, ownOutcome, ownJudged, notAllowed, flexible, secondHalf, macseqFits, tagMatches, tagEntry}
 use Rattle.rules.specs.Times.{secondsOf, keySeconds, delayOf, timeValid, tagSlot, lowestSlot, slotOf}
 use Rattle.rules.specs.Verdict.{Verdict}
@@ -214,7 +214,7 @@ module _ (o : Start) (b : State) (said : Verdict) (h : Held) (x : Entry) (l : Lo
   -- outcome 8 marks nothing
   lost-is : (j : ℕ) (w : Work) → WorkIs o b (contentsBy said) x l w → WorkIs o b (contentsBy said) x l (told 8 (lostTag chain (sectionOf sub) (sub .marks) j) [] w)
   unfolding told marksSet recordIssue
-  lost-is j w k = told-is o b (contentsBy said) x l 8 (lostTag chain (sectionOf sub) (sub .marks) j) (replicate 69 0) w k refl (λ e. absurd (omega (arith, e)))
+  lost-is j w k = told-is o b (contentsBy said) x l 8 (lostTag chain (sectionOf sub) (sub .marks) j) (replicate copyLength 0) w k refl (λ e. absurd (omega (arith, e)))
 
   field-is : (j : ℕ) (w : Work) → j < (chainBy o said) .nmack * (chainBy o said) .fields → WorkIs o b (contentsBy said) x l w
       → WorkIs o b (contentsBy said) x l (fieldJudged config nav chain h (sectionOf sub) (sub .marks) j w)

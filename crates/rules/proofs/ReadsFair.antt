@@ -1,4 +1,4 @@
--- The two reads: a set that is read was marked, and what waits is handed out with a key that was given or proved.
+-- The reads: a set that is read was marked, and what waits is handed out with a key that was given or proved.
 use Prim.Native.Nat.{ℕ, zero, suc, _-_, _*_, _<_}
 use mathlib.Core.Path.{_≡_, refl, ap}
 use mathlib.Core.Bool.{true}
@@ -12,13 +12,13 @@ use Rattle.laws.proofs.Tests.{and-left}
 use Rattle.rules.specs.Calls.{Start, SetRead, OfferRead, setRead, setReadChecks, offerRead, offerReadChecks, authStamp, authSet}
 use Rattle.rules.specs.Claim.{KeyKnown, SetBacked, HandedFairly, MarkBacked, Fair, wouldHand}
 use Rattle.rules.specs.Kroot.{offerWaits, offerId, offerMessage, offerSignature}
-use Rattle.rules.specs.Log.{Call, start, word, subframe, verdict, readSet, readOffer, Entry, Log, step, stateAt}
+use Rattle.rules.specs.Log.{Call, start, word, subframe, verdict, Question, set, offer, ask, asked, Entry, Log, step, stateAt}
 use Rattle.rules.specs.Navdata.{setIssue}
 use Rattle.rules.specs.PublicKeys.{keyType, keyBytes}
-use Rattle.rules.specs.State.{State, shaped, prnValid}
+use Rattle.rules.specs.State.{State, offerShaped, prnValid}
 use Rattle.rules.proofs.Bounds.{offer-id-bound}
 use Rattle.rules.proofs.Invariant.{Inv, heldkey}
-use Rattle.rules.proofs.Later.{entry, unchanged-inv, quiet-read-set, quiet-read-offer}
+use Rattle.rules.proofs.Later.{entry, unchanged-inv, quiet-ask}
 
 -- ---- what waits
 
@@ -34,7 +34,7 @@ handing s =
       type = keyType (s .pubkeys) (offerId (s .offer));
     }
 
-pub would-hand : (s : State) → shaped s ≡ true → offerWaits (s .offer) ≡ true → wouldHand s ≡ handing s
+pub would-hand : (s : State) → offerShaped s ≡ true → offerWaits (s .offer) ≡ true → wouldHand s ≡ handing s
 unfolding offerRead offerReadChecks
 would-hand s h w = rw (h, w) refl
 
@@ -44,16 +44,16 @@ offer-known o b s l v w = v .pubkeys .known (offerId (s .offer)) (offer-id-bound
 -- ---- an entry that is no read and wrote no record
 
 abbrev setOfCall : Call → ℕ
-setOfCall (readSet prn out) = suc prn
-setOfCall (readOffer m g k) = 0
+setOfCall (ask (set prn out)) = suc prn
+setOfCall (ask (offer m g k)) = 0
 setOfCall (start x) = 0
 setOfCall (word w) = 0
 setOfCall (subframe a x) = 0
 setOfCall (verdict v) = 0
 
 abbrev offerOfCall : Call → ℕ
-offerOfCall (readSet prn out) = 0
-offerOfCall (readOffer m g k) = 1
+offerOfCall (ask (set prn out)) = 0
+offerOfCall (ask (offer m g k)) = 1
 offerOfCall (start x) = 0
 offerOfCall (word w) = 0
 offerOfCall (subframe a x) = 0
@@ -62,10 +62,10 @@ offerOfCall (verdict v) = 0
 pub no-marks : (o : Start) (b : State) (x : Entry) (l : Log) → x .reply .records ≡ [] → (k : ℕ) → 12 * k < length (x .reply .records) → MarkBacked o b k x l
 no-marks o b x l e k h = let z : length (x .reply .records) ≡ 0 = ap length e in absurd (omega arith)
 
-pub no-set : (o : Start) (b : State) (x : Entry) (l : Log) → setOfCall (x .call) ≡ 0 → (prn : ℕ) (out : List ℕ) → x .call ≡ readSet prn out → x .reply .code ≡ 0 → SetBacked o b prn (x .reply .time) (x .reply .out) l
+pub no-set : (o : Start) (b : State) (x : Entry) (l : Log) → setOfCall (x .call) ≡ 0 → (prn : ℕ) (out : List ℕ) → x .call ≡ ask (set prn out) → x .reply .code ≡ 0 → SetBacked o b prn (x .reply .time) (x .reply .out) l
 no-set o b x l z prn out e ok = let y : setOfCall (x .call) ≡ suc prn = ap setOfCall e in absurd (omega arith)
 
-pub no-hand : (o : Start) (b : State) (x : Entry) (l : Log) → offerOfCall (x .call) ≡ 0 → (m g k : List ℕ) → x .call ≡ readOffer m g k → x .reply .code ≡ 0 → HandedFairly o b (x .reply .handed) l
+pub no-hand : (o : Start) (b : State) (x : Entry) (l : Log) → offerOfCall (x .call) ≡ 0 → (m g k : List ℕ) → x .call ≡ ask (offer m g k) → x .reply .code ≡ 0 → HandedFairly o b (x .reply .handed) l
 no-hand o b x l z m g k e ok = let y : offerOfCall (x .call) ≡ 1 = ap offerOfCall e in absurd (omega arith)
 
 -- a call that is no read, and wrote no record
@@ -95,22 +95,18 @@ set-backed o b s l v prn out ok = go (firstOf (setReadChecks s prn out)) refl ok
         v .auth .backed prn (not-false (prnValid prn) (c .1 .0)) (eqb-false (authStamp (s .auth) prn) 0 (c .1 .1 .0))
     go (suc n) e ok = absurd (omega (arith, ok))
 
-set-fair : (o : Start) (b s : State) (l : Log) (prn : ℕ) (out : List ℕ) → Inv o b s l → Fair o b (entry s (readSet prn out)) l
-unfolding step
+set-fair : (o : Start) (b s : State) (l : Log) (prn : ℕ) (out : List ℕ) → Inv o b s l → Fair o b (entry s (ask (set prn out))) l
+unfolding step asked
 set-fair o b s l prn out v =
     record {
-      marks = λ k i m. no-marks o b (entry s (readSet prn out)) l refl k i;
+      marks = λ k i m. no-marks o b (entry s (ask (set prn out))) l refl k i;
       reads = λ p q e ok. (
           let y : suc prn ≡ suc p = ap setOfCall e in
           let z : prn ≡ p = omega arith in
           rw (← z) (set-backed o b s l v prn out ok)
           );
-      hands = no-hand o b (entry s (readSet prn out)) l refl;
+      hands = no-hand o b (entry s (ask (set prn out))) l refl;
     }
-
-set-inv : (o : Start) (b s : State) (l : Log) (prn : ℕ) (out : List ℕ) → Inv o b s l → Inv o b s (entry s (readSet prn out) ∷ l)
-unfolding stateAt step
-set-inv o b s l prn out v = unchanged-inv o b s _ l v (quiet-read-set _ prn out refl) (v .at)
 
 -- ---- a read of what waits
 
@@ -126,7 +122,7 @@ hand-fair o b s l v m g k ok = go (firstOf (offerReadChecks s m g k)) refl ok
         → HandedFairly o b (record { message = (res n) .message; signature = (res n) .signature; key = (res n) .key; id = (res n) .id; type = (res n) .type }) l
     go zero e ok =
         let c = clear (offerReadChecks s m g k) tt e in
-        let h = and-left (shaped s) _ (not-false _ (c .0)) in
+        let h = and-left (offerShaped s) _ (not-false _ (c .0)) in
         let w = not-false (offerWaits (s .offer)) (c .1 .0) in
         let u : wouldHand (stateAt b l) ≡ handing s = rw (← (v .at)) (would-hand s h w) in
         record {
@@ -138,23 +134,23 @@ hand-fair o b s l v m g k ok = go (firstOf (offerReadChecks s m g k)) refl ok
         }
     go (suc n) e ok = absurd (omega (arith, ok))
 
-offer-fair : (o : Start) (b s : State) (l : Log) (m g k : List ℕ) → Inv o b s l → Fair o b (entry s (readOffer m g k)) l
-unfolding step
+offer-fair : (o : Start) (b s : State) (l : Log) (m g k : List ℕ) → Inv o b s l → Fair o b (entry s (ask (offer m g k))) l
+unfolding step asked
 offer-fair o b s l m g k v =
     record {
-      marks = λ j i z. no-marks o b (entry s (readOffer m g k)) l refl j i;
-      reads = no-set o b (entry s (readOffer m g k)) l refl;
+      marks = λ j i z. no-marks o b (entry s (ask (offer m g k))) l refl j i;
+      reads = no-set o b (entry s (ask (offer m g k))) l refl;
       hands = λ m' g' k' e ok. hand-fair o b s l v m g k ok;
     }
 
-offer-inv : (o : Start) (b s : State) (l : Log) (m g k : List ℕ) → Inv o b s l → Inv o b s (entry s (readOffer m g k) ∷ l)
+ask-fair : (o : Start) (b s : State) (l : Log) (q : Question) → Inv o b s l → Fair o b (entry s (ask q)) l
+ask-fair o b s l (set prn out) v = set-fair o b s l prn out v
+ask-fair o b s l (offer m g k) v = offer-fair o b s l m g k v
+
+-- asking changes nothing
+ask-inv : (o : Start) (b s : State) (l : Log) (q : Question) → Inv o b s l → Inv o b s (entry s (ask q) ∷ l)
 unfolding stateAt step
-offer-inv o b s l m g k v = unchanged-inv o b s _ l v (quiet-read-offer _ m g k refl) (v .at)
+ask-inv o b s l q v = unchanged-inv o b s _ l v (quiet-ask _ q refl) (v .at)
 
-pub read-set-call : (o : Start) (b s : State) (l : Log) (prn : ℕ) (out : List ℕ) → Inv o b s l
-    → Fair o b (entry s (readSet prn out)) l × Inv o b s (entry s (readSet prn out) ∷ l)
-read-set-call o b s l prn out v = (set-fair o b s l prn out v, set-inv o b s l prn out v)
-
-pub read-offer-call : (o : Start) (b s : State) (l : Log) (m g k : List ℕ) → Inv o b s l
-    → Fair o b (entry s (readOffer m g k)) l × Inv o b s (entry s (readOffer m g k) ∷ l)
-read-offer-call o b s l m g k v = (offer-fair o b s l m g k v, offer-inv o b s l m g k v)
+pub ask-call : (o : Start) (b s : State) (l : Log) (q : Question) → Inv o b s l → Fair o b (entry s (ask q)) l × Inv o b s (entry s (ask q) ∷ l)
+ask-call o b s l q v = (ask-fair o b s l q v, ask-inv o b s l q v)

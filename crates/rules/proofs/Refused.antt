@@ -13,7 +13,7 @@ use Rattle.rules.specs.Bits.{anyOf}
 use Rattle.rules.specs.Calls.{Start, Word, Subframe, SubframeTold, HkrootDone, MackDone, startCall, startChecks, wordCall, wordChecks, verdictCall, verdictChecks, subframeCall, subframeChecks, fieldsOf, halvesDone, noted, hkrootHalf, hkrootReceived, storeDone, krootDone, pkrDone, mackHalf, sectionProved}
 use Rattle.rules.specs.Claim.{Kept, Refused, between}
 use Rattle.rules.specs.Gather.{gathered, hkrootOf, mackOf, headerOf, dsmIdOf}
-use Rattle.rules.specs.Log.{start, word, subframe, verdict, readSet, readOffer, step}
+use Rattle.rules.specs.Log.{Question, start, word, subframe, verdict, ask, step}
 use Rattle.rules.specs.Pkr.{Renewed, pkrJudged, pkrChecks}
 use Rattle.rules.specs.Received.{fieldsCame}
 use Rattle.rules.specs.State.{State, Store, treeRoot}
@@ -33,13 +33,9 @@ pub word-kept : (s : State) (w : Word) → (step s (word w)) .reply .code ≢ 0 
 unfolding step wordCall
 word-kept s w h = unless-refused (firstOf (wordChecks s w)) _ s h
 
-pub read-set-kept : (s : State) (prn : ℕ) (out : List ℕ) → (step s (readSet prn out)) .state ≡ s
+pub ask-kept : (s : State) (q : Question) → (step s (ask q)) .state ≡ s
 unfolding step
-read-set-kept s prn out = refl
-
-pub read-offer-kept : (s : State) (m g k : List ℕ) → (step s (readOffer m g k)) .state ≡ s
-unfolding step
-read-offer-kept s m g k = refl
+ask-kept s q = refl
 
 -- ---- verdict: all stays, or what waits is dropped
 
@@ -147,6 +143,5 @@ refused =
       verdict = verdict-kept;
       hkroot = hkroot-kept;
       mack = mack-kept;
-      readSet = read-set-kept;
-      readOffer = read-offer-kept;
+      ask = ask-kept;
     }

@@ -14,7 +14,7 @@ use Rattle.rules.specs.PublicKeys.{keyLength, withKey}
 use Rattle.rules.specs.Replay as Replay
 use Rattle.rules.specs.Replay.{replay, recordLength}
 use Rattle.rules.specs.Received.{fieldCame, fieldsCame, received}
-use Rattle.rules.specs.State.{shaped, stopped, lastSubframe, lastSubframeOf, lastWordOf, prnValid}
+use Rattle.rules.specs.State.{shaped, wordShaped, stopped, lastSubframe, lastSubframeOf, lastWordOf, prnValid}
 use Rattle.rules.specs.Times.{gst, weekOf, secondOf, timeValid, stampOf}
 
 -- "Short parts are filled with zeros"
@@ -36,7 +36,7 @@ line place first second = (48 + place) ∷ 32 ∷ (48 + first) ∷ 32 ∷ (48 + 
 
 -- "A good start, a word for PRN 37, and 75 zero bytes from PRN 18 at 947/432000 print: 1 0 0 0, 2 2 0 0, 3 5 5 0"
 pub example : replay (start36 ++ (wordFor 37 ++ zerosFrom 18)) ≡ line 1 0 0 ++ (line 2 2 0 ++ line 3 5 5)
-unfolding be4 u32at part splice same bit bits filled markValid marksValid startUnfit startLengths startChecks startCall wordUnfit wordChecks wordCall subframeChecks subframeCall fieldCame fieldsCame received wordType svidOf shaped stopped lastSubframe lastSubframeOf lastWordOf prnValid gst weekOf secondOf timeValid stampOf fresh keyLength withKey noOffer replay Replay.kindOf Replay.startOf Replay.wordOf Replay.marksOf Replay.subframeOf Replay.startAnswered Replay.wordAnswered Replay.subframeAnswered Replay.answered Replay.digit Replay.digitsOf Replay.decimal Replay.ended Replay.answerLine Replay.recordLines Replay.linesOf Replay.replayed Replay.replayedUpTo Replay.recordCount Replay.blankCore Replay.unread
+unfolding be4 u32at part splice same bit bits filled markValid marksValid startUnfit startLengths startChecks startCall wordUnfit wordChecks wordCall subframeChecks subframeCall fieldCame fieldsCame received wordType svidOf shaped wordShaped stopped lastSubframe lastSubframeOf lastWordOf prnValid gst weekOf secondOf timeValid stampOf fresh keyLength withKey noOffer replay Replay.kindOf Replay.startOf Replay.wordOf Replay.marksOf Replay.subframeOf Replay.startAnswered Replay.wordAnswered Replay.subframeAnswered Replay.answered Replay.digit Replay.digitsOf Replay.decimal Replay.ended Replay.answerLine Replay.recordLines Replay.linesOf Replay.replayed Replay.replayedUpTo Replay.recordCount Replay.blankCore Replay.unread
 example = refl
 
 -- before a start: a word, a sub-frame, a verdict, kinds 0 and 5; then a start of which one byte is missing

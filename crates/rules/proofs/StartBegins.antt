@@ -22,7 +22,7 @@ use Rattle.rules.specs.Kroot.{noOffer, offerWaits, inForce}
 use Rattle.rules.specs.Log.{Log, start, stateAt, step}
 use Rattle.rules.specs.Navdata.{wordAt, wordPlace}
 use Rattle.rules.specs.PublicKeys.{keyLength, keyHeld, keyType, keyBytes, withKey}
-use Rattle.rules.specs.State.{State, nsOf, treeRoot, shaped, wordsLength, stampsLength, dsmIds, pubkeysLength, satellites}
+use Rattle.rules.specs.State.{State, nsOf, treeRoot, shaped, wordsLength, stampsLength, dsmIds, pubkeysLength, arrivalsLength}
 use Rattle.rules.proofs.Choices.{no, not-zero}
 use Rattle.rules.proofs.Invariant.{Inv, WordsAre, BlocksAre, KeysAre, SetsAre, heldkey}
 use Rattle.rules.proofs.KeyPlaces.{keyNumber, added-number, added-bytes, other-number}
@@ -136,7 +136,7 @@ fresh-keys x f =
 
 fresh-sets : (x : Start) (b : State) → SetsAre x b ((fresh x) .auth) []
 unfolding fresh authStamp
-fresh-sets x b = record { backed = λ prn p n. absurd (n (getD-zeros satellites (prn - 1))) }
+fresh-sets x b = record { backed = λ prn p n. absurd (n (getD-zeros arrivalsLength (prn - 1))) }
 
 no-offer : (x : Start) → offerWaits ((fresh x) .offer) ≡ false
 unfolding fresh noOffer offerWaits

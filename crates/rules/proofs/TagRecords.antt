@@ -19,7 +19,7 @@ use Rattle.rules.specs.Calls.{Start, authStamp, authSet}
 use Rattle.rules.specs.Claim.{FourThings, SetBacked}
 use Rattle.rules.specs.Log.{Entry, Log}
 use Rattle.rules.specs.Navdata.{setIssue}
-use Rattle.rules.specs.State.{State, Auth, prnValid, setsLength, satellites}
+use Rattle.rules.specs.State.{State, Auth, prnValid, copyLength, entryLength, setsLength, arrivalsLength}
 use Rattle.rules.specs.Tags.{Work, marksSet, told, kept, tagRecord, recordIssue, setsEntered, arrivalsEntered}
 use Rattle.rules.specs.Times.{stampOf, timeValid}
 use Rattle.rules.specs.declared.Tag.{Tag}
@@ -57,7 +57,7 @@ abbrev stampIn : List ℕ → ℕ → ℕ
 stampIn arrivals prn = getD arrivals (prn - 1) 0
 
 abbrev setAt : List ℕ → ℕ → List ℕ
-setAt sets prn = part sets ((prn - 1) * 69) 69
+setAt sets prn = part sets ((prn - 1) * copyLength) copyLength
 
 pub record WorkIs (o : Start) (b : State) (contents : List ℕ) (x : Entry) (l : Log) (w : Work) : Type 0 where
   -- the number of records
@@ -65,7 +65,7 @@ pub record WorkIs (o : Start) (b : State) (contents : List ℕ) (x : Entry) (l :
   pub size : length (w .records) ≡ n * 12
   pub waiting : Entries (λ (e : List ℕ). WaitIs o contents e (x ∷ l)) (w .kept) (w .count)
   pub sets-size : length (w .sets) ≡ setsLength
-  pub arrivals-size : length (w .arrivals) ≡ satellites
+  pub arrivals-size : length (w .arrivals) ≡ arrivalsLength
   pub sets : (prn : ℕ) → prnValid prn ≡ true → stampIn (w .arrivals) prn ≢ 0 → Backing o b (w .records) prn (stampIn (w .arrivals) prn - 1) (setAt (w .sets) prn) x l
   pub marks : (k : ℕ) → k < n → getD (w .records) (12 * k) 0 ≡ 1 → PlaceMarked o b (w .records) k x l
 
@@ -101,7 +101,7 @@ one-issue navdata = refl
 -- ---- a tag that gets an outcome
 
 module _ (o : Start) (b : State) (contents : List ℕ) (x : Entry) (l : Log) where
-  module _ (outcome : ℕ) (t : Tag) (navdata : List ℕ) (w : Work) (v : WorkIs o b contents x l w) (set-size : length navdata ≡ 69) (four : outcome ≡ 1 → FourThings o b t navdata x l) where
+  module _ (outcome : ℕ) (t : Tag) (navdata : List ℕ) (w : Work) (v : WorkIs o b contents x l w) (set-size : length navdata ≡ copyLength) (four : outcome ≡ 1 → FourThings o b t navdata x l) where
     abbrev newest : List ℕ
     newest = tagRecord outcome t (recordIssue outcome navdata)
 
@@ -155,7 +155,7 @@ module _ (o : Start) (b : State) (contents : List ℕ) (x : Entry) (l : Log) whe
       arrivalsPut = set (w .arrivals) (t .prn - 1) (t .time + 1)
 
       abbrev setsPut : List ℕ
-      setsPut = splice (w .sets) ((t .prn - 1) * 69) navdata
+      setsPut = splice (w .sets) ((t .prn - 1) * copyLength) navdata
 
       put-sets : (prn : ℕ) → prnValid prn ≡ true → stampIn arrivalsPut prn ≢ 0 → Backing o b (w .records ++ newest) prn (stampIn arrivalsPut prn - 1) (setAt setsPut prn) x l
       put-sets prn p nz =
@@ -167,13 +167,13 @@ module _ (o : Start) (b : State) (contents : List ℕ) (x : Entry) (l : Log) whe
           let c2 = c .1 in
           let ss = v .sets-size in
           let ts = v .arrivals-size in
-          let fits : (t .prn - 1) * 69 + length navdata ≤ length (w .sets) = omega arith in
+          let fits : (t .prn - 1) * copyLength + length navdata ≤ length (w .sets) = omega arith in
           ⊎-elim
           (λ e. (
           let q = eqb-true prn (t .prn) e in
           let g : stampIn arrivalsPut (t .prn) ≡ t .time + 1 = getD-set-same (w .arrivals) (t .prn - 1) (t .time + 1) 0 (omega arith) in
           let y : t .time ≡ t .time + 1 - 1 = omega arith in
-          rw (q, g, part-splice-same (w .sets) ((t .prn - 1) * 69) navdata fits 69 (sym set-size))
+          rw (q, g, part-splice-same (w .sets) ((t .prn - 1) * copyLength) navdata fits copyLength (sym set-size))
           (inr (record { tag = t; place = v .n; prn-is = refl; time-is = y; mark = newest-mark one }))
           ))
           (λ e. (
@@ -181,7 +181,7 @@ module _ (o : Start) (b : State) (contents : List ℕ) (x : Entry) (l : Log) whe
           let d : prn - 1 ≢ t .prn - 1 = λ z. q (omega (arith, z)) in
           let g = getD-set-other (w .arrivals) (t .prn - 1) (prn - 1) (t .time + 1) 0 d in
           let f =
-          part-beside (w .sets) ((t .prn - 1) * 69) navdata fits ((prn - 1) * 69) 69 (omega arith)
+          part-beside (w .sets) ((t .prn - 1) * copyLength) navdata fits ((prn - 1) * copyLength) copyLength (omega arith)
           (⊎-elim (λ h. inl (omega arith)) (λ h. inr (omega (arith, d, h, set-size))) (below? (prn - 1) (t .prn - 1))) in
           rw (g, f) (backing-later (w .records) _ (v .sets prn p (λ z. nz (g ∙ z))))
           ))
@@ -205,12 +205,12 @@ module _ (o : Start) (b : State) (contents : List ℕ) (x : Entry) (l : Log) whe
           let c2 = c .1 in
           let s = v .sets-size in
           by-test (λ (d : List ℕ). length d ≡ setsLength) (ltb (stampOf (t .time)) (stampIn (w .arrivals) (t .prn))) (λ _. s)
-          (λ _. length-splice (w .sets) ((t .prn - 1) * 69) navdata (omega arith) ∙ s)
+          (λ _. length-splice (w .sets) ((t .prn - 1) * copyLength) navdata (omega arith) ∙ s)
 
-      told-arrivals-size : length (arrivalsEntered (w .arrivals) t) ≡ satellites
+      told-arrivals-size : length (arrivalsEntered (w .arrivals) t) ≡ arrivalsLength
       unfolding arrivalsEntered
       told-arrivals-size =
-          by-test (λ (d : List ℕ). length d ≡ satellites) (ltb (stampOf (t .time)) (stampIn (w .arrivals) (t .prn))) (λ _. v .arrivals-size)
+          by-test (λ (d : List ℕ). length d ≡ arrivalsLength) (ltb (stampOf (t .time)) (stampIn (w .arrivals) (t .prn))) (λ _. v .arrivals-size)
           (λ _. length-set (w .arrivals) (t .prn - 1) (stampOf (t .time)) ∙ v .arrivals-size)
 
     pub told-is : WorkIs o b contents x l (told outcome t navdata w)
@@ -250,7 +250,7 @@ module _ (o : Start) (b : State) (contents : List ℕ) (x : Entry) (l : Log) whe
 
   -- ---- a tag that waits
 
-  pub kept-is : (e : List ℕ) (w : Work) → WorkIs o b contents x l w → length e ≡ 84 → WaitIs o contents e (x ∷ l) → WorkIs o b contents x l (kept e w)
+  pub kept-is : (e : List ℕ) (w : Work) → WorkIs o b contents x l w → length e ≡ entryLength → WaitIs o contents e (x ∷ l) → WorkIs o b contents x l (kept e w)
   unfolding kept
   kept-is e w v h i =
       record {
@@ -265,7 +265,7 @@ module _ (o : Start) (b : State) (contents : List ℕ) (x : Entry) (l : Log) whe
 
   -- ---- nothing done yet
 
-  pub start-is : (a : Auth) → SetsAre o b a l → length (a .sets) ≡ setsLength → length (a .arrivals) ≡ satellites → WorkIs o b contents x l (record { kept = []; count = 0; sets = a .sets; arrivals = a .arrivals; records = [] })
+  pub start-is : (a : Auth) → SetsAre o b a l → length (a .sets) ≡ setsLength → length (a .arrivals) ≡ arrivalsLength → WorkIs o b contents x l (record { kept = []; count = 0; sets = a .sets; arrivals = a .arrivals; records = [] })
   unfolding authStamp authSet
   start-is a v s t =
       record {

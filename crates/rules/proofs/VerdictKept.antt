@@ -25,17 +25,17 @@ use Rattle.rules.specs.Gather.{statusOf, cidOf}
 use Rattle.rules.specs.Kroot.{cidkrOf, ksOf, keyWidth, krootOf, rootSecondsOf, chainWith, chainContents, inForce, offerWaits, offerId, offerMessage, offerSignature, noOffer}
 use Rattle.rules.specs.Log.{verdict, Entry, Log, here, step, stateAt, chainIn}
 use Rattle.rules.specs.PublicKeys.{keyHeld, keyType, withoutLower}
-use Rattle.rules.specs.State.{State, shaped, nsOf, heldSlot, waitingCount, pubkeysLength, chainLength, waitingLength}
+use Rattle.rules.specs.State.{State, verdictShaped, contentsLength, entryLength, nsOf, heldSlot, waitingCount, pubkeysLength, chainLength, waitingLength}
 use Rattle.rules.specs.Tags.{entryAt, entryTag}
 use Rattle.rules.specs.Times.{keySeconds}
-use Rattle.rules.specs.Verdict.{Verdict, messageHeader, messageContents, namesOffer, sameContents, statusUnfit, vouchChecks, keyNotBefore, staying, stayingAt, rootHeld, tagsDropped, vouched, judgedVerdict, trusting, chainUnchanged, cidInForce}
+use Rattle.rules.specs.Verdict.{Verdict, messageHeader, messageContents, namesOffer, sameContents, statusUnfit, vouchChecks, keyNotBefore, staying, stayingAt, rootHeld, tagsDropped, vouched, judgedVerdict, trusting, chainUnchanged, cidInForce, forced}
 use Rattle.rules.proofs.Bounds.{status-bound, key-width-bound, count-bound, count-written}
 use Rattle.rules.proofs.Choices.{answered, each, no, not-zero}
 use Rattle.rules.proofs.Entries.{Entries, no-entries, one-more, entries-in, length-entry}
 use Rattle.rules.proofs.Invariant.{Inv, KeysAre, OfferHeld, InForce, HeldIs, WaitIs}
 use Rattle.rules.proofs.KeyPlaces.{lower-number, upper-number, upper-bytes}
 use Rattle.rules.proofs.Later.{entry, stepped-at, same-inv, unchanged-inv, quiet-refused, words-later, blocks-later, keys-later, known-later, held-later, wait-later, sets-later}
-use Rattle.rules.proofs.Lengths.{Sized, sized}
+use Rattle.rules.proofs.Lengths.{VerdictSized, verdict-sized, offer-shaped}
 use Rattle.rules.proofs.Parts.{filled-back}
 use Rattle.rules.proofs.ReadsFair.{plain-fair, would-hand, offer-known, handing}
 use Rattle.rules.proofs.Refused.{verdict-refused}
@@ -44,7 +44,7 @@ use Rattle.rules.proofs.Unchanged.{unchanged-trans}
 -- ---- what the checks of a verdict answered 0 say
 
 record Fit (s : State) (v : Verdict) : Type 0 where
-  shape : shaped s ≡ true
+  shape : verdictShaped s ≡ true
   message : length (v .message) ≡ 45
   waits : offerWaits (s .offer) ≡ true
   id : offerId (s .offer) ≡ v .id
@@ -58,14 +58,14 @@ fit : (s : State) (v : Verdict) → firstOf (verdictChecks s v) ≡ 0 → Fit s 
 unfolding verdictChecks vouchChecks namesOffer
 fit s v h =
     let c = clear (verdictChecks s v) tt h in
-    let a = not-false (shaped s && (eqb (length (v .message)) 45 && eqb (length (v .signature)) 132)) (c .0) in
-    let m = and-left (eqb (length (v .message)) 45) (eqb (length (v .signature)) 132) (and-right (shaped s) _ a) in
+    let a = not-false (verdictShaped s && (eqb (length (v .message)) 45 && eqb (length (v .signature)) 132)) (c .0) in
+    let m = and-left (eqb (length (v .message)) 45) (eqb (length (v .signature)) 132) (and-right (verdictShaped s) _ a) in
     let r = neither (ltb 1 (v .good)) (ltb 15 (v .id)) (c .1 .0) in
     let i = ltb-false 15 (v .id) (r .1) in
     let n = not-false (namesOffer (s .offer) v) (c .1 .1 .1 .0) in
     let ts : List Bool = offerWaits (s .offer) ∷ eqb (offerId (s .offer)) (v .id) ∷ same (offerMessage (s .offer)) (v .message) ∷ same (offerSignature (s .offer)) (v .signature) ∷ [] in
     record {
-      shape = and-left (shaped s) _ a;
+      shape = and-left (verdictShaped s) _ a;
       message = eqb-true (length (v .message)) 45 m;
       waits = each ts n 0;
       id = eqb-true (offerId (s .offer)) (v .id) (each ts n 1);
@@ -79,7 +79,7 @@ fit s v h =
 -- the verdict is on the exact message, under a known key
 vouched-here : (o : Start) (b s : State) (v : Verdict) (x : Entry) (l : Log) → Inv o b s l → x .call ≡ verdict v → x .reply .code ≡ 0 → Fit s v → Vouched o b v x l
 vouched-here o b s v x l i is ok f =
-    let u : wouldHand (stateAt b l) ≡ handing s = rw (← (i .at)) (would-hand s (f .shape) (f .waits)) in
+    let u : wouldHand (stateAt b l) ≡ handing s = rw (← (i .at)) (would-hand s (offer-shaped s (f .shape)) (f .waits)) in
     record {
       verdict-is = rw (is, ok) refl;
       good = f .good;
@@ -141,20 +141,20 @@ drop-ends config chain h = let e = getD-set-same chain 0 2 0 (omega arith) in rw
 
 -- ---- a new root
 
-length-contents : (m : List ℕ) → length m ≡ 45 → length (messageContents m) ≡ 44
+length-contents : (m : List ℕ) → length m ≡ 45 → length (messageContents m) ≡ contentsLength
 unfolding messageContents
-length-contents m h = length-part m 1 44 (omega arith)
+length-contents m h = length-part m 1 contentsLength (omega arith)
 
-new-contents : (c : List ℕ) → length c ≡ 44 → chainContents (1 ∷ c) ≡ c
-unfolding chainContents part
-new-contents c h = take-all 44 c (omega arith)
+new-contents : (c : List ℕ) → length c ≡ contentsLength → chainContents (forced c) ≡ c
+unfolding chainContents part forced
+new-contents c h = take-all contentsLength c (omega arith)
 
-length-root : (c : List ℕ) → length c ≡ 44 → length (krootOf c) ≡ keyWidth (ksOf c)
+length-root : (c : List ℕ) → length c ≡ contentsLength → length (krootOf c) ≡ keyWidth (ksOf c)
 unfolding krootOf
 length-root c h = let w = key-width-bound (ksOf c) in length-part c 12 (keyWidth (ksOf c)) (omega arith)
 
 -- "The held key begins again at this root."
-root-held : (ns : ℕ) (c : List ℕ) (n : ℕ) (l : Log) → length c ≡ 44
+root-held : (ns : ℕ) (c : List ℕ) (n : ℕ) (l : Log) → length c ≡ contentsLength
     → HeldIs (chainWith ns c) (krootOf c) (held (heldSlot (0 ∷ n ∷ [])) (take ((chainWith ns c) .width) (filled 32 (krootOf c)))) l
 unfolding heldSlot chainWith walk
 root-held ns c n l h =
@@ -213,8 +213,8 @@ module _ (o : Start) (b s : State) (v : Verdict) (x : Entry) (l : Log) (i : Inv 
   abbrev Left : State → Type 0
   Left s' = s' ≡ stateAt b (x ∷ l) → Inv o b s' (x ∷ l)
 
-  size : Sized s
-  size = sized s (f .shape)
+  size : VerdictSized s
+  size = verdict-sized s (f .shape)
 
   -- "Status 3 .. drops the chain and the waiting tags"
   dropped-inv : Left (trusting s (s .pubkeys) (set (s .chain) 0 2) (tagsDropped (s .tesla)))
@@ -256,7 +256,7 @@ module _ (o : Start) (b s : State) (v : Verdict) (x : Entry) (l : Log) (i : Inv 
         }
 
     -- a new root
-    root-inv : Left (trusting s lower (1 ∷ contents) (rootHeld s contents))
+    root-inv : Left (trusting s lower (forced contents) (rootHeld s contents))
     unfolding chainOf heldOf rootHeld
     root-inv at =
         record {
@@ -267,22 +267,22 @@ module _ (o : Start) (b s : State) (v : Verdict) (x : Entry) (l : Log) (i : Inv 
           blocks = blocks-later (i .blocks);
           pubkeys = lower-known o (s .pubkeys) (v .id) x l (size .pubkeys) (f .id-small) (i .pubkeys);
           offer = no-offer lower;
-          force = λ h. in-force-now (chainContents (1 ∷ contents)) (new-contents contents c-size);
-          held = λ h. rw (new-contents contents c-size) (root-held (nsOf (s .config)) contents (length (stayingAt s contents) / 84) (x ∷ l) c-size);
+          force = λ h. in-force-now (chainContents (forced contents)) (new-contents contents c-size);
+          held = λ h. rw (new-contents contents c-size) (root-held (nsOf (s .config)) contents (length (stayingAt s contents) / entryLength) (x ∷ l) c-size);
           waiting = λ h. rw (new-contents contents c-size) waits;
           auth = sets-later (i .auth);
         }
       where
-        c-size : length (messageContents (v .message)) ≡ 44
+        c-size : length (messageContents (v .message)) ≡ contentsLength
         c-size = length-contents (v .message) (f .message)
 
         stay : (m : ℕ) × Entries (λ (e : List ℕ). WaitIs o contents e (x ∷ l)) (stayingAt s contents) m
         stay = stay-entries o b s contents x l i (size .waiting)
 
-        waits : (k : ℕ) → k < waitingCount (0 ∷ length (stayingAt s contents) / 84 ∷ []) → WaitIs o contents (entryAt (splice (s .tesla .waiting) 0 (stayingAt s contents)) k) (x ∷ l)
+        waits : (k : ℕ) → k < waitingCount (0 ∷ length (stayingAt s contents) / entryLength ∷ []) → WaitIs o contents (entryAt (splice (s .tesla .waiting) 0 (stayingAt s contents)) k) (x ∷ l)
         waits k h =
             let z = stay .1 .size in
-            let y = count-written 0 (length (stayingAt s contents) / 84) in
+            let y = count-written 0 (length (stayingAt s contents) / entryLength) in
             entries-in (λ (e : List ℕ). WaitIs o contents e (x ∷ l)) (s .tesla .waiting) (stayingAt s contents) (stay .0) (stay .1) k (omega arith)
 
   vouched-inv : Left (vouched s v)

@@ -17,13 +17,13 @@ use Rattle.rules.specs.Calls.{Start, Word, wordCall, wordChecks, wordUnf
 use Rattle.rules.specs.Claim.{Fair}
 use Rattle.rules.specs.Log.{word, Entry, Log, stateAt, step, lastWord}
 use Rattle.rules.specs.Navdata.{Came, wordType, heldType, wordAt, wordPlace, wordStored}
-use Rattle.rules.specs.State.{State, Nav, prnValid, shaped, wordsLength, stampsLength}
+use Rattle.rules.specs.State.{State, Nav, prnValid, wordShaped, wordsLength, stampsLength}
 use Rattle.rules.specs.Times.{stampOf}
 use Rattle.rules.proofs.Bounds.{within-range, prn-range}
 use Rattle.rules.proofs.Choices.{no, answered, not-zero}
 use Rattle.rules.proofs.Invariant.{Inv, WordsAre, Place}
 use Rattle.rules.proofs.Later.{entry, stepped-at, same-inv, refused-inv}
-use Rattle.rules.proofs.Lengths.{Sized, sized}
+use Rattle.rules.proofs.Lengths.{WordSized, word-sized}
 use Rattle.rules.proofs.Parts.{part-beside}
 use Rattle.rules.proofs.ReadsFair.{plain-fair}
 use Rattle.rules.proofs.Refused.{word-kept}
@@ -31,7 +31,7 @@ use Rattle.rules.proofs.Refused.{word-kept}
 -- ---- what the checks say
 
 record Fit (s : State) (w : Word) : Type 0 where
-  size : Sized s
+  size : WordSized s
   bytes : length (w .bytes) ≡ 16
   prn-low : 1 ≤ w .prn
   prn-high : w .prn ≤ 36
@@ -40,11 +40,11 @@ fit : (s : State) (w : Word) → (wordCall s w) .code ≡ 0 → Fit s w
 unfolding wordCall wordChecks wordUnfit
 fit s w h =
     let c = clear (wordChecks s w) tt h in
-    let a = not-false (shaped s && eqb (length (w .bytes)) 16) (c .0) in
+    let a = not-false (wordShaped s && eqb (length (w .bytes)) 16) (c .0) in
     let p = prn-range (w .prn) (not-false (prnValid (w .prn)) ((neither (not (prnValid (w .prn))) _ (c .1 .0)) .0)) in
     record {
-      size = sized s (and-left (shaped s) (eqb (length (w .bytes)) 16) a);
-      bytes = eqb-true (length (w .bytes)) 16 (and-right (shaped s) (eqb (length (w .bytes)) 16) a);
+      size = word-sized s (and-left (wordShaped s) (eqb (length (w .bytes)) 16) a);
+      bytes = eqb-true (length (w .bytes)) 16 (and-right (wordShaped s) (eqb (length (w .bytes)) 16) a);
       prn-low = p .0;
       prn-high = p .1;
     }

@@ -1,5 +1,6 @@
 -- The calls: start, word, sub-frame, verdict and the two reads. Each has its refusals as a list of conditions and numbers in the order
--- of 01 ("Checks go ..", "its checks go .."), the first one wins, and then its effect on the whole state and on every lent byte.
+-- of 01 ("Checks go ..", "its checks go .."), the first one wins, and then its effect on the whole state and on every lent byte. Row 1 is about
+-- what that call is lent.
 use Prim.Native.Nat.{ℕ, zero, suc, _+_, _-_, _*_, _/_}
 use mathlib.Core.Bool.{Bool, true, false, cond, not, _&&_, _||_}
 use mathlib.Core.List.{List, [], _∷_, _++_}
@@ -15,9 +16,9 @@ use Rattle.rules.specs.Kroot.{krootJudged, noOffer, chainWith, chainCont
 use Rattle.rules.specs.Mack.{Proved}
 use Rattle.rules.specs.Pkr.{pkrJudged}
 use Rattle.rules.specs.Received.{fieldCame, fieldsCame, received, keysReceived, fieldsJudged}
-use Rattle.rules.specs.State.{State, Store, Auth, shaped, nsOf, treeRoot, stopped, lastSubframe, lastSubframeOf, lastWordOf, prnValid, heldSlot, waitingCount}
+use Rattle.rules.specs.State.{State, Store, Auth, shaped, wordShaped, verdictShaped, setShaped, offerShaped, nsOf, stoppedAt, treeRoot, stopped, lastSubframe, lastSubframeOf, lastWordOf, prnValid, heldSlot, waitingCount}
 use Rattle.rules.specs.State.{withConfig, withClocks, withNav, withStore, withPubkeys, withOffer, withTesla, withAuth}
-use Rattle.rules.specs.State.{clocksLength, wordsLength, stampsLength, blocksLength, dsmIds, pubkeysLength, chainLength, heldkeyLength, waitingLength, setsLength, satellites, areaLength}
+use Rattle.rules.specs.State.{clocksLength, wordsLength, stampsLength, blocksLength, dsmIds, pubkeysLength, chainLength, heldkeyLength, waitingLength, setsLength, arrivalsLength, copyLength, areaLength}
 use Rattle.rules.specs.Tags.{Section, Work, duesJudged}
 use Rattle.rules.specs.Times.{timeValid, stampOf, secondsOf}
 use Rattle.rules.specs.Verdict.{Verdict, vouchChecks, judgedVerdict, cidInForce}
@@ -82,7 +83,7 @@ fresh x =
       offer = noOffer;
       chain = replicate chainLength 0;
       tesla = record { numbers = 0 ∷ 0 ∷ []; key = replicate heldkeyLength 0; waiting = replicate waitingLength 0 };
-      auth = record { sets = replicate setsLength 0; arrivals = replicate satellites 0 };
+      auth = record { sets = replicate setsLength 0; arrivals = replicate arrivalsLength 0 };
     }
 
 unfoldable pub startCall : State → Start → Told
@@ -107,7 +108,7 @@ wordUnfit w =
 -- "1, 2, 4, 3"; row 3: "word earlier than that PRN's last"
 unfoldable pub wordChecks : State → Word → List Check
 wordChecks s w =
-    refuse (not (shaped s && eqb (length (w .bytes)) 16)) 1
+    refuse (not (wordShaped s && eqb (length (w .bytes)) 16)) 1
     ∷ refuse (wordUnfit w) 2
     ∷ refuse (stopped (s .config)) 4
     ∷ refuse (ltb (stampOf (w .time)) (lastWordOf (s .clocks) (w .prn))) 3
@@ -130,7 +131,7 @@ wordCall s w = let code = firstOf (wordChecks s w) in record { code = code; stat
 -- "verdict 1, 2, 4, 14, 15, 11, 9"
 unfoldable pub verdictChecks : State → Verdict → List Check
 verdictChecks s v =
-    refuse (not (shaped s && (eqb (length (v .message)) 45 && eqb (length (v .signature)) 132))) 1
+    refuse (not (verdictShaped s && (eqb (length (v .message)) 45 && eqb (length (v .signature)) 132))) 1
     ∷ refuse (ltb 1 (v .good) || ltb 15 (v .id)) 2
     ∷ refuse (stopped (s .config)) 4
     ∷ vouchChecks s v
@@ -162,7 +163,7 @@ pkrDone s store d =
     record {
       code = j .code;
       stops = j .stops;
-      state = withPubkeys (withStore (withConfig s (cond (j .stops) (set (s .config) 62 1) (s .config))) store) (j .pubkeys);
+      state = withPubkeys (withStore (withConfig s (cond (j .stops) (set (s .config) stoppedAt 1) (s .config))) store) (j .pubkeys);
     }
 
 unfoldable pub storeDone : State → Gathered → HkrootDone
@@ -309,12 +310,12 @@ unfoldable pub authStamp : Auth → ℕ → ℕ
 authStamp a prn = getD (a .arrivals) (prn - 1) 0
 
 unfoldable pub authSet : Auth → ℕ → List ℕ
-authSet a prn = part (a .sets) ((prn - 1) * 69) 69
+authSet a prn = part (a .sets) ((prn - 1) * copyLength) 69
 
 -- "its checks go 1, 2, 16"
 unfoldable pub setReadChecks : State → ℕ → List ℕ → List Check
 setReadChecks s prn out =
-    refuse (not (shaped s && eqb (length out) 69)) 1
+    refuse (not (setShaped s && eqb (length out) 69)) 1
     ∷ refuse (not (prnValid prn)) 2
     ∷ refuse (eqb (authStamp (s .auth) prn) 0) 16
     ∷ []
@@ -343,7 +344,7 @@ pub record OfferRead : Type 0 where
 
 unfoldable pub offerReadChecks : State → List ℕ → List ℕ → List ℕ → List Check
 offerReadChecks s message signature key =
-    refuse (not (shaped s && (eqb (length message) 45 && (eqb (length signature) 132 && eqb (length key) 67)))) 1
+    refuse (not (offerShaped s && (eqb (length message) 45 && (eqb (length signature) 132 && eqb (length key) 67)))) 1
     ∷ refuse (not (offerWaits (s .offer))) 14
     ∷ []
 

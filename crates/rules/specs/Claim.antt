@@ -19,7 +19,7 @@ use Rattle.rules.specs.Calls.{Start, Word, Subframe, OfferRead, startCal
 use Rattle.rules.specs.Chain.{walk, sentSlot, keySlot}
 use Rattle.rules.specs.Gather.{hkrootOf, mackOf, headerOf, statusOf, dsmIdOf, blockIdOf, blockOf, totalOf}
 use Rattle.rules.specs.Kroot.{chainWith, krootOf}
-use Rattle.rules.specs.Log.{Call, start, word, subframe, verdict, readSet, readOffer, Handed, Entry, Log, Once, Always, History, ranFrom, stateAt, step, hkrootIn, sectionIn, verdictIn, lastWord, chainIn}
+use Rattle.rules.specs.Log.{Call, start, word, subframe, verdict, Question, set, offer, ask, Handed, Entry, Log, Once, Always, History, ranFrom, stateAt, step, hkrootIn, sectionIn, verdictIn, lastWord, chainIn}
 use Rattle.rules.specs.Mack.{blockKey}
 use Rattle.rules.specs.Navdata.{setUsable, setBytes, setIssue}
 use Rattle.rules.specs.Pkr.{newIdOf, newTypeOf, newKeyOf, emergency, pkrSizeBad, treeProved}
@@ -224,9 +224,9 @@ pub record Fair (origin : Start) (began : State) (x : Entry) (older : Log) : Typ
   -- "every navigation set that was marked authentic in the list": record k, if its first byte is outcome 1
   pub marks : (k : ℕ) → 12 * k < length (x .reply .records) → getD (x .reply .records) (12 * k) 0 ≡ 1 → MarkBacked origin began k x older
   -- "or that a read after it gives"
-  pub reads : (prn : ℕ) (out : List ℕ) → x .call ≡ readSet prn out → x .reply .code ≡ 0 → SetBacked origin began prn (x .reply .time) (x .reply .out) older
+  pub reads : (prn : ℕ) (out : List ℕ) → x .call ≡ ask (set prn out) → x .reply .code ≡ 0 → SetBacked origin began prn (x .reply .time) (x .reply .out) older
   -- and all that the signature chip is handed
-  pub hands : (message signature key : List ℕ) → x .call ≡ readOffer message signature key → x .reply .code ≡ 0 → HandedFairly origin began (x .reply .handed) older
+  pub hands : (message signature key : List ℕ) → x .call ≡ ask (offer message signature key) → x .reply .code ≡ 0 → HandedFairly origin began (x .reply .handed) older
 
 -- ---- refused calls and halves
 
@@ -252,9 +252,8 @@ pub record Refused : Type 0 where
   pub verdict : (s : State) (v : Verdict) → (step s (verdict v)) .reply .code ≢ 0 → Kept s ((step s (verdict v)) .state)
   pub hkroot : (s : State) (area : List ℕ) (x : Subframe) → (step s (subframe area x)) .reply .code ≢ 0 → Kept s (between s area x)
   pub mack : (s : State) (area : List ℕ) (x : Subframe) → (step s (subframe area x)) .reply .mack ≢ 0 → Kept (between s area x) ((step s (subframe area x)) .state)
-  -- a read changes nothing, refused or not
-  pub readSet : (s : State) (prn : ℕ) (out : List ℕ) → (step s (readSet prn out)) .state ≡ s
-  pub readOffer : (s : State) (message signature key : List ℕ) → (step s (readOffer message signature key)) .state ≡ s
+  -- asking changes nothing, refused or not
+  pub ask : (s : State) (q : Question) → (step s (ask q)) .state ≡ s
 
 -- ---- the claim
 

@@ -10,7 +10,7 @@ use Rattle.laws.specs.Lists.{part}
 use Rattle.laws.specs.Refusal.{Check, refuse, firstOf, unless, neb}
 use Rattle.rules.specs.Bits.{bits, filled, anyOf}
 use Rattle.rules.specs.PublicKeys.{keyHeld, keyType, signatureLength}
-use Rattle.rules.specs.State.{macltOf, offerLength}
+use Rattle.rules.specs.State.{macltOf, offerLength, contentsLength}
 use Rattle.rules.specs.Times.{hourSeconds}
 use Rattle.rules.specs.declared.Chain.{Chain}
 
@@ -103,7 +103,7 @@ unfoldable pub pkidOf : List ℕ → ℕ
 pkidOf d = bits d 4 4
 
 unfoldable pub contentsOf : List ℕ → List ℕ
-contentsOf d = part d 1 44
+contentsOf d = part d 1 contentsLength
 
 -- "NB is the least that fits": blocks of 13 bytes for n bytes, 7 at the least
 unfoldable pub leastBlocks : ℕ → ℕ
@@ -179,7 +179,7 @@ chainWith ns c =
 
 -- the contents that were put in force last
 unfoldable pub chainContents : List ℕ → List ℕ
-chainContents chain = part chain 1 44
+chainContents chain = part chain 1 contentsLength
 
 -- a chain is in force; contents that no DSM-KROOT brings count as none
 unfoldable pub inForce : List ℕ → List ℕ → Bool

@@ -17,6 +17,13 @@ use Rattle.rules.specs.State.{State}
 use Rattle.rules.specs.Times.{stampOf}
 use Rattle.rules.specs.Verdict.{Verdict, messageHeader, messageContents}
 
+-- what a call that only asks wants to know, with what is lent for the answer
+pub data Question : Type 0 where
+  -- a PRN's authentic set: PRN, and the 69 lent bytes
+  set : ℕ → List ℕ → Question
+  -- what waits: the lent bytes for message, signature and key
+  offer : List ℕ → List ℕ → List ℕ → Question
+
 -- a call with all that is lent to it; "Every call that only asks counts as a read."
 pub data Call : Type 0 where
   start : Start → Call
@@ -24,10 +31,7 @@ pub data Call : Type 0 where
   -- the lent record area, and the sub-frame
   subframe : List ℕ → Subframe → Call
   verdict : Verdict → Call
-  -- PRN, and the 69 lent bytes
-  readSet : ℕ → List ℕ → Call
-  -- the lent bytes for message, signature and key
-  readOffer : List ℕ → List ℕ → List ℕ → Call
+  ask : Question → Call
 
 -- what a read of what waits hands out
 pub record Handed : Type 0 where
@@ -62,6 +66,23 @@ pub record Stepped : Type 0 where
   pub reply : Reply
   pub state : State
 
+-- a read: the state stays as it is
+unfoldable pub asked : State → Question → Reply
+asked s (set prn out) =
+    let r = setRead s prn out in
+    record { code = r .code; mack = 0; records = []; out = r .out; issue = r .issue; time = r .time; handed = nothing }
+asked s (offer message signature key) =
+    let r = offerRead s message signature key in
+    record {
+      code = r .code;
+      mack = 0;
+      records = [];
+      out = [];
+      issue = 0;
+      time = 0;
+      handed = record { message = r .message; signature = r .signature; key = r .key; id = r .id; type = r .type };
+    }
+
 -- one call
 unfoldable pub step : State → Call → Stepped
 step s (start x) = let r = startCall s x in record { reply = plain (r .code); state = r .state }
@@ -81,26 +102,7 @@ step s (subframe area x) =
       state = r .state;
     }
 step s (verdict v) = let r = verdictCall s v in record { reply = plain (r .code); state = r .state }
-step s (readSet prn out) =
-    let r = setRead s prn out in
-    record {
-      reply = record { code = r .code; mack = 0; records = []; out = r .out; issue = r .issue; time = r .time; handed = nothing };
-      state = s;
-    }
-step s (readOffer message signature key) =
-    let r = offerRead s message signature key in
-    record {
-      reply = record {
-        code = r .code;
-        mack = 0;
-        records = [];
-        out = [];
-        issue = 0;
-        time = 0;
-        handed = record { message = r .message; signature = r .signature; key = r .key; id = r .id; type = r .type };
-      };
-      state = s;
-    }
+step s (ask q) = record { reply = asked s q; state = s }
 
 -- ---- the log
 
@@ -138,8 +140,7 @@ advanced h (start x) (suc n) r s = longer h (record { call = start x; reply = r 
 advanced h (word w) n r s = longer h (record { call = word w; reply = r })
 advanced h (subframe area x) n r s = longer h (record { call = subframe area x; reply = r })
 advanced h (verdict v) n r s = longer h (record { call = verdict v; reply = r })
-advanced h (readSet prn out) n r s = longer h (record { call = readSet prn out; reply = r })
-advanced h (readOffer m g k) n r s = longer h (record { call = readOffer m g k; reply = r })
+advanced h (ask q) n r s = longer h (record { call = ask q; reply = r })
 
 -- the state and the history after a list of calls
 pub record Ran : Type 0 where
@@ -167,8 +168,7 @@ wordAnswered zero (word w) = some w
 wordAnswered zero (start x) = none
 wordAnswered zero (subframe area x) = none
 wordAnswered zero (verdict v) = none
-wordAnswered zero (readSet prn out) = none
-wordAnswered zero (readOffer m g k) = none
+wordAnswered zero (ask q) = none
 wordAnswered (suc n) c = none
 
 abbrev pub verdictAnswered : ℕ → Call → Option Verdict
@@ -176,8 +176,7 @@ verdictAnswered zero (verdict v) = some v
 verdictAnswered zero (start x) = none
 verdictAnswered zero (word w) = none
 verdictAnswered zero (subframe area x) = none
-verdictAnswered zero (readSet prn out) = none
-verdictAnswered zero (readOffer m g k) = none
+verdictAnswered zero (ask q) = none
 verdictAnswered (suc n) c = none
 
 abbrev pub subframeAnswered : ℕ → Call → Option Subframe
@@ -185,8 +184,7 @@ subframeAnswered zero (subframe area x) = some x
 subframeAnswered zero (start x) = none
 subframeAnswered zero (word w) = none
 subframeAnswered zero (verdict v) = none
-subframeAnswered zero (readSet prn out) = none
-subframeAnswered zero (readOffer m g k) = none
+subframeAnswered zero (ask q) = none
 subframeAnswered (suc n) c = none
 
 -- a word answered 0

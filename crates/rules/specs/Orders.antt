@@ -10,7 +10,7 @@ use Rattle.rules.specs.Kroot.{krootChecks, offered}
 use Rattle.rules.specs.Mack.{blockChecks}
 use Rattle.rules.specs.Pkr.{pkrChecks}
 use Rattle.rules.specs.Points.{Point, point, blankStart}
-use Rattle.rules.specs.State.{State, withConfig, withClocks, withOffer, withChain, offerLength, areaLength}
+use Rattle.rules.specs.State.{State, withConfig, withClocks, withOffer, withChain, stoppedAt, offerLength, areaLength}
 use Rattle.rules.specs.Times.{gst}
 
 -- nothing waits
@@ -28,7 +28,7 @@ core stop root offer =
     let s = fresh blankStart in
     withChain
     (withOffer
-    (withClocks (withConfig s (set (s .config) 62 stop)) (set (set (set (s .clocks) 0 (gst 1 600 + 1)) 1 (gst 1 600 + 1)) 37 (gst 1 600 + 1)))
+    (withClocks (withConfig s (set (s .config) stoppedAt stop)) (set (set (set (s .clocks) 0 (gst 1 600 + 1)) 1 (gst 1 600 + 1)) 37 (gst 1 600 + 1)))
     offer)
     (root ∷ contents 0x20 2)
 

@@ -9,7 +9,7 @@ use Rattle.rules.specs.Chain.{held}
 use Rattle.rules.specs.Gather.{blocksFor, gathered}
 use Rattle.rules.specs.Kroot.{fieldsFor, krootChecks}
 use Rattle.rules.specs.Mack.{blockChecks}
-use Rattle.rules.specs.State.{blocksLength, dsmIds, setsLength, satellites, areaLength}
+use Rattle.rules.specs.State.{blocksLength, dsmIds, setsLength, arrivalsLength, copyLength, areaLength}
 use Rattle.rules.specs.Tags.{setsEntered}
 use Rattle.rules.specs.Times.{stampOf, gst, gstOf, slotOf, slotSeconds, hourSeconds, tagSlot}
 
@@ -67,9 +67,9 @@ timeOfSlot m = gstOf (slotSeconds 36 2 (hourSeconds 947 120) m)
 abbrev pub setAfterTag : ℕ → ℕ
 setAfterTag time =
     getD
-    (setsEntered (replicate setsLength 7) (replicate satellites (stampOf 100))
+    (setsEntered (replicate setsLength 7) (replicate arrivalsLength (stampOf 100))
     (record { sender = 1; prn = 1; adkd = 0; block = 1; position = 1; time = time; status = 1; bits = 0 })
-    (replicate 69 9))
+    (replicate copyLength 9))
     0 0
 
 abbrev pub points : List Point

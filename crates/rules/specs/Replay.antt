@@ -10,7 +10,7 @@ use Rattle.laws.specs.Lists.{part}
 use Rattle.laws.specs.Refusal.{unless, neb}
 use Rattle.rules.specs.Calls.{Start, Word, Subframe, startCall, wordCall, subframeCall, verdictCall}
 use Rattle.rules.specs.State.{State}
-use Rattle.rules.specs.State.{configLength, clocksLength, wordsLength, stampsLength, blocksLength, dsmIds, pubkeysLength, offerLength, chainLength, numbersLength, heldkeyLength, waitingLength, setsLength, satellites, areaLength}
+use Rattle.rules.specs.State.{configLength, clocksLength, wordsLength, stampsLength, blocksLength, dsmIds, pubkeysLength, offerLength, chainLength, numbersLength, heldkeyLength, waitingLength, setsLength, arrivalsLength, areaLength}
 use Rattle.rules.specs.Verdict.{Verdict}
 
 -- ---- a record as a call
@@ -194,7 +194,7 @@ blankCore =
       offer = replicate offerLength 0;
       chain = replicate chainLength 0;
       tesla = record { numbers = replicate numbersLength 0; key = replicate heldkeyLength 0; waiting = replicate waitingLength 0 };
-      auth = record { sets = replicate setsLength 0; arrivals = replicate satellites 0 };
+      auth = record { sets = replicate setsLength 0; arrivals = replicate arrivalsLength 0 };
     }
 
 -- before the first record

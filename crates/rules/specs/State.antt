@@ -2,7 +2,7 @@
 -- Every definition is total: it gives an answer for any contents, also for ones that no start ever leaves. Such contents are read by a
 -- stated value (a number of satellites outside 1 to 36 as 1, and so on), so that every call has a stated effect.
 use Prim.Native.Nat.{ℕ, _+_}
-use mathlib.Core.Bool.{Bool, cond, not}
+use mathlib.Core.Bool.{Bool, cond, not, _&&_}
 use mathlib.Core.List.{List, [], _∷_}
 use lib.Dec.{leb, ltb, eqb}
 use lib.ListN.{length, getD}
@@ -126,7 +126,11 @@ pubkeysLength = 1088
 abbrev pub offerLength : ℕ
 offerLength = 179
 
--- 1 + 44
+-- contents of a root: a DSM-KROOT's bytes from byte 1 through the widest KROOT
+abbrev pub contentsLength : ℕ
+contentsLength = 44
+
+-- 1 + contents
 abbrev pub chainLength : ℕ
 chainLength = 45
 
@@ -137,17 +141,29 @@ numbersLength = 2
 abbrev pub heldkeyLength : ℕ
 heldkeyLength = 32
 
--- 256 places of 84 bytes
+-- a kept copy of a set: in a waiting entry, and in `sets`
+abbrev pub copyLength : ℕ
+copyLength = 69
+
+-- a waiting entry: 15 bytes and the copy of its set
+abbrev pub entryLength : ℕ
+entryLength = 84
+
+-- 256 places of an entry
 abbrev pub waitingLength : ℕ
 waitingLength = 21504
-
--- 36 satellites, 69 bytes
-abbrev pub setsLength : ℕ
-setsLength = 2484
 
 -- satellites that are heard
 abbrev pub satellites : ℕ
 satellites = 36
+
+-- 36 copies
+abbrev pub setsLength : ℕ
+setsLength = 2484
+
+-- 36 stamps
+abbrev pub arrivalsLength : ℕ
+arrivalsLength = 36
 
 -- the area lent for the records of a sub-frame: 256 of tags that waited and 14 others, 12 bytes each
 abbrev pub areaLength : ℕ
@@ -171,12 +187,47 @@ shapes s =
     ∷ eqb (length (s .tesla .key)) heldkeyLength
     ∷ eqb (length (s .tesla .waiting)) waitingLength
     ∷ eqb (length (s .auth .sets)) setsLength
-    ∷ eqb (length (s .auth .arrivals)) satellites
+    ∷ eqb (length (s .auth .arrivals)) arrivalsLength
     ∷ [])
 
--- every region has its length
+-- every region has its length: start and sub-frame are lent all of them
 unfoldable pub shaped : State → Bool
 shaped s = allOf (shapes s)
+
+-- what a word is lent
+abbrev pub wordShapes : State → List Bool
+wordShapes s =
+    (eqb (length (s .config)) configLength
+    ∷ eqb (length (s .clocks)) clocksLength
+    ∷ eqb (length (s .nav .words)) wordsLength
+    ∷ eqb (length (s .nav .stamps)) stampsLength
+    ∷ [])
+
+unfoldable pub wordShaped : State → Bool
+wordShaped s = allOf (wordShapes s)
+
+-- what a verdict is lent
+abbrev pub verdictShapes : State → List Bool
+verdictShapes s =
+    (eqb (length (s .config)) configLength
+    ∷ eqb (length (s .pubkeys)) pubkeysLength
+    ∷ eqb (length (s .offer)) offerLength
+    ∷ eqb (length (s .chain)) chainLength
+    ∷ eqb (length (s .tesla .numbers)) numbersLength
+    ∷ eqb (length (s .tesla .key)) heldkeyLength
+    ∷ eqb (length (s .tesla .waiting)) waitingLength
+    ∷ [])
+
+unfoldable pub verdictShaped : State → Bool
+verdictShaped s = allOf (verdictShapes s)
+
+-- what a read of a set is lent
+unfoldable pub setShaped : State → Bool
+setShaped s = eqb (length (s .auth .sets)) setsLength && eqb (length (s .auth .arrivals)) arrivalsLength
+
+-- what a read of what waits is lent
+unfoldable pub offerShaped : State → Bool
+offerShaped s = eqb (length (s .pubkeys)) pubkeysLength && eqb (length (s .offer)) offerLength
 
 -- ---- settings
 
@@ -194,8 +245,12 @@ markOf config half j = getD config (2 + cond half 14 0 + j) 0
 unfoldable pub treeRoot : List ℕ → List ℕ
 treeRoot config = part config 30 32
 
+-- the place of the mark that the core is stopped
+abbrev pub stoppedAt : ℕ
+stoppedAt = 62
+
 unfoldable pub stopped : List ℕ → Bool
-stopped config = not (eqb (getD config 62 0) 0)
+stopped config = not (eqb (getD config stoppedAt 0) 0)
 
 -- ---- clocks
 

@@ -12,7 +12,7 @@ use Rattle.hmac.specs.Hmac.{hmac}
 use Rattle.rules.specs.Bits.{bits, bitList, packed, anyOf}
 use Rattle.rules.specs.Chain.{Held, keyOfSlot, keySlot}
 use Rattle.rules.specs.Mack.{fieldTag, fieldInfo, macseqOf}
-use Rattle.rules.specs.State.{Nav, markOf, prnValid}
+use Rattle.rules.specs.State.{Nav, markOf, prnValid, entryLength, copyLength}
 use Rattle.rules.specs.Times.{delayOf, stampOf, secondOf, timeValid}
 use Rattle.rules.specs.Navdata.{usable, setOf, setIssue}
 use Rattle.rules.specs.declared.Chain.{Chain}
@@ -60,9 +60,9 @@ tagRecord outcome t issue =
 unfoldable pub recordIssue : ℕ → List ℕ → ℕ
 recordIssue outcome navdata = cond (anyOf (eqb outcome 3 ∷ eqb outcome 4 ∷ eqb outcome 6 ∷ eqb outcome 8 ∷ [])) 0 (setIssue navdata)
 
--- ---- waiting tags: an entry of 84 bytes each, in arrival order
+-- ---- waiting tags: an entry each, in arrival order
 
--- sender, PRN, ADKD, block, position, GST_SF (4), status, tag (5), the copy of its set (69)
+-- sender, PRN, ADKD, block, position, GST_SF (4), status, tag (5), the copy of its set
 unfoldable pub tagEntry : Tag → List ℕ → List ℕ
 tagEntry t navdata =
     t .sender ∷ t .prn ∷ t .adkd ∷ t .block ∷ t .position
@@ -70,7 +70,7 @@ tagEntry t navdata =
 
 -- entry k of the region, and the tag and set in it
 unfoldable pub entryAt : List ℕ → ℕ → List ℕ
-entryAt waiting k = part waiting (k * 84) 84
+entryAt waiting k = part waiting (k * entryLength) entryLength
 
 unfoldable pub entryTag : List ℕ → Tag
 entryTag e =
@@ -86,7 +86,7 @@ entryTag e =
     }
 
 unfoldable pub entrySet : List ℕ → List ℕ
-entrySet e = part e 15 69
+entrySet e = part e 15 copyLength
 
 -- "A waiting tag is due once the held slot reaches its key's slot."
 unfoldable pub isDue : Chain → Held → Tag → Bool
@@ -104,7 +104,7 @@ pub record Work : Type 0 where
 
 -- "Outcome 1 replaces the satellite's authentic set unless that set's tag came later."
 unfoldable pub setsEntered : List ℕ → List ℕ → Tag → List ℕ → List ℕ
-setsEntered sets arrivals t navdata = cond (ltb (stampOf (t .time)) (getD arrivals (t .prn - 1) 0)) sets (splice sets ((t .prn - 1) * 69) navdata)
+setsEntered sets arrivals t navdata = cond (ltb (stampOf (t .time)) (getD arrivals (t .prn - 1) 0)) sets (splice sets ((t .prn - 1) * copyLength) navdata)
 
 unfoldable pub arrivalsEntered : List ℕ → Tag → List ℕ
 arrivalsEntered arrivals t = cond (ltb (stampOf (t .time)) (getD arrivals (t .prn - 1) 0)) arrivals (set arrivals (t .prn - 1) (stampOf (t .time)))

@@ -11,7 +11,7 @@ use Rattle.rules.specs.Gather.{statusOf, cidOf}
 use Rattle.rules.specs.PublicKeys.{withoutLower}
 use Rattle.rules.specs.Kroot.{cidkrOf, nmackOf, hfOf, mfOf, ksOf, msOf, macltFieldOf, moOf, alphaOf, krootOf, rootSecondsOf}
 use Rattle.rules.specs.Kroot.{offerWaits, offerId, offerMessage, offerSignature, noOffer, chainContents, inForce, everForced}
-use Rattle.rules.specs.State.{State, Tesla, waitingCount, withPubkeys, withOffer, withChain, withTesla}
+use Rattle.rules.specs.State.{State, Tesla, waitingCount, contentsLength, entryLength, withPubkeys, withOffer, withChain, withTesla}
 use Rattle.rules.specs.Tags.{entryAt, entryTag}
 use Rattle.rules.specs.Times.{keySeconds}
 
@@ -28,7 +28,7 @@ unfoldable pub messageHeader : List ℕ → ℕ
 messageHeader m = getD m 0 0
 
 unfoldable pub messageContents : List ℕ → List ℕ
-messageContents m = part m 1 44
+messageContents m = part m 1 contentsLength
 
 -- "all of it is compared with what waits"
 unfoldable pub namesOffer : List ℕ → Verdict → Bool
@@ -115,7 +115,7 @@ unfoldable pub rootHeld : State → List ℕ → Tesla
 rootHeld s c =
     let stay = stayingAt s c in
     record {
-      numbers = 0 ∷ length stay / 84 ∷ [];
+      numbers = 0 ∷ length stay / entryLength ∷ [];
       key = filled 32 (krootOf c);
       waiting = splice (s .tesla .waiting) 0 stay;
     }
@@ -125,6 +125,10 @@ unfoldable pub tagsDropped : Tesla → Tesla
 tagsDropped t = record { numbers = set (t .numbers) 1 0; key = t .key; waiting = t .waiting }
 
 -- ---- the effect of a verdict that is past 14
+
+-- the chain with these contents put in force
+unfoldable pub forced : List ℕ → List ℕ
+forced c = 1 ∷ c
 
 abbrev pub trusting : State → List ℕ → List ℕ → Tesla → State
 trusting s pubkeys chain tesla = withTesla (withChain (withOffer (withPubkeys s pubkeys) noOffer) chain) tesla
@@ -139,7 +143,7 @@ vouched s v =
     (trusting s (s .pubkeys) (set (s .chain) 0 2) (tagsDropped (s .tesla)))
     (cond (sameContents s c)
     (trusting s lower (s .chain) (s .tesla))
-    (trusting s lower (1 ∷ c) (rootHeld s c)))
+    (trusting s lower (forced c) (rootHeld s c)))
 
 -- 14 leaves all as before; 15, 11 and 9 drop the waiting message
 unfoldable pub judgedVerdict : State → Verdict → ℕ → State

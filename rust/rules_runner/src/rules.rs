@@ -33,7 +33,7 @@ const LENGTHS: [&str; 16] = [
     "heldkeyLength",
     "waitingLength",
     "setsLength",
-    "satellites",
+    "arrivalsLength",
 ];
 
 pub struct Rules {
