@@ -1,14 +1,11 @@
-// The two reads (01, "Reads"), over the lent regions that they read; they write none of them. The caller has seen that every length is right, and
+// The two reads (01, "Verdicts", "MACK"), over the lent regions that they read; they write none of them. The caller has seen that every length is right, and
 // hands in numbers that are 0: where a read is refused, the lent bytes and the numbers stay.
 //   read_set        a PRN's authentic set, its IODnav and its tag's GST_SF
 //   read_message    the message that waits for a verdict, its signature, and its key with ID and type
 ghost use mathlib.Core.Path.{_≡_};
-ghost use mathlib.Core.Bool.{true, _&&_};
-ghost use lib.Dec.{eqb};
 ghost use lib.ListN.{length};
-ghost use Rattle.authentic_sets.specs.Regions.{auth};
 ghost use Rattle.rules.specs.Calls.{setRead, offerRead};
-ghost use Rattle.rules.specs.State.{State, shaped, pubkeysLength, offerLength, setsLength, satellites};
+ghost use Rattle.rules.specs.State.{State, setLent, offerLent, pubkeysLength, offerLength, setsLength, arrivalsLength};
 ghost use Rattle.call_reads.specs.Reads.{setTold, offerTold};
 
 // A satellite's authentic set into 69 lent bytes.
@@ -20,9 +17,11 @@ pub fn read_set(
     issue: &mut u16,
     time: &mut u32,
 ) -> u32
-    requires { ⌜ ((length (now sets) ≡ setsLength) × (length (now arrivals) ≡ satellites)) × (length (now out) ≡ 69) ⌝ }
+    requires { ⌜ ((length (now sets) ≡ setsLength) × (length (now arrivals) ≡ arrivalsLength)) × (length (now out) ≡ 69) ⌝ }
     requires { ⌜ (now issue ≡ 0) × (now time ≡ 0) ⌝ }
-    ensures { λ r. ⌜ ((s : State) → s .auth ≡ auth (now (sets .entry)) (now (arrivals .entry)) → (shaped s && eqb (length (now (out .entry))) 69) ≡ true → setTold r (now (out .exit)) (now (issue .exit)) (now (time .exit)) ≡ setRead s prn (now (out .entry))) ⌝ }
+    ensures { λ r. ⌜ ((s : State) →
+        setTold r (now (out .exit)) (now (issue .exit)) (now (time .exit))
+        ≡ setRead (setLent s (now (sets .entry)) (now (arrivals .entry))) prn (now (out .entry))) ⌝ }
 {
     if !regions::prn_valid(prn) {
         return 2;
@@ -52,7 +51,9 @@ pub fn read_message(
     requires { ⌜ (length (now pubkeys) ≡ pubkeysLength) × (length (now offer) ≡ offerLength) ⌝ }
     requires { ⌜ (length (now message) ≡ 45) × ((length (now signature) ≡ 132) × (length (now pubkey) ≡ 67)) ⌝ }
     requires { ⌜ (now id ≡ 0) × (now kind ≡ 0) ⌝ }
-    ensures { λ r. ⌜ ((s : State) → s .pubkeys ≡ now (pubkeys .entry) → s .offer ≡ now (offer .entry) → (shaped s && (eqb (length (now (message .entry))) 45 && (eqb (length (now (signature .entry))) 132 && eqb (length (now (pubkey .entry))) 67))) ≡ true → offerTold r (now (message .exit)) (now (signature .exit)) (now (pubkey .exit)) (now (id .exit)) (now (kind .exit)) ≡ offerRead s (now (message .entry)) (now (signature .entry)) (now (pubkey .entry))) ⌝ }
+    ensures { λ r. ⌜ ((s : State) →
+        offerTold r (now (message .exit)) (now (signature .exit)) (now (pubkey .exit)) (now (id .exit)) (now (kind .exit))
+        ≡ offerRead (offerLent s (now (pubkeys .entry)) (now (offer .entry))) (now (message .entry)) (now (signature .entry)) (now (pubkey .entry))) ⌝ }
 {
     if offer[0] != 1 {
         return 14;

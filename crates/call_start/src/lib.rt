@@ -15,8 +15,8 @@ ghost use Rattle.regions.specs.Tesla.{tesla};
 ghost use Rattle.rules.specs.Calls.{startChecks, startLengths};
 ghost use Rattle.rules.specs.PublicKeys.{keyLength, withKey};
 ghost use Rattle.rules.specs.Kroot.{noOffer};
-ghost use Rattle.rules.specs.State.{State, shaped, configLength, clocksLength, wordsLength, stampsLength, blocksLength, dsmIds, pubkeysLength};
-ghost use Rattle.rules.specs.State.{offerLength, chainLength, numbersLength, heldkeyLength, waitingLength, setsLength, satellites};
+ghost use Rattle.rules.specs.State.{State, shaped, configLength, clocksLength, wordsLength, stampsLength, blocksLength, dsmIds, pubkeysLength, arrivalsLength};
+ghost use Rattle.rules.specs.State.{offerLength, chainLength, numbersLength, heldkeyLength, waitingLength, setsLength};
 ghost use Rattle.call_start_parts.specs.Blank.{settings, noWords, noBlocks, noTags, noSets};
 
 // The number that refuses a start, or 0; `fits` says that every lent length is right. It does not depend on MACLT, root and key.
@@ -76,7 +76,7 @@ pub fn install_key(
 )
     requires { ⌜ (length (now pubkeys) ≡ pubkeysLength) × ((length (now offer) ≡ offerLength) × (length (now chain) ≡ chainLength)) ⌝ }
     requires { ⌜ (length (now numbers) ≡ numbersLength) × ((length (now heldkey) ≡ heldkeyLength) × (length (now waiting) ≡ waitingLength)) ⌝ }
-    requires { ⌜ (length (now sets) ≡ setsLength) × (length (now arrivals) ≡ satellites) ⌝ }
+    requires { ⌜ (length (now sets) ≡ setsLength) × (length (now arrivals) ≡ arrivalsLength) ⌝ }
     requires { ⌜ (length (now pubkey) ≡ 67) × ((id < 16) × (kind < 4)) ⌝ }
     ensures { λ _. ⌜ ((now (pubkeys .exit) ≡ withKey (replicate pubkeysLength 0) id kind (take (keyLength kind) (now (pubkey .entry)))) × ((now (offer .exit) ≡ noOffer) × (now (chain .exit) ≡ replicate chainLength 0))) × ((tesla (now (numbers .exit)) (now (heldkey .exit)) (now (waiting .exit)) ≡ noTags) × (auth (now (sets .exit)) (now (arrivals .exit)) ≡ noSets)) ⌝ }
 {

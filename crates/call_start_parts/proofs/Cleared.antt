@@ -14,7 +14,7 @@ use Rattle.navdata.specs.Pieces.{nav}
 use Rattle.regions.specs.Tesla.{tesla}
 use Rattle.rules.specs.Calls.{markValid, marksValid}
 use Rattle.rules.specs.PublicKeys.{keyLength, withKey}
-use Rattle.rules.specs.State.{configLength, wordsLength, stampsLength, blocksLength, dsmIds, pubkeysLength, numbersLength, heldkeyLength, waitingLength, setsLength, satellites}
+use Rattle.rules.specs.State.{configLength, wordsLength, stampsLength, blocksLength, dsmIds, pubkeysLength, numbersLength, heldkeyLength, waitingLength, setsLength, arrivalsLength, stoppedAt}
 use Rattle.call_start_parts.specs.Blank.{settings, noWords, noBlocks, noTags, noSets}
 
 -- a loop that clears: one more number is 0
@@ -41,7 +41,7 @@ marks-more m i a b r p q e = rw (add-one i) (e ∙ rw (p, q))
 pub config-set : (d e f : List ℕ) (ns maclt : ℕ) (marks root : List ℕ) → length d ≡ configLength → length marks ≡ 28 → length root ≡ 32
     → e ≡ splice (set (set d 0 ns) 1 maclt) 2 marks
     → f ≡ splice e 30 root
-    → set f 62 0 ≡ settings ns maclt marks root
+    → set f stoppedAt 0 ≡ settings ns maclt marks root
 config-set d e f ns maclt marks root ld lm lr p q =
     let a : List ℕ = ns ∷ maclt ∷ [] in
     let b : List ℕ = a ++ marks in
@@ -73,8 +73,8 @@ tags-clear n d e f g ln ld lf p q =
 pub blocks-clear : (b h m t : List ℕ) → b ≡ replicate blocksLength 0 → h ≡ replicate dsmIds 0 → m ≡ replicate dsmIds 0 → t ≡ replicate dsmIds 0 → store b h m t ≡ noBlocks
 blocks-clear b h m t eb eh em et = rw (eb, eh, em, et)
 
-pub sets-clear : (d e f g : List ℕ) → length d ≡ setsLength → length f ≡ satellites → e ≡ splice d 0 (replicate setsLength 0) → g ≡ splice f 0 (replicate satellites 0) → auth e g ≡ noSets
-sets-clear d e f g ld lf p q = rw (cleared d e setsLength ld p, cleared f g satellites lf q)
+pub sets-clear : (d e f g : List ℕ) → length d ≡ setsLength → length f ≡ arrivalsLength → e ≡ splice d 0 (replicate setsLength 0) → g ≡ splice f 0 (replicate arrivalsLength 0) → auth e g ≡ noSets
+sets-clear d e f g ld lf p q = rw (cleared d e setsLength ld p, cleared f g arrivalsLength lf q)
 
 -- ---- the key
 

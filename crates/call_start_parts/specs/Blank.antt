@@ -4,7 +4,7 @@ use Prim.Native.Nat.{ℕ}
 use lib.ListN.{replicate}
 use Rattle.gather.specs.Store.{store}
 use Rattle.regions.specs.Tesla.{tesla}
-use Rattle.rules.specs.State.{Nav, Store, Tesla, Auth, wordsLength, stampsLength, blocksLength, dsmIds, heldkeyLength, waitingLength, setsLength, satellites}
+use Rattle.rules.specs.State.{Nav, Store, Tesla, Auth, wordsLength, stampsLength, blocksLength, dsmIds, heldkeyLength, waitingLength, setsLength, arrivalsLength}
 
 -- NS, MACLT, marks, tree root, and 0: not stopped
 abbrev pub settings : ℕ → ℕ → List ℕ → List ℕ → List ℕ
@@ -20,4 +20,4 @@ abbrev pub noTags : Tesla
 noTags = tesla (0 ∷ 0 ∷ []) (replicate heldkeyLength 0) (replicate waitingLength 0)
 
 abbrev pub noSets : Auth
-noSets = record { sets = replicate setsLength 0; arrivals = replicate satellites 0 }
+noSets = record { sets = replicate setsLength 0; arrivals = replicate arrivalsLength 0 }

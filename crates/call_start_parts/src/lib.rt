@@ -17,8 +17,8 @@ ghost use Rattle.regions.specs.Tesla.{tesla};
 ghost use Rattle.rules.specs.Calls.{startUnfit, markValid, marksValid};
 ghost use Rattle.rules.specs.PublicKeys.{keyLength, withKey};
 ghost use Rattle.rules.specs.Kroot.{noOffer};
-ghost use Rattle.rules.specs.State.{configLength, clocksLength, wordsLength, stampsLength, blocksLength, dsmIds, pubkeysLength, offerLength, chainLength};
-ghost use Rattle.rules.specs.State.{numbersLength, heldkeyLength, waitingLength, setsLength, satellites};
+ghost use Rattle.rules.specs.State.{configLength, clocksLength, wordsLength, stampsLength, blocksLength, dsmIds, pubkeysLength, offerLength, chainLength, arrivalsLength};
+ghost use Rattle.rules.specs.State.{numbersLength, heldkeyLength, waitingLength, setsLength};
 ghost use Rattle.call_start_parts.specs.Blank.{settings, noWords, noBlocks, noTags, noSets};
 
 // ---- what refuses a start
@@ -92,7 +92,7 @@ pub fn set_config(config: &mut [u8], ns: u8, maclt: u8, marks: &[u8], root: &[u8
     config[1] = maclt;
     buffer::copy_at(config, 2, marks);
     buffer::copy_at(config, 30, root);
-    config[62] = 0;
+    config[regions::STOPPED_AT] = 0;
 }
 
 // No time was noted and no word is held.
@@ -148,11 +148,11 @@ pub fn clear_tags(numbers: &mut [u64], heldkey: &mut [u8], waiting: &mut [u8])
 
 // No satellite has an authentic set.
 pub fn clear_sets(sets: &mut [u8], arrivals: &mut [u32])
-    requires { ⌜ (length (now sets) ≡ setsLength) × (length (now arrivals) ≡ satellites) ⌝ }
+    requires { ⌜ (length (now sets) ≡ setsLength) × (length (now arrivals) ≡ arrivalsLength) ⌝ }
     ensures { λ _. ⌜ auth (now (sets .exit)) (now (arrivals .exit)) ≡ noSets ⌝ }
 {
     buffer::fill(sets, 0, regions::SETS_LENGTH, 0);
-    clear_u32(arrivals, regions::SATELLITES);
+    clear_u32(arrivals, regions::ARRIVALS_LENGTH);
 }
 
 // The first n numbers become 0.

@@ -12,7 +12,7 @@ ghost use Rattle.laws.specs.Refusal.{firstOf, neb};
 ghost use Rattle.gather.specs.Store.{Lent};
 ghost use Rattle.rules.specs.Calls.{subframeChecks, halvesDone, subframeCall};
 ghost use Rattle.rules.specs.Received.{fieldsCame, received};
-ghost use Rattle.rules.specs.State.{State, state, shaped, lastSubframe, lastSubframeOf, configLength, clocksLength, areaLength, chainLength, heldkeyLength, numbersLength, offerLength, pubkeysLength, satellites, setsLength, stampsLength, waitingLength, wordsLength};
+ghost use Rattle.rules.specs.State.{State, state, shaped, lastSubframe, lastSubframeOf, configLength, clocksLength, areaLength, chainLength, heldkeyLength, numbersLength, offerLength, pubkeysLength, setsLength, stampsLength, waitingLength, wordsLength, arrivalsLength};
 ghost use Rattle.rules.specs.Times.{stampOf};
 ghost use Rattle.call_subframe.specs.Told.{subframeTold, subframe};
 
@@ -101,7 +101,7 @@ fn both_halves(
 ) -> Halves
     requires { ⌜ Lent (now blocks) (now headers) (now present) (now since) × ((length (now config) ≡ configLength) × ((length (now pubkeys) ≡ pubkeysLength) × (length (now offer) ≡ offerLength))) ⌝ }
     requires { ⌜ ((length (now words) ≡ wordsLength) × (length (now stamps) ≡ stampsLength)) × ((length (now chain) ≡ chainLength) × ((length (now numbers) ≡ numbersLength) × (length (now heldkey) ≡ heldkeyLength))) ⌝ }
-    requires { ⌜ ((length (now sets) ≡ setsLength) × (length (now arrivals) ≡ satellites)) × ((length (now waiting) ≡ waitingLength) × (length (now area) ≡ areaLength)) ⌝ }
+    requires { ⌜ ((length (now sets) ≡ setsLength) × (length (now arrivals) ≡ arrivalsLength)) × ((length (now waiting) ≡ waitingLength) × (length (now area) ≡ areaLength)) ⌝ }
     requires { ⌜ length (now fields) ≡ 75 ⌝ }
     ensures { λ r. ⌜ ((clocks lent : List ℕ) → now (fields .entry) ≡ received marks lent 15 → subframeTold (r .hkroot) (r .mack) (r .count) (state (now (config .exit)) clocks (now (words .entry)) (now (stamps .entry)) (now (blocks .exit)) (now (headers .exit)) (now (present .exit)) (now (since .exit)) (now (pubkeys .exit)) (now (offer .exit)) (now (chain .entry)) (now (numbers .exit)) (now (heldkey .exit)) (now (waiting .exit)) (now (sets .exit)) (now (arrivals .exit))) (now (area .exit)) ≡ halvesDone (state (now (config .entry)) clocks (now (words .entry)) (now (stamps .entry)) (now (blocks .entry)) (now (headers .entry)) (now (present .entry)) (now (since .entry)) (now (pubkeys .entry)) (now (offer .entry)) (now (chain .entry)) (now (numbers .entry)) (now (heldkey .entry)) (now (waiting .entry)) (now (sets .entry)) (now (arrivals .entry))) (now (area .entry)) (subframe prn time marks lent)) ⌝ }
 {

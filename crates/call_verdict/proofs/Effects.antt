@@ -17,7 +17,9 @@ use Rattle.rules.specs.Calls.{verdictCall, verdictChecks}
 use Rattle.rules.specs.Gather.{statusOf}
 use Rattle.rules.specs.PublicKeys.{withoutLower}
 use Rattle.rules.specs.Kroot.{krootOf, rootSecondsOf, chainContents, inForce}
-use Rattle.rules.specs.State.{State, Tesla, shaped, stopped, waitingCount}
+use Rattle.rules.specs.State.{State, Tesla, verdictShaped, stopped, waitingCount, entryLength}
+use Rattle.rules.specs.State.{configLength, pubkeysLength, offerLength, chainLength, numbersLength, heldkeyLength, waitingLength}
+use Rattle.rules.proofs.Lengths.{verdict-shaped}
 use Rattle.rules.specs.Verdict as S
 use Rattle.regions.specs.Tesla.{tesla}
 
@@ -38,21 +40,21 @@ module _ (s : State) (config chain c : List ℕ) (m : s .config ≡ config) (e :
   same-chain f u = rw (m, e, f, u)
 
 -- no tag stays: the region is as it was
-pub none-stay : (waiting stay : List ℕ) → stay ≡ [] → (waiting ≡ splice waiting 0 stay) × (length stay ≡ 0 * 84)
+pub none-stay : (waiting stay : List ℕ) → stay ≡ [] → (waiting ≡ splice waiting 0 stay) × (length stay ≡ 0 * entryLength)
 none-stay waiting stay e = rw e (sym (splice-nil waiting 0), refl)
 
-pub some-stay : (waiting out stay : List ℕ) (r : ℕ) (kept : List ℕ) → stay ≡ kept → out ≡ splice waiting 0 kept → length kept ≡ r * 84
-    → (out ≡ splice waiting 0 stay) × (length stay ≡ r * 84)
+pub some-stay : (waiting out stay : List ℕ) (r : ℕ) (kept : List ℕ) → stay ≡ kept → out ≡ splice waiting 0 kept → length kept ≡ r * entryLength
+    → (out ≡ splice waiting 0 stay) × (length stay ≡ r * entryLength)
 some-stay waiting out stay r kept e a b = rw e (a, b)
 
 -- ---- the root held
 
 pub root-held : (s : State) (c numbers heldkey waiting numbers′ heldkey′ waiting′ : List ℕ) (n : ℕ) → s .tesla ≡ tesla numbers heldkey waiting
-    → numbers′ ≡ 0 ∷ n ∷ [] → heldkey′ ≡ filled 32 (krootOf c) → waiting′ ≡ splice waiting 0 (S.stayingAt s c) → length (S.stayingAt s c) ≡ n * 84
+    → numbers′ ≡ 0 ∷ n ∷ [] → heldkey′ ≡ filled 32 (krootOf c) → waiting′ ≡ splice waiting 0 (S.stayingAt s c) → length (S.stayingAt s c) ≡ n * entryLength
     → tesla numbers′ heldkey′ waiting′ ≡ S.rootHeld s c
 unfolding S.rootHeld
 root-held s c numbers heldkey waiting numbers′ heldkey′ waiting′ n t a b d l =
-    let q : n ≡ length (S.stayingAt s c) / 84 = omega arith in
+    let q : n ≡ length (S.stayingAt s c) / entryLength = omega arith in
     let w : s .tesla .waiting ≡ waiting = ap (λ (x : Tesla). x .waiting) t in
     rw (a, b, d, q, ← w)
 
@@ -65,15 +67,15 @@ module _ (s : State) (v : S.Verdict) (pubkeys chain : List ℕ) (ts : Tesla) (k 
   dropped h = rw (h, k, e, t)
 
   pub renewed : (pubkeys′ chain′ : List ℕ) (ts′ : Tesla) → (statusOf (S.messageHeader (v .message)) ≡ 3 → ⊥) → pubkeys′ ≡ withoutLower pubkeys (v .id)
-      → chain′ ≡ cond (S.sameContents s (S.messageContents (v .message))) (s .chain) (1 ∷ S.messageContents (v .message))
+      → chain′ ≡ cond (S.sameContents s (S.messageContents (v .message))) (s .chain) (S.forced (S.messageContents (v .message)))
       → ts′ ≡ cond (S.sameContents s (S.messageContents (v .message))) (s .tesla) (S.rootHeld s (S.messageContents (v .message)))
       → S.trusting s pubkeys′ chain′ ts′ ≡ S.vouched s v
   unfolding S.vouched
   renewed pubkeys′ chain′ ts′ h a b d = rw (ne-eqb (statusOf (S.messageHeader (v .message))) 3 h, a, b, d, ← k) (go (S.sameContents s (S.messageContents (v .message))))
     where
       go : (same : Bool)
-          → S.trusting s (withoutLower (s .pubkeys) (v .id)) (cond same (s .chain) (1 ∷ S.messageContents (v .message))) (cond same (s .tesla) (S.rootHeld s (S.messageContents (v .message))))
-          ≡ cond same (S.trusting s (withoutLower (s .pubkeys) (v .id)) (s .chain) (s .tesla)) (S.trusting s (withoutLower (s .pubkeys) (v .id)) (1 ∷ S.messageContents (v .message)) (S.rootHeld s (S.messageContents (v .message))))
+          → S.trusting s (withoutLower (s .pubkeys) (v .id)) (cond same (s .chain) (S.forced (S.messageContents (v .message)))) (cond same (s .tesla) (S.rootHeld s (S.messageContents (v .message))))
+          ≡ cond same (S.trusting s (withoutLower (s .pubkeys) (v .id)) (s .chain) (s .tesla)) (S.trusting s (withoutLower (s .pubkeys) (v .id)) (S.forced (S.messageContents (v .message))) (S.rootHeld s (S.messageContents (v .message))))
       go true = refl
       go false = refl
 
@@ -103,7 +105,21 @@ other-number A false false true d s f = refl
 other-number A false false false true s f = refl
 other-number A false false false false s f = refl
 
-module _ (s : State) (v : S.Verdict) (l : shaped s && (eqb (length (v .message)) 45 && eqb (length (v .signature)) 132) ≡ true) where
+-- right lengths are those that row 1 asks for
+pub fits : (s : State) (v : S.Verdict)
+    → (((length (s .config) ≡ configLength) × (length (s .pubkeys) ≡ pubkeysLength)) × ((length (s .offer) ≡ offerLength) × (length (s .chain) ≡ chainLength)))
+    × (((length (s .tesla .numbers) ≡ numbersLength) × (length (s .tesla .key) ≡ heldkeyLength))
+    × ((length (s .tesla .waiting) ≡ waitingLength) × ((length (v .message) ≡ 45) × (length (v .signature) ≡ 132))))
+    → (verdictShaped s && (eqb (length (v .message)) 45 && eqb (length (v .signature)) 132)) ≡ true
+fits s v l =
+    rw (
+      verdict-shaped s
+          (record { config = l .0 .0 .0; pubkeys = l .0 .0 .1; offer = l .0 .1 .0; chain = l .0 .1 .1; numbers = l .1 .0 .0; heldkey = l .1 .0 .1; waiting = l .1 .1 .0 }),
+      l .1 .1 .1 .0,
+      l .1 .1 .1 .1,
+    )
+
+module _ (s : State) (v : S.Verdict) (l : verdictShaped s && (eqb (length (v .message)) 45 && eqb (length (v .signature)) 132) ≡ true) where
   pub not-a-verdict : 1 < v .good → told 2 s ≡ verdictCall s v
   unfolding verdictCall verdictChecks
   not-a-verdict h = rw (l, lt-ltb 1 (v .good) h)

@@ -11,7 +11,7 @@ use Rattle.laws.proofs.Splice.{splice-whole, splice-append, length-part, splice
 use Rattle.rules.specs.Bits.{filled}
 use Rattle.rules.specs.Kroot.{noOffer, krootOf, keyWidth, ksOf}
 use Rattle.rules.proofs.Bounds.{key-width-bound}
-use Rattle.rules.specs.State.{offerLength}
+use Rattle.rules.specs.State.{offerLength, contentsLength}
 
 -- no message waits
 pub wiped : (offer : List ℕ) → length offer ≡ offerLength → splice offer 0 (replicate 179 0) ≡ noOffer
@@ -19,11 +19,11 @@ unfolding noOffer
 wiped offer h = splice-whole offer (replicate 179 0) (length-replicate {A = ℕ} 179 0 ∙ sym h)
 
 -- the first byte, and the contents after it
-pub put : (chain c : List ℕ) → length chain ≡ 45 → length c ≡ 44 → splice (set chain 0 1) 1 c ≡ 1 ∷ c
+pub put : (chain c : List ℕ) → length chain ≡ 45 → length c ≡ contentsLength → splice (set chain 0 1) 1 c ≡ 1 ∷ c
 put chain c h k = splice-cons chain 0 1 c (omega arith) ∙ splice-whole chain (1 ∷ c) (omega arith)
 
 -- the root key in 32 bytes, written in two steps
-pub root-written : (heldkey c : List ℕ) (w : ℕ) → length heldkey ≡ 32 → length c ≡ 44 → w ≡ keyWidth (ksOf c)
+pub root-written : (heldkey c : List ℕ) (w : ℕ) → length heldkey ≡ 32 → length c ≡ contentsLength → w ≡ keyWidth (ksOf c)
     → splice (splice heldkey 0 (part c 12 w)) w (replicate (32 - w) 0) ≡ filled 32 (krootOf c)
 unfolding krootOf filled
 root-written heldkey c w h k e =

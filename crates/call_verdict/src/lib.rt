@@ -4,10 +4,9 @@
 //   vouch            what a verdict that is answered 0 changes
 // `c` are the contents of a message (its bytes after the NMA header).
 ghost use mathlib.Core.Path.{_≡_};
-ghost use mathlib.Core.Bool.{true, cond, _&&_};
+ghost use mathlib.Core.Bool.{cond};
 ghost use mathlib.Core.List.{List, [], _∷_};
 ghost use Prim.Native.Nat.{ℕ, _*_, _≤_, _<_};
-ghost use lib.Dec.{eqb};
 ghost use lib.ListN.{length};
 ghost use Rattle.regions.specs.Told.{told};
 ghost use Rattle.laws.specs.Lists.{splice};
@@ -15,11 +14,10 @@ ghost use Rattle.laws.specs.Refusal.{firstOf};
 ghost use Rattle.rules.specs.Bits.{filled};
 ghost use Rattle.rules.specs.Calls.{verdictCall};
 ghost use Rattle.rules.specs.Kroot.{krootOf, noOffer};
-ghost use Rattle.rules.specs.State.{State, shaped, waitingCount};
+ghost use Rattle.rules.specs.State.{State, verdictLent, waitingCount, entryLength, contentsLength};
 ghost use Rattle.rules.specs.State.{configLength, pubkeysLength, offerLength, chainLength, numbersLength, heldkeyLength, waitingLength};
 ghost use Rattle.rules.specs.Verdict as S;
 ghost use Rattle.regions.specs.Tesla.{tesla};
-ghost use Rattle.call_verdict.specs.Trusted.{trusted};
 
 // A verdict: 1 (good) or 0, key ID, message (45 bytes) and signature (132). Out of range, or of a stopped core, it changes nothing.
 pub fn judge_verdict(
@@ -35,8 +33,11 @@ pub fn judge_verdict(
     message: &[u8],
     signature: &[u8],
 ) -> u32
-    requires { ⌜ (((length (now config) ≡ configLength) × (length (now pubkeys) ≡ pubkeysLength)) × ((length (now offer) ≡ offerLength) × (length (now chain) ≡ chainLength))) × (((length (now numbers) ≡ numbersLength) × (length (now heldkey) ≡ heldkeyLength)) × ((length (now waiting) ≡ waitingLength) × (length (now message) ≡ 45))) ⌝ }
-    ensures { λ r. ⌜ ((s : State) → s .config ≡ now (config .entry) → (shaped (trusted s (now (pubkeys .entry)) (now (offer .entry)) (now (chain .entry)) (tesla (now (numbers .entry)) (now (heldkey .entry)) (now (waiting .entry)))) && (eqb (length (now (message .entry))) 45 && eqb (length (now (signature .entry))) 132)) ≡ true → told r (trusted s (now (pubkeys .exit)) (now (offer .exit)) (now (chain .exit)) (tesla (now (numbers .exit)) (now (heldkey .exit)) (now (waiting .exit)))) ≡ verdictCall (trusted s (now (pubkeys .entry)) (now (offer .entry)) (now (chain .entry)) (tesla (now (numbers .entry)) (now (heldkey .entry)) (now (waiting .entry)))) (record { good = good; id = id; message = now (message .entry); signature = now (signature .entry) })) ⌝ }
+    requires { ⌜ (((length (now config) ≡ configLength) × (length (now pubkeys) ≡ pubkeysLength)) × ((length (now offer) ≡ offerLength) × (length (now chain) ≡ chainLength))) × (((length (now numbers) ≡ numbersLength) × (length (now heldkey) ≡ heldkeyLength)) × ((length (now waiting) ≡ waitingLength) × ((length (now message) ≡ 45) × (length (now signature) ≡ 132)))) ⌝ }
+    ensures { λ r. ⌜ ((s : State) →
+        told r (verdictLent s (now (config .entry)) (now (pubkeys .exit)) (now (offer .exit)) (now (chain .exit)) (now (numbers .exit)) (now (heldkey .exit)) (now (waiting .exit)))
+        ≡ verdictCall (verdictLent s (now (config .entry)) (now (pubkeys .entry)) (now (offer .entry)) (now (chain .entry)) (now (numbers .entry)) (now (heldkey .entry)) (now (waiting .entry)))
+        (record { good = good; id = id; message = now (message .entry); signature = now (signature .entry) })) ⌝ }
 {
     if 1 < good {
         return 2;
@@ -78,7 +79,12 @@ fn judge_named(
 ) -> u32
     requires { ⌜ (id < 16) × (length (now config) ≡ configLength) ⌝ }
     requires { ⌜ ((length (now pubkeys) ≡ pubkeysLength) × ((length (now offer) ≡ offerLength) × (length (now chain) ≡ chainLength))) × (((length (now numbers) ≡ numbersLength) × (length (now heldkey) ≡ heldkeyLength)) × ((length (now waiting) ≡ waitingLength) × (length (now message) ≡ 45))) ⌝ }
-    ensures { λ r. ⌜ ((s : State) → s .config ≡ now (config .entry) → (r ≡ firstOf (S.vouchChecks (trusted s (now (pubkeys .entry)) (now (offer .entry)) (now (chain .entry)) (tesla (now (numbers .entry)) (now (heldkey .entry)) (now (waiting .entry)))) (record { good = good; id = id; message = now (message .entry); signature = now (signature .entry) }))) × (trusted s (now (pubkeys .exit)) (now (offer .exit)) (now (chain .exit)) (tesla (now (numbers .exit)) (now (heldkey .exit)) (now (waiting .exit))) ≡ S.judgedVerdict (trusted s (now (pubkeys .entry)) (now (offer .entry)) (now (chain .entry)) (tesla (now (numbers .entry)) (now (heldkey .entry)) (now (waiting .entry)))) (record { good = good; id = id; message = now (message .entry); signature = now (signature .entry) }) r)) ⌝ }
+    ensures { λ r. ⌜ ((s : State) →
+        (r ≡ firstOf (S.vouchChecks (verdictLent s (now (config .entry)) (now (pubkeys .entry)) (now (offer .entry)) (now (chain .entry)) (now (numbers .entry)) (now (heldkey .entry)) (now (waiting .entry)))
+        (record { good = good; id = id; message = now (message .entry); signature = now (signature .entry) })))
+        × (verdictLent s (now (config .entry)) (now (pubkeys .exit)) (now (offer .exit)) (now (chain .exit)) (now (numbers .exit)) (now (heldkey .exit)) (now (waiting .exit))
+        ≡ S.judgedVerdict (verdictLent s (now (config .entry)) (now (pubkeys .entry)) (now (offer .entry)) (now (chain .entry)) (now (numbers .entry)) (now (heldkey .entry)) (now (waiting .entry)))
+        (record { good = good; id = id; message = now (message .entry); signature = now (signature .entry) }) r)) ⌝ }
 {
     let code = call_verdict_checks::vouch_refusal(
         config,
@@ -152,8 +158,8 @@ fn renew(
     waiting: &mut [u8],
     c: &[u8],
 )
-    requires { ⌜ ((length (now config) ≡ configLength) × ((length (now chain) ≡ chainLength) × (length (now numbers) ≡ numbersLength))) × ((length (now heldkey) ≡ heldkeyLength) × ((length (now waiting) ≡ waitingLength) × (length (now c) ≡ 44))) ⌝ }
-    ensures { λ _. ⌜ ((s : State) → s .config ≡ now (config .entry) → s .chain ≡ now (chain .entry) → s .tesla ≡ tesla (now (numbers .entry)) (now (heldkey .entry)) (now (waiting .entry)) → (now (chain .exit) ≡ cond (S.sameContents s (now (c .entry))) (s .chain) (1 ∷ now (c .entry))) × (tesla (now (numbers .exit)) (now (heldkey .exit)) (now (waiting .exit)) ≡ cond (S.sameContents s (now (c .entry))) (s .tesla) (S.rootHeld s (now (c .entry))))) ⌝ }
+    requires { ⌜ ((length (now config) ≡ configLength) × ((length (now chain) ≡ chainLength) × (length (now numbers) ≡ numbersLength))) × ((length (now heldkey) ≡ heldkeyLength) × ((length (now waiting) ≡ waitingLength) × (length (now c) ≡ contentsLength))) ⌝ }
+    ensures { λ _. ⌜ ((s : State) → s .config ≡ now (config .entry) → s .chain ≡ now (chain .entry) → s .tesla ≡ tesla (now (numbers .entry)) (now (heldkey .entry)) (now (waiting .entry)) → (now (chain .exit) ≡ cond (S.sameContents s (now (c .entry))) (s .chain) (S.forced (now (c .entry)))) × (tesla (now (numbers .exit)) (now (heldkey .exit)) (now (waiting .exit)) ≡ cond (S.sameContents s (now (c .entry))) (s .tesla) (S.rootHeld s (now (c .entry))))) ⌝ }
 {
     if call_verdict_checks::same_contents(config, chain, c) {
         return;
@@ -164,8 +170,8 @@ fn renew(
 
 // The contents are those in force from now on.
 fn put_in_force(chain: &mut [u8], c: &[u8])
-    requires { ⌜ (length (now chain) ≡ chainLength) × (length (now c) ≡ 44) ⌝ }
-    ensures { λ _. ⌜ now (chain .exit) ≡ 1 ∷ now (c .entry) ⌝ }
+    requires { ⌜ (length (now chain) ≡ chainLength) × (length (now c) ≡ contentsLength) ⌝ }
+    ensures { λ _. ⌜ now (chain .exit) ≡ S.forced (now (c .entry)) ⌝ }
 {
     chain[0] = 1;
     buffer::copy_at(chain, 1, c);
@@ -180,7 +186,7 @@ fn hold_root(
     waiting: &mut [u8],
     c: &[u8],
 )
-    requires { ⌜ ((length (now config) ≡ configLength) × ((length (now chain) ≡ chainLength) × (length (now numbers) ≡ numbersLength))) × ((length (now heldkey) ≡ heldkeyLength) × ((length (now waiting) ≡ waitingLength) × (length (now c) ≡ 44))) ⌝ }
+    requires { ⌜ ((length (now config) ≡ configLength) × ((length (now chain) ≡ chainLength) × (length (now numbers) ≡ numbersLength))) × ((length (now heldkey) ≡ heldkeyLength) × ((length (now waiting) ≡ waitingLength) × (length (now c) ≡ contentsLength))) ⌝ }
     ensures { λ _. ⌜ ((s : State) → s .config ≡ now (config .entry) → s .chain ≡ now (chain .entry) → s .tesla ≡ tesla (now (numbers .entry)) (now (heldkey .entry)) (now (waiting .entry)) → tesla (now (numbers .exit)) (now (heldkey .exit)) (now (waiting .exit)) ≡ S.rootHeld s (now (c .entry))) ⌝ }
 {
     let n = regions::waiting_count(numbers);
@@ -200,8 +206,8 @@ fn put_numbers(numbers: &mut [u64], kept: usize)
 
 // The tags that stay at the new contents close up, in order. Gives their number.
 fn keep_tags(config: &[u8], chain: &[u8], waiting: &mut [u8], n: usize, c: &[u8]) -> usize
-    requires { ⌜ ((length (now config) ≡ configLength) × ((length (now chain) ≡ chainLength) × (length (now waiting) ≡ waitingLength))) × ((n ≤ 256) × (length (now c) ≡ 44)) ⌝ }
-    ensures { λ r. ⌜ ((s : State) → s .config ≡ now (config .entry) → s .chain ≡ now (chain .entry) → s .tesla .waiting ≡ now (waiting .entry) → waitingCount (s .tesla .numbers) ≡ n → (now (waiting .exit) ≡ splice (now (waiting .entry)) 0 (S.stayingAt s (now (c .entry)))) × (length (S.stayingAt s (now (c .entry))) ≡ r * 84)) ⌝ }
+    requires { ⌜ ((length (now config) ≡ configLength) × ((length (now chain) ≡ chainLength) × (length (now waiting) ≡ waitingLength))) × ((n ≤ 256) × (length (now c) ≡ contentsLength)) ⌝ }
+    ensures { λ r. ⌜ ((s : State) → s .config ≡ now (config .entry) → s .chain ≡ now (chain .entry) → s .tesla .waiting ≡ now (waiting .entry) → waitingCount (s .tesla .numbers) ≡ n → (now (waiting .exit) ≡ splice (now (waiting .entry)) 0 (S.stayingAt s (now (c .entry)))) × (length (S.stayingAt s (now (c .entry))) ≡ r * entryLength)) ⌝ }
 {
     if !kroot::in_force(config, chain) {
         return 0;
@@ -214,7 +220,7 @@ fn keep_tags(config: &[u8], chain: &[u8], waiting: &mut [u8], n: usize, c: &[u8]
 
 // The root key, zeros after a short one.
 fn put_root(heldkey: &mut [u8], c: &[u8])
-    requires { ⌜ (length (now heldkey) ≡ heldkeyLength) × (length (now c) ≡ 44) ⌝ }
+    requires { ⌜ (length (now heldkey) ≡ heldkeyLength) × (length (now c) ≡ contentsLength) ⌝ }
     ensures { λ _. ⌜ now (heldkey .exit) ≡ filled 32 (krootOf (now (c .entry))) ⌝ }
 {
     let width = kroot::key_width(kroot::ks(c));

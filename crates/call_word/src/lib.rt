@@ -1,4 +1,4 @@
-// An I/NAV word (01, "Words and sets"), over the lent regions that it reads or writes. The caller has seen that every length is right.
+// An I/NAV word (01, "MACK"), over the lent regions that it reads or writes. The caller has seen that every length is right.
 //   take_word       the call: any bytes, PRN and time
 //   word_refusal    the number that refuses it: 2, 4, 3, or 0
 //   word_unfit      PRN or time out of range, or a word 4 whose SVID is not the PRN (row 2)
@@ -9,10 +9,8 @@ ghost use lib.Dec.{eqb};
 ghost use lib.ListN.{length};
 ghost use Rattle.laws.specs.Refusal.{firstOf};
 ghost use Rattle.regions.specs.Told.{told};
-ghost use Rattle.navdata.specs.Pieces.{nav};
 ghost use Rattle.rules.specs.Calls.{wordCall, wordChecks, wordUnfit};
-ghost use Rattle.rules.specs.State.{State, shaped, configLength, clocksLength, wordsLength, stampsLength};
-ghost use Rattle.call_word.specs.Heard.{heard};
+ghost use Rattle.rules.specs.State.{State, wordShaped, wordLent, configLength, clocksLength, wordsLength, stampsLength};
 
 // A word of a satellite, and the GST_SF of its sub-frame: the clock of its satellite, the word and its stamp are written, or nothing is.
 pub fn take_word(
@@ -25,7 +23,10 @@ pub fn take_word(
     bytes: &[u8],
 ) -> u32
     requires { ⌜ ((length (now config) ≡ configLength) × (length (now clocks) ≡ clocksLength)) × ((length (now words) ≡ wordsLength) × ((length (now stamps) ≡ stampsLength) × (length (now bytes) ≡ 16))) ⌝ }
-    ensures { λ r. ⌜ ((s : State) → s .config ≡ now (config .entry) → s .clocks ≡ now (clocks .entry) → s .nav ≡ nav (now (words .entry)) (now (stamps .entry)) → (shaped s && eqb (length (now (bytes .entry))) 16) ≡ true → told r (heard s (now (clocks .exit)) (nav (now (words .exit)) (now (stamps .exit)))) ≡ wordCall s (record { prn = prn; time = time; bytes = now (bytes .entry) })) ⌝ }
+    ensures { λ r. ⌜ ((s : State) →
+        told r (wordLent s (now (config .entry)) (now (clocks .exit)) (now (words .exit)) (now (stamps .exit)))
+        ≡ wordCall (wordLent s (now (config .entry)) (now (clocks .entry)) (now (words .entry)) (now (stamps .entry)))
+        (record { prn = prn; time = time; bytes = now (bytes .entry) })) ⌝ }
 {
     let code = word_refusal(config, clocks, prn, time, bytes);
     if code != 0 {
@@ -46,7 +47,10 @@ pub fn take_word(
 // The number that refuses a word, or 0.
 fn word_refusal(config: &[u8], clocks: &[u32], prn: u8, time: u32, bytes: &[u8]) -> u32
     requires { ⌜ (length (now config) ≡ configLength) × ((length (now clocks) ≡ clocksLength) × (length (now bytes) ≡ 16)) ⌝ }
-    ensures { λ r. ⌜ ((s : State) → s .config ≡ now (config .entry) → s .clocks ≡ now (clocks .entry) → (shaped s && eqb (length (now (bytes .entry))) 16) ≡ true → r ≡ firstOf (wordChecks s (record { prn = prn; time = time; bytes = now (bytes .entry) }))) × (r ≡ 0 → ((1 ≤ prn) × (prn ≤ 36)) × (time < 4294967295)) ⌝ }
+    ensures { λ r. ⌜ ((s : State) → s .config ≡ now (config .entry) → s .clocks ≡ now (clocks .entry) →
+        (wordShaped s && eqb (length (now (bytes .entry))) 16) ≡ true →
+        r ≡ firstOf (wordChecks s (record { prn = prn; time = time; bytes = now (bytes .entry) })))
+        × (r ≡ 0 → ((1 ≤ prn) × (prn ≤ 36)) × (time < 4294967295)) ⌝ }
 {
     if word_unfit(prn, time, bytes) {
         return 2;

@@ -13,7 +13,7 @@ ghost use lib.ListN.{length, take};
 ghost use Rattle.mac.specs.Kept.{keptOf};
 ghost use Rattle.rules.specs.Chain.{Held, held, keyOfSlot};
 ghost use Rattle.rules.specs.Tags.{entryAt};
-ghost use Rattle.rules.specs.State.{waitingLength};
+ghost use Rattle.rules.specs.State.{waitingLength, entryLength};
 ghost use Rattle.rules.specs.declared.Chain.{Chain};
 ghost use Rattle.chain.specs.Sound.{Walks, Met};
 ghost use Rattle.due_tag_keys.specs.Outcomes.{entrySlot, matchOutcome, Outcomes, JudgedAt};
@@ -25,7 +25,7 @@ const SHORT_WAY: u64 = 256;
 
 // The slot of the key of entry k's tag.
 fn entry_slot(c: Chain, waiting: &[u8], k: usize) -> u64
-    requires { ⌜ Walks c × (k * 84 + 84 ≤ length (now waiting)) ⌝ }
+    requires { ⌜ Walks c × (k * entryLength + entryLength ≤ length (now waiting)) ⌝ }
     ensures { λ r. ⌜ r ≡ entrySlot c (entryAt (now (waiting .entry)) k) ⌝ }
 {
     let t = waiting_tags::entry_tag(waiting, k);
@@ -76,11 +76,11 @@ pub fn slot_to_keep(c: Chain, slot: u64, last: u64, waiting: &[u8], n: usize) ->
 
 // The outcome of entry k's tag under the key of its slot.
 fn judge_entry(c: Chain, key: &[u8; 273], waiting: &[u8], k: usize) -> u8
-    requires { ⌜ (c .ms ≤ 40) × (k * 84 + 84 ≤ length (now waiting)) ⌝ }
+    requires { ⌜ (c .ms ≤ 40) × (k * entryLength + entryLength ≤ length (now waiting)) ⌝ }
     ensures { λ r. ⌜ ((h : Held) → now (key .entry) ≡ keptOf (c .mf) (keyOfSlot c h (entrySlot c (entryAt (now (waiting .entry)) k))) → r ≡ matchOutcome c h (entryAt (now (waiting .entry)) k)) ⌝ }
 {
     let t = waiting_tags::entry_tag(waiting, k);
-    let mut set = [0u8; 69];
+    let mut set = [0u8; regions::COPY_LENGTH];
     waiting_tags::copy_set(waiting, k, &mut set);
     let matches = tag_codes::tag_matches(c.mf, c.ms, key, false, t, &set);
     tags::outcome_number(tags::judged(matches))
@@ -88,7 +88,7 @@ fn judge_entry(c: Chain, key: &[u8; 273], waiting: &[u8], k: usize) -> u8
 
 // The outcome of entry k once the tags of slot m are judged: where its slot is another, the one it had.
 fn outcome_at(c: Chain, key: &[u8; 273], m: u64, waiting: &[u8], k: usize, old: u8) -> u8
-    requires { ⌜ (Walks c × (c .ms ≤ 40)) × (k * 84 + 84 ≤ length (now waiting)) ⌝ }
+    requires { ⌜ (Walks c × (c .ms ≤ 40)) × (k * entryLength + entryLength ≤ length (now waiting)) ⌝ }
     ensures { λ r. ⌜ ((h : Held) → now (key .entry) ≡ keptOf (c .mf) (keyOfSlot c h m) → r ≡ cond (eqb (entrySlot c (entryAt (now (waiting .entry)) k)) m) (matchOutcome c h (entryAt (now (waiting .entry)) k)) old) ⌝ }
 {
     if entry_slot(c, waiting, k) != m {

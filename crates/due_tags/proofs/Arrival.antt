@@ -14,6 +14,7 @@ use Rattle.rules.proofs.TagRecords.{length-record}
 use Rattle.waiting_tags.proofs.Entries.{untouched}
 use Rattle.tag_records.specs.Told.{start, Tells, Leaves, Counts}
 use Rattle.due_tags.specs.Swept.{sweptOne, swept}
+use Rattle.rules.specs.State.{entryLength, waitingLength, areaLength}
 
 -- a part right after the one at the front
 after-front : (d s t : List ℕ) (a : ℕ) → length s ≡ a → a + length t ≤ length d → splice (splice d 0 s) a t ≡ splice d 0 (s ++ t)
@@ -52,12 +53,12 @@ count-more zero e w = refl
 count-more (suc o) e w = refl
 
 -- how long the work of one entry is
-alone-long : (o : ℕ) (e : List ℕ) (w : Work) → length e ≡ 84 → (length ((alone o e w) .kept) ≤ 84) × (length ((alone o e w) .records) ≤ 12)
+alone-long : (o : ℕ) (e : List ℕ) (w : Work) → length e ≡ entryLength → (length ((alone o e w) .kept) ≤ entryLength) × (length ((alone o e w) .records) ≤ 12)
 unfolding sweptOne kept told
 alone-long zero e w h = (omega arith, omega arith)
 alone-long (suc o) e w h = (omega arith, omega (arith, length-record (suc o) (entryTag e) (recordIssue (suc o) (entrySet e))))
 
-counts-more : (o : ℕ) (e : List ℕ) (w : Work) (k r : ℕ) → length e ≡ 84 → r ≡ w .count → Counts w k r → Counts (sweptOne o e w) (k + 1) ((sweptOne o e w) .count)
+counts-more : (o : ℕ) (e : List ℕ) (w : Work) (k r : ℕ) → length e ≡ entryLength → r ≡ w .count → Counts w k r → Counts (sweptOne o e w) (k + 1) ((sweptOne o e w) .count)
 unfolding sweptOne kept told
 counts-more zero e w k r h q n =
     record {
@@ -74,7 +75,7 @@ counts-more (suc o) e w k r h q n =
 
 -- ---- and so do the regions
 module _ (waiting area waiting₁ sets₁ times₁ area₁ waiting₂ sets₂ times₂ area₂ : List ℕ) (k r r₂ o : ℕ) (w : Work)
-    (small : k < 256) (long-waiting : length waiting ≡ 21504) (long-area : length area ≡ 3240)
+    (small : k < 256) (long-waiting : length waiting ≡ waitingLength) (long-area : length area ≡ areaLength)
     (l : Leaves w 0 0 waiting area waiting₁ sets₁ times₁ area₁ r) (n : Counts w k r)
     (s : Leaves (sweptOne o (entryAt waiting₁ k) (start r sets₁ times₁)) r (k - r) waiting₁ area₁ waiting₂ sets₂ times₂ area₂ r₂) where
   same-entry : entryAt waiting₁ k ≡ entryAt waiting k
@@ -93,7 +94,7 @@ module _ (waiting area waiting₁ sets₁ times₁ area₁ waiting₂ sets₂ ti
       record {
         entries =
             s .entries
-            ∙ rw (same-work, l .entries, kept-more o e w) (after-front waiting (w .kept) ((alone o e w) .kept) (r * 84) (n .kept-long) (omega arith));
+            ∙ rw (same-work, l .entries, kept-more o e w) (after-front waiting (w .kept) ((alone o e w) .kept) (r * entryLength) (n .kept-long) (omega arith));
         sets = s .sets ∙ rw (same-work) (sym (sets-more o e w));
         arrivals = s .arrivals ∙ rw (same-work) (sym (arrivals-more o e w));
         records =
@@ -109,7 +110,7 @@ module _ (waiting area waiting₁ sets₁ times₁ area₁ waiting₂ sets₂ ti
 -- ---- what one entry leaves
 
 -- an entry that is not due stays, and no record is written
-pub stays-leaves : (o m kept : ℕ) (e waiting sets arrivals area waiting′ : List ℕ) → o ≡ 0 → waiting′ ≡ splice waiting (kept * 84) e
+pub stays-leaves : (o m kept : ℕ) (e waiting sets arrivals area waiting′ : List ℕ) → o ≡ 0 → waiting′ ≡ splice waiting (kept * entryLength) e
     → Leaves (sweptOne o e (start kept sets arrivals)) kept m waiting area waiting′ sets arrivals area (kept + 1)
 unfolding sweptOne kept
 stays-leaves zero m kept e waiting sets arrivals area waiting′ p q =
@@ -123,7 +124,7 @@ pub due-leaves : (o m kept : ℕ) (e waiting sets arrivals area sets′ arrivals
 unfolding sweptOne told
 due-leaves zero m kept e waiting sets arrivals area sets′ arrivals′ area′ p q = absurd (p refl)
 due-leaves (suc o) m kept e waiting sets arrivals area sets′ arrivals′ area′ p q =
-    record { entries = sym (splice-nil waiting (kept * 84)); sets = q .sets; arrivals = q .arrivals; records = q .records; count = refl }
+    record { entries = sym (splice-nil waiting (kept * entryLength)); sets = q .sets; arrivals = q .arrivals; records = q .records; count = refl }
 
 -- ---- no entry yet, and one more of the first n
 
@@ -136,7 +137,7 @@ none-swept outcomes waiting sets arrivals area = (
 )
 
 pub one-swept : (outcomes waiting area waiting₁ sets₁ times₁ area₁ waiting₂ sets₂ times₂ area₂ : List ℕ) (k r r₂ : ℕ) (w : Work)
-    → k < 256 → length waiting ≡ 21504 → length area ≡ 3240
+    → k < 256 → length waiting ≡ waitingLength → length area ≡ areaLength
     → Leaves (swept outcomes waiting k w) 0 0 waiting area waiting₁ sets₁ times₁ area₁ r → Counts (swept outcomes waiting k w) k r
     → Leaves (sweptOne (getD outcomes k 0) (entryAt waiting₁ k) (start r sets₁ times₁)) r (k - r) waiting₁ area₁ waiting₂ sets₂ times₂ area₂ r₂
     → Leaves (swept outcomes waiting (k + 1) w) 0 0 waiting area waiting₂ sets₂ times₂ area₂ r₂ × Counts (swept outcomes waiting (k + 1) w) (k + 1) r₂

@@ -8,7 +8,7 @@ ghost use Prim.Native.Nat.{_+_, _-_, _*_, _^_, _≤_, _<_};
 ghost use lib.ListN.{length, take};
 ghost use Rattle.rules.specs.Chain.{held};
 ghost use Rattle.rules.specs.Tags.{entryAt, entryTag, entrySet, told, duesJudged};
-ghost use Rattle.rules.specs.State.{areaLength, satellites, setsLength, waitingLength};
+ghost use Rattle.rules.specs.State.{areaLength, setsLength, waitingLength, arrivalsLength, entryLength};
 ghost use Rattle.chain.specs.Sound.{Sound, Met};
 ghost use Rattle.tag_records.specs.Told.{start, Tells, Leaves, Counts};
 ghost use Rattle.due_tags.specs.Swept.{sweptOne, swept};
@@ -25,11 +25,11 @@ fn tell_entry(
     area: &mut [u8],
     at: usize,
 )
-    requires { ⌜ ((length (now sets) ≡ setsLength) × (length (now arrivals) ≡ satellites)) × ((k * 84 + 84 ≤ length (now waiting)) × (at + 12 ≤ length (now area))) ⌝ }
+    requires { ⌜ ((length (now sets) ≡ setsLength) × (length (now arrivals) ≡ arrivalsLength)) × ((k * entryLength + entryLength ≤ length (now waiting)) × (at + 12 ≤ length (now area))) ⌝ }
     ensures { λ _. ⌜ Tells (told outcome (entryTag (entryAt (now (waiting .entry)) k)) (entrySet (entryAt (now (waiting .entry)) k)) (start 0 (now (sets .entry)) (now (arrivals .entry)))) at (now (area .entry)) (now (sets .exit)) (now (arrivals .exit)) (now (area .exit)) ⌝ }
 {
     let t = waiting_tags::entry_tag(waiting, k);
-    let mut set = [0u8; 69];
+    let mut set = [0u8; regions::COPY_LENGTH];
     waiting_tags::copy_set(waiting, k, &mut set);
     tag_records::tell(outcome, t, &set, sets, arrivals, area, at);
 }
@@ -46,7 +46,7 @@ fn sweep_one(
     arrivals: &mut [u32],
     area: &mut [u8],
 ) -> usize
-    requires { ⌜ ((length (now sets) ≡ setsLength) × (length (now arrivals) ≡ satellites)) × ((length (now waiting) ≡ waitingLength) × (length (now area) ≡ areaLength)) ⌝ }
+    requires { ⌜ ((length (now sets) ≡ setsLength) × (length (now arrivals) ≡ arrivalsLength)) × ((length (now waiting) ≡ waitingLength) × (length (now area) ≡ areaLength)) ⌝ }
     requires { ⌜ (kept ≤ k) × (k < 256) ⌝ }
     ensures { λ r. ⌜ Leaves (sweptOne outcome (entryAt (now (waiting .entry)) k) (start kept (now (sets .entry)) (now (arrivals .entry)))) kept (k - kept) (now (waiting .entry)) (now (area .entry)) (now (waiting .exit)) (now (sets .exit)) (now (arrivals .exit)) (now (area .exit)) r ⌝ }
 {
@@ -67,7 +67,7 @@ fn sweep(
     arrivals: &mut [u32],
     area: &mut [u8],
 ) -> usize
-    requires { ⌜ ((length (now sets) ≡ setsLength) × (length (now arrivals) ≡ satellites)) × ((length (now waiting) ≡ waitingLength) × (length (now area) ≡ areaLength)) ⌝ }
+    requires { ⌜ ((length (now sets) ≡ setsLength) × (length (now arrivals) ≡ arrivalsLength)) × ((length (now waiting) ≡ waitingLength) × (length (now area) ≡ areaLength)) ⌝ }
     requires { ⌜ (length (now outcomes) ≡ 256) × (n ≤ 256) ⌝ }
     ensures { λ r. ⌜ Leaves (swept (now (outcomes .entry)) (now (waiting .entry)) n (start 0 (now (sets .entry)) (now (arrivals .entry)))) 0 0 (now (waiting .entry)) (now (area .entry)) (now (waiting .exit)) (now (sets .exit)) (now (arrivals .exit)) (now (area .exit)) r × Counts (swept (now (outcomes .entry)) (now (waiting .entry)) n (start 0 (now (sets .entry)) (now (arrivals .entry)))) n r ⌝ }
 {
@@ -95,7 +95,7 @@ pub fn judge_due(
     arrivals: &mut [u32],
     area: &mut [u8],
 ) -> usize
-    requires { ⌜ ((length (now sets) ≡ setsLength) × (length (now arrivals) ≡ satellites)) × ((length (now waiting) ≡ waitingLength) × (length (now area) ≡ areaLength)) ⌝ }
+    requires { ⌜ ((length (now sets) ≡ setsLength) × (length (now arrivals) ≡ arrivalsLength)) × ((length (now waiting) ≡ waitingLength) × (length (now area) ≡ areaLength)) ⌝ }
     requires { ⌜ (Sound c × ((slot < 2 ^ 34) × (n ≤ 256))) × Met c (held slot (take (c .width) known)) near met ⌝ }
     ensures { λ r. ⌜ Leaves (duesJudged c (held slot (take (c .width) known)) (now (waiting .entry)) n (start 0 (now (sets .entry)) (now (arrivals .entry)))) 0 0 (now (waiting .entry)) (now (area .entry)) (now (waiting .exit)) (now (sets .exit)) (now (arrivals .exit)) (now (area .exit)) r × Counts (duesJudged c (held slot (take (c .width) known)) (now (waiting .entry)) n (start 0 (now (sets .entry)) (now (arrivals .entry)))) n r ⌝ }
 {

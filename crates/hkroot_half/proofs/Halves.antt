@@ -12,7 +12,7 @@ use Rattle.rules.specs.Gather.{gathered, dsmIdOf, headerOf}
 use Rattle.rules.specs.Kroot.{krootJudged}
 use Rattle.rules.specs.Pkr.{pkrJudged}
 use Rattle.rules.specs.Received.{fieldsCame}
-use Rattle.rules.specs.State.{State, Store, treeRoot}
+use Rattle.rules.specs.State.{State, Store, treeRoot, stoppedAt}
 use Rattle.hkroot_half.specs.Done.{done, gathering}
 use Rattle.hkroot_half.specs.declared.Half.{Half}
 
@@ -32,7 +32,7 @@ unfolding krootDone
 kroot-done s left config pubkeys offer given d header code ec ek eo e f = rw (e, f, ec, ek, eo)
 
 -- a DSM-PKR: the public keys may be others, and the core may stop
-pub pkr-done : (s : State) (left : Store) (config pubkeys offer installed given d : List ℕ) (h : Half) → s .config ≡ config → s .pubkeys ≡ pubkeys → s .offer ≡ offer → h .code ≡ (pkrJudged pubkeys (treeRoot config) d) .code → h .stops ≡ (pkrJudged pubkeys (treeRoot config) d) .stops → given ≡ (pkrJudged pubkeys (treeRoot config) d) .pubkeys → installed ≡ cond ((pkrJudged pubkeys (treeRoot config) d) .stops) (set config 62 1) config → done h (gathering s installed left given offer) ≡ pkrDone s left d
+pub pkr-done : (s : State) (left : Store) (config pubkeys offer installed given d : List ℕ) (h : Half) → s .config ≡ config → s .pubkeys ≡ pubkeys → s .offer ≡ offer → h .code ≡ (pkrJudged pubkeys (treeRoot config) d) .code → h .stops ≡ (pkrJudged pubkeys (treeRoot config) d) .stops → given ≡ (pkrJudged pubkeys (treeRoot config) d) .pubkeys → installed ≡ cond ((pkrJudged pubkeys (treeRoot config) d) .stops) (set config stoppedAt 1) config → done h (gathering s installed left given offer) ≡ pkrDone s left d
 unfolding pkrDone
 pkr-done s left config pubkeys offer installed given d h ec ek eo e f g i = rw (e, f, g, i, ec, ek, eo)
 

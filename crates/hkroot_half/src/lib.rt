@@ -14,7 +14,7 @@ ghost use Rattle.gather.specs.Store.{Lent, store};
 ghost use Rattle.rules.specs.Calls.{hkrootHalf, hkrootReceived, krootDone, pkrDone};
 ghost use Rattle.rules.specs.Gather.{dsmIdOf, headerOf};
 ghost use Rattle.rules.specs.Pkr.{pkrJudged};
-ghost use Rattle.rules.specs.State.{State, Store, treeRoot, configLength, blocksLength, pubkeysLength, offerLength};
+ghost use Rattle.rules.specs.State.{State, Store, treeRoot, configLength, blocksLength, pubkeysLength, offerLength, stoppedAt};
 ghost use Rattle.hkroot_half.specs.Done.{done, gathering};
 
 // What the half gives: its number, and whether a proved emergency message came.
@@ -119,7 +119,7 @@ fn complete(
 // A complete DSM-PKR. Proved with type 4 (an emergency message), it stops the core.
 fn renewed(config: &mut [u8], pubkeys: &mut [u8], d: &[u8]) -> Half
     requires { ⌜ ((length (now config) ≡ configLength) × (length (now pubkeys) ≡ pubkeysLength)) × ((91 ≤ length (now d)) × (length (now d) ≤ 208)) ⌝ }
-    ensures { λ r. ⌜ ((r .code ≡ (pkrJudged (now (pubkeys .entry)) (treeRoot (now (config .entry))) (now (d .entry))) .code) × (r .stops ≡ (pkrJudged (now (pubkeys .entry)) (treeRoot (now (config .entry))) (now (d .entry))) .stops)) × ((now (pubkeys .exit) ≡ (pkrJudged (now (pubkeys .entry)) (treeRoot (now (config .entry))) (now (d .entry))) .pubkeys) × (now (config .exit) ≡ cond ((pkrJudged (now (pubkeys .entry)) (treeRoot (now (config .entry))) (now (d .entry))) .stops) (set (now (config .entry)) 62 1) (now (config .entry)))) ⌝ }
+    ensures { λ r. ⌜ ((r .code ≡ (pkrJudged (now (pubkeys .entry)) (treeRoot (now (config .entry))) (now (d .entry))) .code) × (r .stops ≡ (pkrJudged (now (pubkeys .entry)) (treeRoot (now (config .entry))) (now (d .entry))) .stops)) × ((now (pubkeys .exit) ≡ (pkrJudged (now (pubkeys .entry)) (treeRoot (now (config .entry))) (now (d .entry))) .pubkeys) × (now (config .exit) ≡ cond ((pkrJudged (now (pubkeys .entry)) (treeRoot (now (config .entry))) (now (d .entry))) .stops) (set (now (config .entry)) stoppedAt 1) (now (config .entry)))) ⌝ }
 {
     let r = pkr::pkr_judge(pubkeys, &config[30..62], d);
     if r.stops {

@@ -13,7 +13,7 @@ ghost use lib.ListN.{length};
 ghost use Rattle.laws.specs.Lists.{part};
 ghost use Rattle.rules.specs.Bits.{filled};
 ghost use Rattle.rules.specs.Kroot as S;
-ghost use Rattle.rules.specs.State.{configLength, pubkeysLength, offerLength, chainLength};
+ghost use Rattle.rules.specs.State.{configLength, pubkeysLength, offerLength, chainLength, contentsLength};
 ghost use Rattle.rules.specs.Verdict.{namesOffer, chainUnchanged};
 ghost use Rattle.kroot.specs.Groups as G;
 use rules::Chain;
@@ -90,7 +90,7 @@ pub fn in_force(config: &[u8], chain: &[u8]) -> bool
 // The contents that were put in force last.
 pub fn chain_contents(chain: &[u8]) -> &[u8]
     requires { ⌜ length (now chain) ≡ chainLength ⌝ }
-    ensures { λ r. ⌜ (now r ≡ S.chainContents (now (chain .entry))) × (length (now r) ≡ 44) ⌝ }
+    ensures { λ r. ⌜ (now r ≡ S.chainContents (now (chain .entry))) × (length (now r) ≡ contentsLength) ⌝ }
 {
     &chain[1..45]
 }

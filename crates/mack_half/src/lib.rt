@@ -14,7 +14,7 @@ ghost use Rattle.rules.specs.Calls.{sectionUnfit, mackHalf};
 ghost use Rattle.rules.specs.Chain.{held};
 ghost use Rattle.rules.specs.Kroot.{inForce, chainWith, chainContents};
 ghost use Rattle.rules.specs.Received.{fieldCame, keysReceived, fieldsJudged};
-ghost use Rattle.rules.specs.State.{State, nsOf, configLength, chainLength, numbersLength, heldkeyLength, waitingLength, areaLength, satellites, setsLength, stampsLength, wordsLength};
+ghost use Rattle.rules.specs.State.{State, nsOf, configLength, chainLength, numbersLength, heldkeyLength, waitingLength, areaLength, setsLength, stampsLength, wordsLength, arrivalsLength};
 ghost use Rattle.rules.specs.Tags.{duesJudged};
 ghost use Rattle.authentic_sets.specs.Regions.{auth};
 ghost use Rattle.chain.specs.Sound.{Sound, Met};
@@ -129,7 +129,7 @@ fn judge_tags(
     area: &mut [u8],
 ) -> Judged
     requires { ⌜ ((length (now config) ≡ configLength) × (length (now words) ≡ wordsLength)) × ((length (now stamps) ≡ stampsLength) × (length (now mack) ≡ 60)) ⌝ }
-    requires { ⌜ ((length (now sets) ≡ setsLength) × (length (now arrivals) ≡ satellites)) × ((length (now waiting) ≡ waitingLength) × (length (now area) ≡ areaLength)) ⌝ }
+    requires { ⌜ ((length (now sets) ≡ setsLength) × (length (now arrivals) ≡ arrivalsLength)) × ((length (now waiting) ≡ waitingLength) × (length (now area) ≡ areaLength)) ⌝ }
     requires { ⌜ ((Sound c × Laid c) × ((slot < 2 ^ 34) × (n ≤ 256))) × Met c (held slot (take (c .width) key)) near met ⌝ }
     ensures { λ r. ⌜ Leaves (fieldsJudged (now (config .entry)) (nav (now (words .entry)) (now (stamps .entry))) c (held slot (take (c .width) key)) (section prn time status (now (mack .entry))) marks (c .nmack * c .fields) (duesJudged c (held slot (take (c .width) key)) (now (waiting .entry)) n (start 0 (now (sets .entry)) (now (arrivals .entry))))) 0 0 (now (waiting .entry)) (now (area .entry)) (now (waiting .exit)) (now (sets .exit)) (now (arrivals .exit)) (now (area .exit)) (r .kept) × ((length ((fieldsJudged (now (config .entry)) (nav (now (words .entry)) (now (stamps .entry))) c (held slot (take (c .width) key)) (section prn time status (now (mack .entry))) marks (c .nmack * c .fields) (duesJudged c (held slot (take (c .width) key)) (now (waiting .entry)) n (start 0 (now (sets .entry)) (now (arrivals .entry))))) .records) ≡ r .records * 12) × (r .records ≤ 270)) ⌝ }
 {
@@ -188,7 +188,7 @@ fn judge_section(
     mack: &[u8],
 ) -> Mack
     requires { ⌜ ((length (now config) ≡ configLength) × (length (now words) ≡ wordsLength)) × ((length (now stamps) ≡ stampsLength) × (length (now mack) ≡ 60)) ⌝ }
-    requires { ⌜ ((length (now sets) ≡ setsLength) × (length (now arrivals) ≡ satellites)) × ((length (now waiting) ≡ waitingLength) × (length (now area) ≡ areaLength)) ⌝ }
+    requires { ⌜ ((length (now sets) ≡ setsLength) × (length (now arrivals) ≡ arrivalsLength)) × ((length (now waiting) ≡ waitingLength) × (length (now area) ≡ areaLength)) ⌝ }
     requires { ⌜ ((length (now chain) ≡ chainLength) × (length (now numbers) ≡ numbersLength)) × ((length (now heldkey) ≡ heldkeyLength) × (inForce (now config) (now chain) ≡ true)) ⌝ }
     ensures { λ r. ⌜ ((s : State) → s .config ≡ now (config .entry) → s .nav ≡ nav (now (words .entry)) (now (stamps .entry)) → s .chain ≡ now (chain .entry) → s .tesla ≡ tesla (now (numbers .entry)) (now (heldkey .entry)) (now (waiting .entry)) → s .auth ≡ auth (now (sets .entry)) (now (arrivals .entry)) → fieldCame marks 0 ≡ true → sectionUnfit s time header ≡ false → Gives (mackHalf s prn time marks header (now (mack .entry))) (r .code) (r .count) (judging s (tesla (now (numbers .exit)) (now (heldkey .exit)) (now (waiting .exit))) (auth (now (sets .exit)) (now (arrivals .exit)))) (now (area .entry)) (now (area .exit))) × (r .count ≤ 270) ⌝ }
 {
@@ -262,7 +262,7 @@ pub fn mack_half(
     mack: &[u8],
 ) -> Mack
     requires { ⌜ ((length (now config) ≡ configLength) × (length (now words) ≡ wordsLength)) × ((length (now stamps) ≡ stampsLength) × (length (now mack) ≡ 60)) ⌝ }
-    requires { ⌜ ((length (now sets) ≡ setsLength) × (length (now arrivals) ≡ satellites)) × ((length (now waiting) ≡ waitingLength) × (length (now area) ≡ areaLength)) ⌝ }
+    requires { ⌜ ((length (now sets) ≡ setsLength) × (length (now arrivals) ≡ arrivalsLength)) × ((length (now waiting) ≡ waitingLength) × (length (now area) ≡ areaLength)) ⌝ }
     requires { ⌜ (length (now chain) ≡ chainLength) × ((length (now numbers) ≡ numbersLength) × (length (now heldkey) ≡ heldkeyLength)) ⌝ }
     ensures { λ r. ⌜ ((s : State) → s .config ≡ now (config .entry) → s .nav ≡ nav (now (words .entry)) (now (stamps .entry)) → s .chain ≡ now (chain .entry) → s .tesla ≡ tesla (now (numbers .entry)) (now (heldkey .entry)) (now (waiting .entry)) → s .auth ≡ auth (now (sets .entry)) (now (arrivals .entry)) → Gives (mackHalf s prn time marks header (now (mack .entry))) (r .code) (r .count) (judging s (tesla (now (numbers .exit)) (now (heldkey .exit)) (now (waiting .exit))) (auth (now (sets .exit)) (now (arrivals .exit)))) (now (area .entry)) (now (area .exit))) × (r .count ≤ 270) ⌝ }
 {

@@ -1,3 +1,2 @@
--- Row 1 of each exported call, and what a start writes.
+-- Row 1 of each exported call.
 mod Lengths
-mod Started

@@ -12,7 +12,7 @@ ghost use mathlib.Core.Bool.{true, _&&_};
 ghost use Prim.Native.Nat.{_+_, _≤_, _<_};
 ghost use lib.Dec.{leb, ltb};
 ghost use lib.ListN.{length, set};
-ghost use Rattle.rules.specs.State.{state, configLength, clocksLength, numbersLength};
+ghost use Rattle.rules.specs.State.{state, configLength, clocksLength, numbersLength, stoppedAt};
 ghost use Rattle.rules.specs.State as S;
 ghost use Rattle.rules.specs.Times.{stampOf};
 
@@ -40,11 +40,17 @@ pub const NUMBERS_LENGTH: usize = 2;
 
 pub const HELDKEY_LENGTH: usize = 32;
 
+// A kept copy of a set: in a waiting entry, and in `sets`.
+pub const COPY_LENGTH: usize = 69;
+
+// A waiting entry: 15 bytes and the copy of its set.
+pub const ENTRY_LENGTH: usize = 84;
+
 pub const WAITING_LENGTH: usize = 21504;
 
 pub const SETS_LENGTH: usize = 2484;
 
-pub const SATELLITES: usize = 36;
+pub const ARRIVALS_LENGTH: usize = 36;
 
 // The area lent for the records of a sub-frame.
 pub const AREA_LENGTH: usize = 3240;
@@ -74,7 +80,7 @@ pub fn shaped(
         heldkey.len() == HELDKEY_LENGTH,
         waiting.len() == WAITING_LENGTH,
         sets.len() == SETS_LENGTH,
-        arrivals.len() == SATELLITES,
+        arrivals.len() == ARRIVALS_LENGTH,
     );
     let third = four(
         pubkeys.len() == PUBKEYS_LENGTH,
@@ -128,20 +134,23 @@ pub fn maclt_of(config: &[u8]) -> u8
     config[1]
 }
 
+// The place of the mark that the core is stopped.
+pub const STOPPED_AT: usize = 62;
+
 // An emergency message stopped the core.
 pub fn stopped(config: &[u8]) -> bool
     requires { ⌜ length (now config) ≡ configLength ⌝ }
     ensures { λ r. ⌜ r ≡ S.stopped (now (config .entry)) ⌝ }
 {
-    config[62] != 0
+    config[STOPPED_AT] != 0
 }
 
 // Stops the core until a new start.
 pub fn stop(config: &mut [u8])
     requires { ⌜ length (now config) ≡ configLength ⌝ }
-    ensures { λ _. ⌜ now (config .exit) ≡ set (now (config .entry)) 62 1 ⌝ }
+    ensures { λ _. ⌜ now (config .exit) ≡ set (now (config .entry)) stoppedAt 1 ⌝ }
 {
-    config[62] = 1;
+    config[STOPPED_AT] = 1;
 }
 
 // ---- clocks

@@ -4,8 +4,8 @@ use mathlib.Core.Bool.{true}
 use lib.Dec.{eqb}
 use lib.ListN.{length}
 use borrow.Author.Tests.{eqb-true}
-use Rattle.laws.proofs.Tests.{both-true}
-use Rattle.rules.specs.State.{State, shaped, shapes, wordShaped, wordShapes, verdictShaped, verdictShapes, offerShaped, configLength, clocksLength, wordsLength, stampsLength, blocksLength, dsmIds, pubkeysLength, offerLength, chainLength, numbersLength, heldkeyLength, waitingLength, setsLength, arrivalsLength}
+use Rattle.laws.proofs.Tests.{both-true, and-left, and-right}
+use Rattle.rules.specs.State.{State, shaped, shapes, wordShaped, wordShapes, verdictShaped, verdictShapes, setShaped, offerShaped, configLength, clocksLength, wordsLength, stampsLength, blocksLength, dsmIds, pubkeysLength, offerLength, chainLength, numbersLength, heldkeyLength, waitingLength, setsLength, arrivalsLength}
 use Rattle.rules.proofs.Choices.{each}
 
 pub record Sized (s : State) : Type 0 where
@@ -48,6 +48,28 @@ sized s h =
       arrivals = eqb-true _ arrivalsLength (each (shapes s) h 15);
     }
 
+pub all-shaped : (s : State) → Sized s → shaped s ≡ true
+unfolding shaped
+all-shaped s z =
+    rw (
+      z .config,
+      z .clocks,
+      z .words,
+      z .stamps,
+      z .blocks,
+      z .headers,
+      z .present,
+      z .since,
+      z .pubkeys,
+      z .offer,
+      z .chain,
+      z .numbers,
+      z .heldkey,
+      z .waiting,
+      z .sets,
+      z .arrivals,
+    )
+
 -- of what a word is lent
 pub record WordSized (s : State) : Type 0 where
   pub config : length (s .config) ≡ configLength
@@ -64,6 +86,10 @@ word-sized s h =
       words = eqb-true _ wordsLength (each (wordShapes s) h 2);
       stamps = eqb-true _ stampsLength (each (wordShapes s) h 3);
     }
+
+pub word-shaped : (s : State) → WordSized s → wordShaped s ≡ true
+unfolding wordShaped
+word-shaped s z = rw (z .config, z .clocks, z .words, z .stamps)
 
 -- of what a verdict is lent
 pub record VerdictSized (s : State) : Type 0 where
@@ -87,6 +113,33 @@ verdict-sized s h =
       heldkey = eqb-true _ heldkeyLength (each (verdictShapes s) h 5);
       waiting = eqb-true _ waitingLength (each (verdictShapes s) h 6);
     }
+
+pub verdict-shaped : (s : State) → VerdictSized s → verdictShaped s ≡ true
+unfolding verdictShaped
+verdict-shaped s z = rw (z .config, z .pubkeys, z .offer, z .chain, z .numbers, z .heldkey, z .waiting)
+
+-- of what the reads are lent
+pub set-shaped : (s : State) → length (s .auth .sets) ≡ setsLength → length (s .auth .arrivals) ≡ arrivalsLength → setShaped s ≡ true
+unfolding setShaped
+set-shaped s e f = rw (e, f)
+
+pub set-sized : (s : State) → setShaped s ≡ true → (length (s .auth .sets) ≡ setsLength) × (length (s .auth .arrivals) ≡ arrivalsLength)
+unfolding setShaped
+set-sized s h = (
+  eqb-true _ setsLength (and-left (eqb (length (s .auth .sets)) setsLength) (eqb (length (s .auth .arrivals)) arrivalsLength) h),
+  eqb-true _ arrivalsLength (and-right (eqb (length (s .auth .sets)) setsLength) (eqb (length (s .auth .arrivals)) arrivalsLength) h),
+)
+
+pub message-shaped : (s : State) → length (s .pubkeys) ≡ pubkeysLength → length (s .offer) ≡ offerLength → offerShaped s ≡ true
+unfolding offerShaped
+message-shaped s e f = rw (e, f)
+
+pub message-sized : (s : State) → offerShaped s ≡ true → (length (s .pubkeys) ≡ pubkeysLength) × (length (s .offer) ≡ offerLength)
+unfolding offerShaped
+message-sized s h = (
+  eqb-true _ pubkeysLength (and-left (eqb (length (s .pubkeys)) pubkeysLength) (eqb (length (s .offer)) offerLength) h),
+  eqb-true _ offerLength (and-right (eqb (length (s .pubkeys)) pubkeysLength) (eqb (length (s .offer)) offerLength) h),
+)
 
 -- what a read of what waits is lent has its lengths where a verdict could be given on it
 pub offer-shaped : (s : State) → verdictShaped s ≡ true → offerShaped s ≡ true

@@ -206,6 +206,10 @@ wordShapes s =
 unfoldable pub wordShaped : State → Bool
 wordShaped s = allOf (wordShapes s)
 
+-- the state s with these regions in their places: for any s a state of which a word is lent them
+abbrev pub wordLent : State → List ℕ → List ℕ → List ℕ → List ℕ → State
+wordLent s config clocks words stamps = withNav (withClocks (withConfig s config) clocks) (record { words = words; stamps = stamps })
+
 -- what a verdict is lent
 abbrev pub verdictShapes : State → List Bool
 verdictShapes s =
@@ -221,13 +225,25 @@ verdictShapes s =
 unfoldable pub verdictShaped : State → Bool
 verdictShaped s = allOf (verdictShapes s)
 
+abbrev pub verdictLent : State → List ℕ → List ℕ → List ℕ → List ℕ → List ℕ → List ℕ → List ℕ → State
+verdictLent s config pubkeys offer chain numbers key waiting =
+    withTesla
+    (withChain (withOffer (withPubkeys (withConfig s config) pubkeys) offer) chain)
+    (record { numbers = numbers; key = key; waiting = waiting })
+
 -- what a read of a set is lent
 unfoldable pub setShaped : State → Bool
 setShaped s = eqb (length (s .auth .sets)) setsLength && eqb (length (s .auth .arrivals)) arrivalsLength
 
+abbrev pub setLent : State → List ℕ → List ℕ → State
+setLent s sets arrivals = withAuth s (record { sets = sets; arrivals = arrivals })
+
 -- what a read of what waits is lent
 unfoldable pub offerShaped : State → Bool
 offerShaped s = eqb (length (s .pubkeys)) pubkeysLength && eqb (length (s .offer)) offerLength
+
+abbrev pub offerLent : State → List ℕ → List ℕ → State
+offerLent s pubkeys offer = withOffer (withPubkeys s pubkeys) offer
 
 -- ---- settings
 

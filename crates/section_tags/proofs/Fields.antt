@@ -18,7 +18,7 @@ use Rattle.laws.specs.Refusal.{neb}
 use Rattle.rules.specs.Bits.{anyOf}
 use Rattle.rules.specs.Chain.{Held}
 use Rattle.rules.specs.Received.{fieldLost, lostTag, fieldJudged, fieldsJudged}
-use Rattle.rules.specs.State.{Nav, markOf, prnValid}
+use Rattle.rules.specs.State.{Nav, markOf, prnValid, entryLength, waitingLength, areaLength}
 use Rattle.rules.specs.Tags.{Work, Section, told, marksSet, kept, recordIssue, tagEntry, tagMatches, ownTag, notAllowed, secondHalf, flexible, macseqFits, ownOutcome, ownJudged}
 use Rattle.rules.specs.Times.{delayOf}
 use Rattle.rules.specs.Navdata.{usable, setOf}
@@ -142,7 +142,7 @@ module _ (o : ℕ) (t : Tag) (s : List ℕ) (w : Work) where
   count-by false = refl
 
   -- how much it is
-  kept-long-by : (b : Bool) → (b ≡ true → length s ≡ 69) → length ((by-wait b o t s before) .kept) + w .count * 84 ≡ (by-wait b o t s before) .count * 84
+  kept-long-by : (b : Bool) → (b ≡ true → length s ≡ 69) → length ((by-wait b o t s before) .kept) + w .count * entryLength ≡ (by-wait b o t s before) .count * entryLength
   unfolding kept told
   kept-long-by true q = omega (arith, length-tag-entry t s (q refl))
   kept-long-by false q = omega arith
@@ -199,7 +199,7 @@ module _ (config : List ℕ) (n : Nav) (c : Chain) (h : Held) (x : Section) (j :
   unfolding ownJudged
   own-count = count-by o t s w (eqb o 5)
 
-  own-kept-long : length (own-one .kept) + w .count * 84 ≡ own-one .count * 84
+  own-kept-long : length (own-one .kept) + w .count * entryLength ≡ own-one .count * entryLength
   unfolding ownJudged
   own-kept-long = kept-long-by o t s w (eqb o 5) (λ _. length-set-of (n .words) ((ownTag c x j) .prn))
 
@@ -260,7 +260,7 @@ module _ (config : List ℕ) (n : Nav) (c : Chain) (h : Held) (x : Section) (mar
   loss-count true = count-by 8 (lostTag c x marks j) [] w false
   loss-count false = own-count config n c h x j w
 
-  loss-kept-long : (b : Bool) → length ((by-loss b alone) .kept) + w .count * 84 ≡ (by-loss b alone) .count * 84
+  loss-kept-long : (b : Bool) → length ((by-loss b alone) .kept) + w .count * entryLength ≡ (by-loss b alone) .count * entryLength
   loss-kept-long true = kept-long-by 8 (lostTag c x marks j) [] w false (λ e. true-false (sym e))
   loss-kept-long false = own-kept-long config n c h x j w
 
@@ -296,7 +296,7 @@ module _ (config : List ℕ) (n : Nav) (c : Chain) (h : Held) (x : Section) (mar
   unfolding fieldJudged
   field-count = loss-count lost
 
-  field-kept-long : length (one .kept) + w .count * 84 ≡ one .count * 84
+  field-kept-long : length (one .kept) + w .count * entryLength ≡ one .count * entryLength
   unfolding fieldJudged
   field-kept-long = loss-kept-long lost
 
@@ -314,7 +314,7 @@ module _ (config : List ℕ) (n : Nav) (c : Chain) (h : Held) (x : Section) (mar
 
 -- ---- and so do the regions
 module _ (config : List ℕ) (n : Nav) (c : Chain) (h : Held) (x : Section) (waiting area waiting₁ sets₁ times₁ area₁ waiting₂ sets₂ times₂ area₂ : List ℕ)
-    (marks count at k r r₂ : ℕ) (w : Work) (small : at + k < 270) (long-waiting : length waiting ≡ 21504) (long-area : length area ≡ 3240)
+    (marks count at k r r₂ : ℕ) (w : Work) (small : at + k < 270) (long-waiting : length waiting ≡ waitingLength) (long-area : length area ≡ areaLength)
     (l : Leaves w count at waiting area waiting₁ sets₁ times₁ area₁ r) (g : Grows w count k r)
     (m : Leaves (fieldJudged config n c h x marks k (start r sets₁ times₁)) r (at + k) waiting₁ area₁ waiting₂ sets₂ times₂ area₂ r₂) where
   same-work : fieldJudged config n c h x marks k (start r sets₁ times₁) ≡ one config n c h x marks k w
@@ -345,7 +345,7 @@ module _ (config : List ℕ) (n : Nav) (c : Chain) (h : Held) (x : Section) (wai
         entries =
             m .entries
             ∙ rw (same-work, l .entries, field-kept config n c h x marks k w)
-            (splice-after waiting (count * 84) (r * 84) (w .kept) ((one config n c h x marks k w) .kept) (omega (arith, g .more, g .kept-long)) (omega arith));
+            (splice-after waiting (count * entryLength) (r * entryLength) (w .kept) ((one config n c h x marks k w) .kept) (omega (arith, g .more, g .kept-long)) (omega arith));
         sets = m .sets ∙ rw (same-work) (sym (field-sets config n c h x marks k w));
         arrivals = m .arrivals ∙ rw (same-work) (sym (field-arrivals config n c h x marks k w));
         records =
@@ -363,10 +363,10 @@ tells-by : (b : Bool) (o count at : ℕ) (t : Tag) (s waiting sets arrivals area
 unfolding told
 tells-by true o count at t s waiting sets arrivals area sets′ arrivals′ area′ e q = true-false e
 tells-by false o count at t s waiting sets arrivals area sets′ arrivals′ area′ e q =
-    record { entries = sym (splice-nil waiting (count * 84)); sets = q .sets; arrivals = q .arrivals; records = q .records; count = refl }
+    record { entries = sym (splice-nil waiting (count * entryLength)); sets = q .sets; arrivals = q .arrivals; records = q .records; count = refl }
 
 waits-by : (b : Bool) (o count at : ℕ) (t : Tag) (s waiting sets arrivals area waiting′ sets′ arrivals′ area′ : List ℕ) → b ≡ true
-    → Tells (told o t s (start 0 sets arrivals)) (at * 12) area sets′ arrivals′ area′ → waiting′ ≡ splice waiting (count * 84) (tagEntry t s)
+    → Tells (told o t s (start 0 sets arrivals)) (at * 12) area sets′ arrivals′ area′ → waiting′ ≡ splice waiting (count * entryLength) (tagEntry t s)
     → Leaves (by-wait b o t s (start count sets arrivals)) count at waiting area waiting′ sets′ arrivals′ area′ (count + 1)
 unfolding kept told
 waits-by true o count at t s waiting sets arrivals area waiting′ sets′ arrivals′ area′ e q p =
@@ -381,7 +381,7 @@ told-leaves o count at t s waiting sets arrivals area sets′ arrivals′ area�
     tells-by (eqb o 5) o count at t s waiting sets arrivals area sets′ arrivals′ area′ (ne-eqb o 5 p) q
 
 pub waits-leaves : (o count at : ℕ) (t : Tag) (s waiting sets arrivals area waiting′ sets′ arrivals′ area′ : List ℕ) → o ≡ 5
-    → Tells (told o t s (start 0 sets arrivals)) (at * 12) area sets′ arrivals′ area′ → waiting′ ≡ splice waiting (count * 84) (tagEntry t s)
+    → Tells (told o t s (start 0 sets arrivals)) (at * 12) area sets′ arrivals′ area′ → waiting′ ≡ splice waiting (count * entryLength) (tagEntry t s)
     → Leaves (settled o t s (start count sets arrivals)) count at waiting area waiting′ sets′ arrivals′ area′ (count + 1)
 unfolding settled
 waits-leaves o count at t s waiting sets arrivals area waiting′ sets′ arrivals′ area′ p q e =
@@ -394,12 +394,12 @@ pub none-judged : (config : List ℕ) (n : Nav) (c : Chain) (h : Held) (x : Sect
     × Grows (fieldsJudged config n c h x marks 0 (start count sets arrivals)) count 0 count
 unfolding fieldsJudged
 none-judged config n c h x waiting sets arrivals area marks count at p = (
-  record { entries = sym (splice-nil waiting (count * 84)); sets = refl; arrivals = refl; records = sym (splice-nil area (at * 12)); count = refl },
+  record { entries = sym (splice-nil waiting (count * entryLength)); sets = refl; arrivals = refl; records = sym (splice-nil area (at * 12)); count = refl },
   record { places = p; more = omega arith; kept-long = rw (sub-self count); records-long = refl },
 )
 
 pub next-judged : (config : List ℕ) (n : Nav) (c : Chain) (h : Held) (x : Section) (waiting area waiting₁ sets₁ times₁ area₁ waiting₂ sets₂ times₂ area₂ : List ℕ)
-    (marks count at k r r₂ : ℕ) (w : Work) → at + k < 270 → length waiting ≡ 21504 → length area ≡ 3240
+    (marks count at k r r₂ : ℕ) (w : Work) → at + k < 270 → length waiting ≡ waitingLength → length area ≡ areaLength
     → Leaves (fieldsJudged config n c h x marks k w) count at waiting area waiting₁ sets₁ times₁ area₁ r → Grows (fieldsJudged config n c h x marks k w) count k r
     → Leaves (fieldJudged config n c h x marks k (start r sets₁ times₁)) r (at + k) waiting₁ area₁ waiting₂ sets₂ times₂ area₂ r₂
     → Leaves (fieldsJudged config n c h x marks (k + 1) w) count at waiting area waiting₂ sets₂ times₂ area₂ r₂

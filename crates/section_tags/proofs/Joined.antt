@@ -8,7 +8,7 @@ use native.Mathlib.Omega.{arith}
 use lib.ListN.{length, length-append}
 use Rattle.rules.specs.Chain.{Held}
 use Rattle.rules.specs.Received.{fieldsJudged}
-use Rattle.rules.specs.State.{Nav}
+use Rattle.rules.specs.State.{Nav, entryLength, waitingLength, areaLength}
 use Rattle.rules.specs.Tags.{Work, Section}
 use Rattle.rules.specs.declared.Chain.{Chain}
 use Rattle.tag_records.specs.Told.{start, Leaves, Counts}
@@ -50,12 +50,12 @@ module _ (config : List ℕ) (n : Nav) (c : Chain) (h : Held) (x : Section) (mar
 
 -- the due tags' work w, of m waiting tags, then that of the first k fields
 pub both-leave : (config : List ℕ) (n : Nav) (c : Chain) (h : Held) (x : Section) (waiting area waiting₁ sets₁ times₁ area₁ waiting₂ sets₂ times₂ area₂ : List ℕ)
-    (marks m k r r₂ : ℕ) (w : Work) → length waiting ≡ 21504 → length area ≡ 3240 → m - r + k ≤ 270
+    (marks m k r r₂ : ℕ) (w : Work) → length waiting ≡ waitingLength → length area ≡ areaLength → m - r + k ≤ 270
     → Leaves w 0 0 waiting area waiting₁ sets₁ times₁ area₁ r → Counts w m r
     → Leaves (fieldsJudged config n c h x marks k (start r sets₁ times₁)) r (m - r) waiting₁ area₁ waiting₂ sets₂ times₂ area₂ r₂
     → Grows (fieldsJudged config n c h x marks k (start r sets₁ times₁)) r k r₂
     → Leaves (fieldsJudged config n c h x marks k w) 0 0 waiting area waiting₂ sets₂ times₂ area₂ r₂
-    × ((length ((fieldsJudged config n c h x marks k w) .kept) ≡ r₂ * 84) × (length ((fieldsJudged config n c h x marks k w) .records) ≡ (m - r + k) * 12))
+    × ((length ((fieldsJudged config n c h x marks k w) .kept) ≡ r₂ * entryLength) × (length ((fieldsJudged config n c h x marks k w) .records) ≡ (m - r + k) * 12))
 both-leave config n c h x waiting area waiting₁ sets₁ times₁ area₁ waiting₂ sets₂ times₂ area₂ marks m k r r₂ w lw la few l d o g =
     let v = fieldsJudged config n c h x marks k (start r sets₁ times₁) in
     let e : v ≡ fieldsJudged config n c h x marks k (start (w .count) (w .sets) (w .arrivals)) = rw (l .sets, l .arrivals, l .count) in
@@ -69,7 +69,7 @@ both-leave config n c h x waiting area waiting₁ sets₁ times₁ area₁ waiti
       record {
         entries =
             o .entries
-            ∙ rw (l .entries, b .kept-is) (splice-after waiting 0 (r * 84) (w .kept) (v .kept) (omega arith) (omega arith));
+            ∙ rw (l .entries, b .kept-is) (splice-after waiting 0 (r * entryLength) (w .kept) (v .kept) (omega arith) (omega arith));
         sets = o .sets ∙ sym (b .sets-are);
         arrivals = o .arrivals ∙ sym (b .arrivals-are);
         records =

@@ -12,6 +12,7 @@ use Rattle.rules.specs.Chain.{Held, keyOfSlot, keySlot}
 use Rattle.rules.specs.Tags.{Work, told, kept, tagEntry}
 use Rattle.rules.specs.declared.Chain.{Chain}
 use Rattle.rules.specs.declared.Tag.{Tag}
+use Rattle.rules.specs.State.{entryLength}
 
 -- what is kept of the key of the tags without delay of block b + 1
 unfoldable pub blockKey : Chain → Held → ℕ → ℕ → List ℕ
@@ -39,7 +40,7 @@ settled outcome t navdata w =
 pub record Grows (w : Work) (count n r : ℕ) : Type 0 where
   pub places : r ≤ 256
   pub more : count ≤ r
-  pub kept-long : length (w .kept) ≡ (r - count) * 84
+  pub kept-long : length (w .kept) ≡ (r - count) * entryLength
   pub records-long : length (w .records) ≡ n * 12
 
 -- the work of tags after work w is that of the same tags alone, behind what w has: u is v after w

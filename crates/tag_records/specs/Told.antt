@@ -5,6 +5,7 @@ use mathlib.Core.List.{List, []}
 use lib.ListN.{length}
 use Rattle.laws.specs.Lists.{splice}
 use Rattle.rules.specs.Tags.{Work}
+use Rattle.rules.specs.State.{entryLength}
 
 -- no record yet, and `count` entries that stay elsewhere
 abbrev pub start : ℕ → List ℕ → List ℕ → Work
@@ -19,7 +20,7 @@ pub record Tells (w : Work) (at : ℕ) (area sets′ arrivals′ area′ : List 
 -- What lent regions are after work w, if they were `waiting` and `area` before it: its entries lie from place `kept` on, its records from
 -- place `told` on, and `r` is the count of entries that stay.
 pub record Leaves (w : Work) (kept told : ℕ) (waiting area waiting′ sets′ arrivals′ area′ : List ℕ) (r : ℕ) : Type 0 where
-  pub entries : waiting′ ≡ splice waiting (kept * 84) (w .kept)
+  pub entries : waiting′ ≡ splice waiting (kept * entryLength) (w .kept)
   pub sets : sets′ ≡ w .sets
   pub arrivals : arrivals′ ≡ w .arrivals
   pub records : area′ ≡ splice area (told * 12) (w .records)
@@ -28,5 +29,5 @@ pub record Leaves (w : Work) (kept told : ℕ) (waiting area waiting′ sets′ 
 -- of n entries, r stay with 84 bytes each, and the others have a record of 12 bytes each
 pub record Counts (w : Work) (n r : ℕ) : Type 0 where
   pub few : r ≤ n
-  pub kept-long : length (w .kept) ≡ r * 84
+  pub kept-long : length (w .kept) ≡ r * entryLength
   pub records-long : length (w .records) ≡ (n - r) * 12

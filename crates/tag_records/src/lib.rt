@@ -10,7 +10,7 @@ ghost use Prim.Native.Nat.{_+_, _≤_, _<_};
 ghost use lib.ListN.{length};
 ghost use Rattle.laws.specs.Lists.{splice};
 ghost use Rattle.rules.specs.Tags.{marksSet, setsEntered, arrivalsEntered, tagRecord, recordIssue, told};
-ghost use Rattle.rules.specs.State.{satellites, setsLength};
+ghost use Rattle.rules.specs.State.{setsLength, arrivalsLength, copyLength};
 ghost use Rattle.tag_records.specs.Told.{start, Tells};
 
 // ---- the set of an authentic tag
@@ -34,7 +34,7 @@ fn marks_set(outcome: u8, t: Tag) -> bool
 
 // The set of an authentic tag enters its satellite's place.
 fn enter(outcome: u8, t: Tag, set: &[u8], sets: &mut [u8], arrivals: &mut [u32])
-    requires { ⌜ ((length (now sets) ≡ setsLength) × (length (now arrivals) ≡ satellites)) × (length (now set) ≡ 69) ⌝ }
+    requires { ⌜ ((length (now sets) ≡ setsLength) × (length (now arrivals) ≡ arrivalsLength)) × (length (now set) ≡ copyLength) ⌝ }
     ensures { λ _. ⌜ (now (sets .exit) ≡ cond (marksSet outcome t) (setsEntered (now (sets .entry)) (now (arrivals .entry)) t (now (set .entry))) (now (sets .entry))) × (now (arrivals .exit) ≡ cond (marksSet outcome t) (arrivalsEntered (now (arrivals .entry)) t) (now (arrivals .entry))) ⌝ }
 {
     if marks_set(outcome, t) {
@@ -52,7 +52,7 @@ pub fn tell(
     area: &mut [u8],
     at: usize,
 )
-    requires { ⌜ ((length (now sets) ≡ setsLength) × (length (now arrivals) ≡ satellites)) × ((length (now set) ≡ 69) × (at + 12 ≤ length (now area))) ⌝ }
+    requires { ⌜ ((length (now sets) ≡ setsLength) × (length (now arrivals) ≡ arrivalsLength)) × ((length (now set) ≡ copyLength) × (at + 12 ≤ length (now area))) ⌝ }
     ensures { λ _. ⌜ Tells (told outcome t (now (set .entry)) (start 0 (now (sets .entry)) (now (arrivals .entry)))) at (now (area .entry)) (now (sets .exit)) (now (arrivals .exit)) (now (area .exit)) ⌝ }
 {
     let issue = record_issue(outcome, set);
@@ -64,7 +64,7 @@ pub fn tell(
 
 // The IODnav of a record: that of the set, or 0 for outcomes 3, 4, 6 and 8.
 pub fn record_issue(outcome: u8, set: &[u8]) -> u16
-    requires { ⌜ length (now set) ≡ 69 ⌝ }
+    requires { ⌜ length (now set) ≡ copyLength ⌝ }
     ensures { λ r. ⌜ r ≡ recordIssue outcome (now (set .entry)) ⌝ }
 {
     if outcome == 3 {

@@ -10,7 +10,7 @@ ghost use Rattle.laws.specs.Lists.{splice};
 ghost use Rattle.rules.specs.Chain.{held};
 ghost use Rattle.rules.specs.Tags.{tagEntry, isDue};
 ghost use Rattle.rules.specs.Verdict.{staying};
-ghost use Rattle.rules.specs.State.{waitingLength};
+ghost use Rattle.rules.specs.State.{waitingLength, entryLength};
 ghost use Rattle.test_leaves.specs.Numbers.{counted, tagOf};
 
 #[no_mangle]
@@ -27,8 +27,8 @@ pub extern "C" fn leaf_put_entry(
     bits: u64,
     set: &[u8],
 )
-    requires { ⌜ (k * 84 + 84 ≤ length (now waiting)) × (length (now set) ≡ 69) ⌝ }
-    ensures { λ _. ⌜ now (waiting .exit) ≡ splice (now (waiting .entry)) (k * 84) (tagEntry (tagOf sender prn adkd block position time status bits) (now (set .entry))) ⌝ }
+    requires { ⌜ (k * entryLength + entryLength ≤ length (now waiting)) × (length (now set) ≡ 69) ⌝ }
+    ensures { λ _. ⌜ now (waiting .exit) ≡ splice (now (waiting .entry)) (k * entryLength) (tagEntry (tagOf sender prn adkd block position time status bits) (now (set .entry))) ⌝ }
 {
     let t = Tag {
         sender: sender,
@@ -46,7 +46,7 @@ pub extern "C" fn leaf_put_entry(
 #[no_mangle]
 pub extern "C" fn leaf_keep_staying(waiting: &mut [u8], root: u64, n: usize) -> usize
     requires { ⌜ (length (now waiting) ≡ waitingLength) × (n ≤ 256) ⌝ }
-    ensures { λ r. ⌜ (now (waiting .exit) ≡ splice (now (waiting .entry)) 0 (staying root (now (waiting .entry)) n)) × ((length (staying root (now (waiting .entry)) n) ≡ r * 84) × (r ≤ n)) ⌝ }
+    ensures { λ r. ⌜ (now (waiting .exit) ≡ splice (now (waiting .entry)) 0 (staying root (now (waiting .entry)) n)) × ((length (staying root (now (waiting .entry)) n) ≡ r * entryLength) × (r ≤ n)) ⌝ }
 {
     waiting_tags::keep_staying(waiting, root, n)
 }

@@ -15,11 +15,12 @@ use Rattle.rules.specs.Tags.{tagEntry, entryAt, entrySet}
 use Rattle.rules.specs.Verdict.{keyNotBefore, staying}
 use Rattle.rules.specs.declared.Tag.{Tag}
 use Rattle.rules.proofs.Entries.{length-entry}
+use Rattle.rules.specs.State.{entryLength, copyLength}
 
 -- the set of entry k in the region
-pub set-in-region : (w : List ℕ) (k : ℕ) → k * 84 + 84 ≤ length w → part w (k * 84 + 15) 69 ≡ entrySet (entryAt w k)
+pub set-in-region : (w : List ℕ) (k : ℕ) → k * entryLength + entryLength ≤ length w → part w (k * entryLength + 15) 69 ≡ entrySet (entryAt w k)
 unfolding entrySet entryAt
-set-in-region w k h = sym (part-part w (k * 84) 84 15 69 h (omega arith))
+set-in-region w k h = sym (part-part w (k * entryLength) entryLength 15 69 h (omega arith))
 
 -- ---- the bytes of an entry: 15, then the set
 
@@ -29,7 +30,7 @@ head t =
     ∷ t .time / 16777216 % 256 ∷ t .time / 65536 % 256 ∷ t .time / 256 % 256 ∷ t .time % 256 ∷ t .status
     ∷ t .bits / 4294967296 % 256 ∷ t .bits / 16777216 % 256 ∷ t .bits / 65536 % 256 ∷ t .bits / 256 % 256 ∷ t .bits % 256 ∷ []
 
-pub entry-spliced : (w : List ℕ) (a : ℕ) (t : Tag) (s : List ℕ) → a + 84 ≤ length w → length s ≡ 69
+pub entry-spliced : (w : List ℕ) (a : ℕ) (t : Tag) (s : List ℕ) → a + entryLength ≤ length w → length s ≡ copyLength
     → splice (splice w a (head t)) (a + 15) s ≡ splice w a (tagEntry t s)
 unfolding tagEntry be4
 entry-spliced w a t s h e =
@@ -50,28 +51,28 @@ moved d from to n i p q r =
 -- ---- entries that close up to the front
 
 -- an entry behind those that were closed up is as it was
-pub untouched : (w s : List ℕ) (kept k : ℕ) → length s ≡ kept * 84 → kept ≤ k → k * 84 + 84 ≤ length w → entryAt (splice w 0 s) k ≡ entryAt w k
+pub untouched : (w s : List ℕ) (kept k : ℕ) → length s ≡ kept * entryLength → kept ≤ k → k * entryLength + entryLength ≤ length w → entryAt (splice w 0 s) k ≡ entryAt w k
 unfolding entryAt
-untouched w s kept k e p h = part-splice-past w 0 s (omega arith) (k * 84) 84 (omega arith) h
+untouched w s kept k e p h = part-splice-past w 0 s (omega arith) (k * entryLength) entryLength (omega arith) h
 
 -- by a test: how long the kept entries are then
-pub longer : (b : Bool) (s e : List ℕ) (kept : ℕ) → length s ≡ kept * 84 → length e ≡ 84 → length (s ++ cond b e []) ≡ (kept + cond b 1 0) * 84
+pub longer : (b : Bool) (s e : List ℕ) (kept : ℕ) → length s ≡ kept * entryLength → length e ≡ entryLength → length (s ++ cond b e []) ≡ (kept + cond b 1 0) * entryLength
 longer true s e kept p q = simp length-append (omega arith)
 longer false s e kept p q = simp length-append (omega arith)
 
-pub at-most : (b : Bool) (e : List ℕ) → length e ≡ 84 → (length (cond b e []) ≤ 84) × (cond b 1 0 ≤ 1)
+pub at-most : (b : Bool) (e : List ℕ) → length e ≡ entryLength → (length (cond b e []) ≤ entryLength) × (cond b 1 0 ≤ 1)
 at-most true e q = (omega arith, omega arith)
 at-most false e q = (omega arith, omega arith)
 
 -- ---- those that stay at a new root: none yet, and one entry more
 
-pub none-yet : (root : ℕ) (w : List ℕ) → (length (staying root w 0) ≡ 0 * 84) × (w ≡ splice w 0 (staying root w 0))
+pub none-yet : (root : ℕ) (w : List ℕ) → (length (staying root w 0) ≡ 0 * entryLength) × (w ≡ splice w 0 (staying root w 0))
 unfolding staying
 none-yet root w = (refl, sym (splice-nil w 0))
 
-module _ (root : ℕ) (w v u : List ℕ) (k kept r : ℕ) (p : kept ≤ k) (h : k * 84 + 84 ≤ length w)
-    (l : length (staying root w k) ≡ kept * 84) (e : v ≡ splice w 0 (staying root w k))
-    (f : u ≡ splice v (kept * 84) (cond (keyNotBefore root (entryAt v k)) (entryAt v k) []))
+module _ (root : ℕ) (w v u : List ℕ) (k kept r : ℕ) (p : kept ≤ k) (h : k * entryLength + entryLength ≤ length w)
+    (l : length (staying root w k) ≡ kept * entryLength) (e : v ≡ splice w 0 (staying root w k))
+    (f : u ≡ splice v (kept * entryLength) (cond (keyNotBefore root (entryAt v k)) (entryAt v k) []))
     (g : r ≡ kept + cond (keyNotBefore root (entryAt v k)) 1 0) where
   same-entry : entryAt v k ≡ entryAt w k
   same-entry = ap (λ (x : List ℕ). entryAt x k) e ∙ untouched w (staying root w k) kept k l p h
@@ -81,9 +82,9 @@ module _ (root : ℕ) (w v u : List ℕ) (k kept r : ℕ) (p : kept ≤ k) (h : 
   stay-region =
       let b : Bool = keyNotBefore root (entryAt w k) in
       let m = at-most b (entryAt w k) (length-entry w k h) in
-      f ∙ rw (same-entry, e, add-one k) (splice-after w 0 (kept * 84) (staying root w k) (cond b (entryAt w k) []) (omega arith) (omega arith))
+      f ∙ rw (same-entry, e, add-one k) (splice-after w 0 (kept * entryLength) (staying root w k) (cond b (entryAt w k) []) (omega arith) (omega arith))
 
-  pub stay-length : (length (staying root w (k + 1)) ≡ r * 84) × (r ≤ k + 1)
+  pub stay-length : (length (staying root w (k + 1)) ≡ r * entryLength) × (r ≤ k + 1)
   unfolding staying
   stay-length =
       let b : Bool = keyNotBefore root (entryAt w k) in

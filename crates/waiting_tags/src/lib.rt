@@ -1,4 +1,4 @@
-// Tags that wait for their key (01, "MACK"): 256 places of 84 bytes, an entry each, in arrival order. What an entry holds is `tagEntry`
+// Tags that wait for their key (01, "MACK"): 256 places, an entry each, in arrival order. What an entry holds is `tagEntry`
 // of rules/specs/Tags.antt.
 // Public calls:
 //   entry_tag, copy_set   the tag of an entry, and the copy of its set
@@ -6,6 +6,8 @@
 //   move_entry            an entry moves to an earlier place
 //   is_due                whether the held key reaches a tag's slot
 //   keep_staying          the entries that stay at a new root close up, in order
+use regions::COPY_LENGTH;
+use regions::ENTRY_LENGTH;
 use rules::Chain;
 use rules::Tag;
 ghost use mathlib.Core.Path.{_≡_};
@@ -17,21 +19,21 @@ ghost use Rattle.laws.specs.Lists.{part, splice};
 ghost use Rattle.rules.specs.Chain.{held};
 ghost use Rattle.rules.specs.Tags.{tagEntry, entryAt, entryTag, entrySet, isDue};
 ghost use Rattle.rules.specs.Verdict.{keyNotBefore, staying};
-ghost use Rattle.rules.specs.State.{waitingLength};
+ghost use Rattle.rules.specs.State.{waitingLength, entryLength, copyLength};
 
 // ---- an entry
 
 // The tag of entry k.
 pub fn entry_tag(waiting: &[u8], k: usize) -> Tag
-    requires { ⌜ k * 84 + 84 ≤ length (now waiting) ⌝ }
+    requires { ⌜ k * entryLength + entryLength ≤ length (now waiting) ⌝ }
     ensures { λ r. ⌜ r ≡ entryTag (entryAt (now (waiting .entry)) k) ⌝ }
 {
-    tag_in(&waiting[k * 84..k * 84 + 84])
+    tag_in(&waiting[k * ENTRY_LENGTH..k * ENTRY_LENGTH + ENTRY_LENGTH])
 }
 
 // The tag of an entry.
 fn tag_in(e: &[u8]) -> Tag
-    requires { ⌜ length (now e) ≡ 84 ⌝ }
+    requires { ⌜ length (now e) ≡ entryLength ⌝ }
     ensures { λ r. ⌜ r ≡ entryTag (now (e .entry)) ⌝ }
 {
     let time = buffer::get_u32(e, 5);
@@ -50,16 +52,16 @@ fn tag_in(e: &[u8]) -> Tag
 
 // The set of entry k, copied to `out`.
 pub fn copy_set(waiting: &[u8], k: usize, out: &mut [u8])
-    requires { ⌜ (k * 84 + 84 ≤ length (now waiting)) × (length (now out) ≡ 69) ⌝ }
+    requires { ⌜ (k * entryLength + entryLength ≤ length (now waiting)) × (length (now out) ≡ copyLength) ⌝ }
     ensures { λ _. ⌜ now (out .exit) ≡ entrySet (entryAt (now (waiting .entry)) k) ⌝ }
 {
-    buffer::copy_part(out, 0, waiting, k * 84 + 15, 69);
+    buffer::copy_part(out, 0, waiting, k * ENTRY_LENGTH + 15, COPY_LENGTH);
 }
 
 // The entry of a tag and its set at place k.
 pub fn put_entry(waiting: &mut [u8], k: usize, t: Tag, set: &[u8])
-    requires { ⌜ (k * 84 + 84 ≤ length (now waiting)) × (length (now set) ≡ 69) ⌝ }
-    ensures { λ _. ⌜ now (waiting .exit) ≡ splice (now (waiting .entry)) (k * 84) (tagEntry t (now (set .entry))) ⌝ }
+    requires { ⌜ (k * entryLength + entryLength ≤ length (now waiting)) × (length (now set) ≡ copyLength) ⌝ }
+    ensures { λ _. ⌜ now (waiting .exit) ≡ splice (now (waiting .entry)) (k * entryLength) (tagEntry t (now (set .entry))) ⌝ }
 {
     let time = t.time;
     let bits = t.bits;
@@ -80,8 +82,8 @@ pub fn put_entry(waiting: &mut [u8], k: usize, t: Tag, set: &[u8])
         (bits / 256 % 256) as u8,
         (bits % 256) as u8,
     ];
-    buffer::copy_at(waiting, k * 84, &head);
-    buffer::copy_at(waiting, k * 84 + 15, set);
+    buffer::copy_at(waiting, k * ENTRY_LENGTH, &head);
+    buffer::copy_at(waiting, k * ENTRY_LENGTH + 15, set);
 }
 
 // ---- entries close up
@@ -100,10 +102,15 @@ fn move_bytes(d: &mut [u8], from: usize, to: usize, n: usize)
 
 // Entry `from` moves to place `to`, which is not after it.
 pub fn move_entry(waiting: &mut [u8], from: usize, to: usize)
-    requires { ⌜ (to ≤ from) × (from * 84 + 84 ≤ length (now waiting)) ⌝ }
-    ensures { λ _. ⌜ now (waiting .exit) ≡ splice (now (waiting .entry)) (to * 84) (entryAt (now (waiting .entry)) from) ⌝ }
+    requires { ⌜ (to ≤ from) × (from * entryLength + entryLength ≤ length (now waiting)) ⌝ }
+    ensures { λ _. ⌜ now (waiting .exit) ≡ splice (now (waiting .entry)) (to * entryLength) (entryAt (now (waiting .entry)) from) ⌝ }
 {
-    move_bytes(waiting, from * 84, to * 84, 84);
+    move_bytes(
+        waiting,
+        from * ENTRY_LENGTH,
+        to * ENTRY_LENGTH,
+        ENTRY_LENGTH,
+    );
 }
 
 // "A waiting tag is due once the held slot reaches its key's slot."
@@ -116,7 +123,7 @@ pub fn is_due(c: Chain, slot: u64, t: Tag) -> bool
 
 // Whether the key of entry k's tag belongs to a sub-frame not before the root's sub-frame 0.
 fn stays(waiting: &[u8], root: u64, k: usize) -> bool
-    requires { ⌜ k * 84 + 84 ≤ length (now waiting) ⌝ }
+    requires { ⌜ k * entryLength + entryLength ≤ length (now waiting) ⌝ }
     ensures { λ r. ⌜ r ≡ keyNotBefore root (entryAt (now (waiting .entry)) k) ⌝ }
 {
     let t = entry_tag(waiting, k);
@@ -125,8 +132,8 @@ fn stays(waiting: &[u8], root: u64, k: usize) -> bool
 
 // Entry k, after `kept` that stay: where it stays, it closes up. Gives how many stay then.
 fn keep_one(waiting: &mut [u8], root: u64, k: usize, kept: usize) -> usize
-    requires { ⌜ (kept ≤ k) × ((k < 256) × (k * 84 + 84 ≤ length (now waiting))) ⌝ }
-    ensures { λ r. ⌜ (now (waiting .exit) ≡ splice (now (waiting .entry)) (kept * 84) (cond (keyNotBefore root (entryAt (now (waiting .entry)) k)) (entryAt (now (waiting .entry)) k) [])) × (r ≡ kept + cond (keyNotBefore root (entryAt (now (waiting .entry)) k)) 1 0) ⌝ }
+    requires { ⌜ (kept ≤ k) × ((k < 256) × (k * entryLength + entryLength ≤ length (now waiting))) ⌝ }
+    ensures { λ r. ⌜ (now (waiting .exit) ≡ splice (now (waiting .entry)) (kept * entryLength) (cond (keyNotBefore root (entryAt (now (waiting .entry)) k)) (entryAt (now (waiting .entry)) k) [])) × (r ≡ kept + cond (keyNotBefore root (entryAt (now (waiting .entry)) k)) 1 0) ⌝ }
 {
     if stays(waiting, root, k) {
         move_entry(waiting, k, kept);
@@ -138,7 +145,7 @@ fn keep_one(waiting: &mut [u8], root: u64, k: usize, kept: usize) -> usize
 // Those of the first n waiting tags that stay at a new root close up, in order. Gives their number.
 pub fn keep_staying(waiting: &mut [u8], root: u64, n: usize) -> usize
     requires { ⌜ (length (now waiting) ≡ waitingLength) × (n ≤ 256) ⌝ }
-    ensures { λ r. ⌜ (now (waiting .exit) ≡ splice (now (waiting .entry)) 0 (staying root (now (waiting .entry)) n)) × ((length (staying root (now (waiting .entry)) n) ≡ r * 84) × (r ≤ n)) ⌝ }
+    ensures { λ r. ⌜ (now (waiting .exit) ≡ splice (now (waiting .entry)) 0 (staying root (now (waiting .entry)) n)) × ((length (staying root (now (waiting .entry)) n) ≡ r * entryLength) × (r ≤ n)) ⌝ }
 {
     let mut kept: usize = 0;
     let mut k: usize = 0;

@@ -15,9 +15,9 @@ returns : tie.Need-returns
 returns c =
     let p = c .before .before .before .before .before .before .before in
     let g = p .args in
-    λ s ek eo e.
+    λ s.
     rw (p .pre .1 .1 .0, p .pre .1 .1 .1)
-    (offer-missing s (now (g .message)) (now (g .signature)) (now (g .pubkey)) (now (g .pubkeys)) (now (g .offer)) ek eo e (c .if1 .taken))
+    (offer-missing s (now (g .pubkeys)) (now (g .offer)) (now (g .message)) (now (g .signature)) (now (g .pubkey)) (p .pre .0, p .pre .1 .0) (c .if1 .taken))
 
 -- the lent bytes are those of the region
 returns-2 : tie.Need-returns-2
@@ -29,8 +29,8 @@ returns-2 c =
     let n = part (now (g .offer)) 47 132 in
     let lm = length-part (now (g .offer)) 2 45 (omega arith) in
     let ln = length-part (now (g .offer)) 47 132 (omega arith) in
-    λ s ek eo e.
-    offer-found s (now (g .message)) (now (g .signature)) (now (g .pubkey)) (now (g .pubkeys)) (now (g .offer)) ek eo e
+    λ s.
+    offer-found s (now (g .pubkeys)) (now (g .offer)) (now (g .message)) (now (g .signature)) (now (g .pubkey)) (p .pre .0, p .pre .1 .0)
     (c .before .before .before .before .before .before .before .before .before .before .before .before .before .before .if1 .left)
     (c .before .before .before .before .before .before .before .before .before .before .before .copy-part .last .0)
     (c .before .before .before .before .before .before .before .copy-part2 .last .0)

@@ -21,7 +21,7 @@ in-range c = let i = c .before in rw (c .index .ensures .0) (i .before .prn-vali
 returns : tie.Need-returns
 returns c =
     let p = c .before .before .before .before .before in
-    λ s ea e. rw (p .pre .1 .0, p .pre .1 .1) (set-unheard s (p .args .prn) (now (p .args .out)) e (sym (c .before .prn-valid .ensures .0) ∙ not-true _ (c .if1 .taken)))
+    λ s. rw (p .pre .1 .0, p .pre .1 .1) (set-unheard s (now (p .args .sets)) (now (p .args .arrivals)) (now (p .args .out)) (p .args .prn) (p .pre .0) (sym (c .before .prn-valid .ensures .0) ∙ not-true _ (c .if1 .taken)))
 
 stamp-of-requires : tie.Need-stamp-of-requires
 stamp-of-requires c κs = let k = in-range c in search (needs, k .0, k .1)
@@ -30,9 +30,9 @@ returns-2 : tie.Need-returns-2
 returns-2 c =
     let i = c .before .before in
     let p = i .before .before .before .before .before .before in
-    λ s ea e.
+    λ s.
     rw (p .pre .1 .0, p .pre .1 .1)
-    (set-missing s (p .args .prn) (now (p .args .out)) (now (p .args .sets)) (now (p .args .arrivals)) ea e (heard (i .before)) (c .before .stamp-of .result)
+    (set-missing s (now (p .args .sets)) (now (p .args .arrivals)) (now (p .args .out)) (p .args .prn) (p .pre .0) (heard (i .before)) (c .before .stamp-of .result)
     (rw (i .index .ensures .0) at (c .before .stamp-of .ensures (now (p .args .sets))))
     (c .if2 .taken))
 
@@ -46,8 +46,8 @@ returns-3 c =
     let i = z .before .before in
     let p = i .before .before .before .before .before .before in
     let stamp = z .before .stamp-of in
-    λ s ea e.
-    set-found s (p .args .prn) (now (p .args .out)) (now (p .args .sets)) (now (p .args .arrivals)) ea e
+    λ s.
+    set-found s (now (p .args .sets)) (now (p .args .arrivals)) (now (p .args .out)) (p .args .prn) (p .pre .0)
     (heard (i .before))
     (t .copy-set .last .1 .1 .0)
     (c .set-issue .result)

@@ -4,6 +4,7 @@ use borrow.Author.Needs.{needs}
 use Rattle.call_start_parts.proofs.Cleared.{cleared, blocks-clear}
 use Rattle.call_start_parts.proofs.clear_blocks.Statement.{statement}
 use Rattle.call_start_parts.proofs.clear_blocks.Tie as tie
+use Rattle.rules.specs.State.{blocksLength}
 
 returns : tie.Need-returns
 returns c =
@@ -13,7 +14,7 @@ returns c =
     let m = c .before .before .before .before .before .before .clear-u16 in
     let t = c .before .before .clear-u32 in
     blocks-clear (b .last .0) (h .last .0) (m .last .0) (t .last .0)
-    (cleared (now (p .args .blocks)) (b .last .0) 3328 (p .pre .0 .0) (b .ensures))
+    (cleared (now (p .args .blocks)) (b .last .0) blocksLength (p .pre .0 .0) (b .ensures))
     (cleared (now (p .args .headers)) (h .last .0) 16 (p .pre .0 .1) (h .ensures))
     (cleared (now (p .args .present)) (m .last .0) 16 (p .pre .1 .0) (m .ensures))
     (cleared (now (p .args .since)) (t .last .0) 16 (p .pre .1 .1) (t .ensures))

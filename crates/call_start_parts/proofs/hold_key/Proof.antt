@@ -9,6 +9,7 @@ use Rattle.rules.proofs.Bounds.{key-length-bound}
 use Rattle.call_start_parts.proofs.Cleared.{cleared, key-held}
 use Rattle.call_start_parts.proofs.hold_key.Statement.{statement}
 use Rattle.call_start_parts.proofs.hold_key.Tie as tie
+use Rattle.rules.specs.State.{pubkeysLength}
 
 part-add-key-end : tie.Need-part-add-key-end
 part-add-key-end c =
@@ -27,7 +28,7 @@ returns c =
     let f = c .before .before .before .before .before .before .before .before .fill in
     let n = c .before .before .before .before .before .key-length in
     key-held (f .last .0) (c .before .before .add-key .last .0) (now (p .args .pubkey)) (p .args .id) (p .args .kind) (n .result)
-    (cleared (now (p .args .pubkeys)) (f .last .0) 1088 (p .pre .0 .0) (f .ensures))
+    (cleared (now (p .args .pubkeys)) (f .last .0) pubkeysLength (p .pre .0 .0) (f .ensures))
     (n .ensures)
     (c .before .before .add-key .ensures)
 

@@ -2,10 +2,8 @@
 -- Assumes nothing.
 use mathlib.Core.Path.{refl, sym, _∙_}
 use denote.Ref.{now}
-use Rattle.rules.specs.State.{State}
+use Rattle.rules.specs.State.{State, verdictLent}
 use Rattle.rules.specs.Verdict as S
-use Rattle.regions.specs.Tesla.{tesla}
-use Rattle.call_verdict.specs.Trusted.{trusted}
 use Rattle.call_verdict.proofs.Effects.{kept, wait-ended, taken}
 use borrow.Author.Needs.{needs}
 use Rattle.call_verdict.proofs.judge_named.Statement.{statement}
@@ -19,18 +17,18 @@ verdict c =
 -- the state with the lent regions
 abbrev lent : tie.Start → State → State
 lent c s =
-    trusted s (now (c .args .pubkeys)) (now (c .args .offer)) (now (c .args .chain)) (tesla (now (c .args .numbers)) (now (c .args .heldkey)) (now (c .args .waiting)))
+    verdictLent s (now (c .args .config)) (now (c .args .pubkeys)) (now (c .args .offer)) (now (c .args .chain)) (now (c .args .numbers)) (now (c .args .heldkey)) (now (c .args .waiting))
 
 returns : tie.Need-returns
 returns c =
     let g = c .before .before .before .before .before .before .before .before .before .before .before .before .before in
-    λ s m. (sym (c .if1 .taken) ∙ c .before .vouch-refusal .ensures (lent g s) m refl refl, kept (lent g s) (verdict g))
+    λ s. (sym (c .if1 .taken) ∙ c .before .vouch-refusal .ensures (lent g s) refl refl refl, kept (lent g s) (verdict g))
 
 returns-2 : tie.Need-returns-2
 returns-2 c =
     let i = c .before .before .before .before .before in
     let g = i .before .before .before .before .before .before .before .before .before .before .before .before .before in
-    λ s m. (i .before .vouch-refusal .ensures (lent g s) m refl refl, rw (c .before .before .before .end-wait .ensures) (wait-ended (lent g s) (verdict g) _ (c .if2 .taken) (i .if1 .left)))
+    λ s. (i .before .vouch-refusal .ensures (lent g s) refl refl refl, rw (c .before .before .before .end-wait .ensures) (wait-ended (lent g s) (verdict g) _ (c .if2 .taken) (i .if1 .left)))
 
 returns-3 : tie.Need-returns-3
 returns-3 c =
@@ -39,9 +37,9 @@ returns-3 c =
     let w = j .before .before .before in
     let i = w .before .before in
     let g = i .before .before .before .before .before .before .before .before .before .before .before .before .before in
-    λ s m. (
-      sym (j .if2 .left) ∙ i .before .vouch-refusal .ensures (lent g s) m refl refl,
-      rw (w .end-wait .ensures) (v .vouch .ensures (lent g s) (g .args .good) (now (g .args .signature)) m refl refl refl ∙ taken (lent g s) (verdict g)),
+    λ s. (
+      sym (j .if2 .left) ∙ i .before .vouch-refusal .ensures (lent g s) refl refl refl,
+      rw (w .end-wait .ensures) (v .vouch .ensures (lent g s) (g .args .good) (now (g .args .signature)) refl refl refl refl ∙ taken (lent g s) (verdict g)),
     )
 
 pub judge-named-spec : {M : Type 1} → statement M

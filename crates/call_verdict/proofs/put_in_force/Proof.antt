@@ -4,6 +4,7 @@ use mathlib.Core.Path.{_∙_}
 use denote.Ref.{now}
 use native.Mathlib.Omega.{arith}
 use lib.ListN.{length-set}
+use Rattle.rules.specs.Verdict as S
 use Rattle.call_verdict.proofs.Regions.{put}
 use borrow.Author.Needs.{needs}
 use Rattle.call_verdict.proofs.put_in_force.Statement.{statement}
@@ -16,6 +17,7 @@ same-length : tie.Need-same-length
 same-length c = c .before .before .copy-at .kept .0 ∙ simp length-set
 
 returns : tie.Need-returns
+unfolding S.forced
 returns c =
     let g = c .before .before .before .before .before .before .args in
     c .before .before .copy-at .ensures ∙ put (now (g .chain)) (now (g .c)) (omega arith) (omega arith)

@@ -11,10 +11,11 @@ use Rattle.due_tags.proofs.Arrival.{none-swept, one-swept}
 use borrow.Author.Needs.{needs}
 use Rattle.due_tags.proofs.sweep.Statement.{statement}
 use Rattle.due_tags.proofs.sweep.Tie as tie
+use Rattle.rules.specs.State.{arrivalsLength, waitingLength, setsLength, areaLength}
 
 abbrev Inv-loop : tie.InvT-loop
 Inv-loop outcomes waiting₀ n sets₀ times₀ area₀ kept₀ k₀ waiting sets arrivals area kept k =
-    ((k ≤ n) × ((length waiting ≡ 21504) × ((length sets ≡ 2484) × ((length arrivals ≡ 36) × (length area ≡ 3240)))))
+    ((k ≤ n) × ((length waiting ≡ waitingLength) × ((length sets ≡ setsLength) × ((length arrivals ≡ arrivalsLength) × (length area ≡ areaLength)))))
     × (Leaves (swept outcomes waiting₀ k (start 0 sets₀ times₀)) 0 0 waiting₀ area₀ waiting sets arrivals area kept
     × Counts (swept outcomes waiting₀ k (start 0 sets₀ times₀)) k kept)
 

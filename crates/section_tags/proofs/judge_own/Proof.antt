@@ -15,10 +15,11 @@ use Rattle.section_tags.proofs.Keys.{next-block, macseq-is}
 use Rattle.section_tags.proofs.Fields.{none-judged, next-judged}
 use Rattle.section_tags.proofs.judge_own.Statement.{statement}
 use Rattle.section_tags.proofs.judge_own.Tie as tie
+use Rattle.rules.specs.State.{arrivalsLength, waitingLength, setsLength, areaLength}
 
 abbrev Inv-loop : tie.InvT-loop
 Inv-loop config words stamps c slot known prn time status mack marks waiting₀ count sets₀ times₀ area₀ at n key₀ macseq fits r₀ j₀ waiting sets arrivals area key r j =
-    ((j ≤ n) × ((length waiting ≡ 21504) × ((length sets ≡ 2484) × ((length arrivals ≡ 36) × (length area ≡ 3240)))))
+    ((j ≤ n) × ((length waiting ≡ waitingLength) × ((length sets ≡ setsLength) × ((length arrivals ≡ arrivalsLength) × (length area ≡ areaLength)))))
     × ((key ≡ blockKey c (held slot (take (c .width) known)) time ((j - 1) / c .fields))
     × (Leaves (fieldsJudged config (nav words stamps) c (held slot (take (c .width) known)) (section prn time status mack) marks j (start count sets₀ times₀)) count at waiting₀ area₀ waiting sets arrivals area r
     × Grows (fieldsJudged config (nav words stamps) c (held slot (take (c .width) known)) (section prn time status mack) marks j (start count sets₀ times₀)) count j r))

@@ -10,13 +10,14 @@ use Rattle.waiting_tags.proofs.Entries.{set-in-region}
 use borrow.Author.Needs.{needs}
 use Rattle.waiting_tags.proofs.copy_set.Statement.{statement}
 use Rattle.waiting_tags.proofs.copy_set.Tie as tie
+use Rattle.rules.specs.State.{entryLength}
 
 returns : tie.Need-returns
 returns c =
     let g = c .before .before .before .before .before .before .args in
-    let n = length-part (now (g .waiting)) (g .k * 84 + 15) 69 (omega arith) in
+    let n = length-part (now (g .waiting)) (g .k * entryLength + 15) 69 (omega arith) in
     c .before .before .copy-part .ensures
-    ∙ splice-whole (now (g .out)) (part (now (g .waiting)) (g .k * 84 + 15) 69) (omega arith)
+    ∙ splice-whole (now (g .out)) (part (now (g .waiting)) (g .k * entryLength + 15) 69) (omega arith)
     ∙ set-in-region (now (g .waiting)) (g .k) (omega arith)
 
 pub copy-set-spec : {M : Type 1} → statement M

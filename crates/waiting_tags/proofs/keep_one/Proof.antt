@@ -8,6 +8,7 @@ use Rattle.laws.proofs.Splice.{splice-nil}
 use borrow.Author.Needs.{needs}
 use Rattle.waiting_tags.proofs.keep_one.Statement.{statement}
 use Rattle.waiting_tags.proofs.keep_one.Tie as tie
+use Rattle.rules.specs.State.{entryLength}
 
 returns : tie.Need-returns
 returns c =
@@ -18,7 +19,7 @@ returns-2 : tie.Need-returns-2
 returns-2 c =
     let e = sym (c .before .stays .ensures) ∙ c .if1 .left in
     let g = c .before .before .before .before .args in
-    (rw e (sym (splice-nil (now (g .waiting)) (g .kept * 84))), rw e (omega arith))
+    (rw e (sym (splice-nil (now (g .waiting)) (g .kept * entryLength))), rw e (omega arith))
 
 pub keep-one-spec : {M : Type 1} → statement M
 keep-one-spec =

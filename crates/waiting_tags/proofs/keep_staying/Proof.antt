@@ -12,10 +12,11 @@ use Rattle.waiting_tags.proofs.Entries.{none-yet, stay-region, stay-len
 use borrow.Author.Needs.{needs}
 use Rattle.waiting_tags.proofs.keep_staying.Statement.{statement}
 use Rattle.waiting_tags.proofs.keep_staying.Tie as tie
+use Rattle.rules.specs.State.{entryLength}
 
 abbrev Inv-loop : tie.InvT-loop
 Inv-loop waiting₀ root n kept₀ k₀ waiting kept k =
-    (k ≤ n) × ((kept ≤ k) × ((length (staying root waiting₀ k) ≡ kept * 84) × (waiting ≡ splice waiting₀ 0 (staying root waiting₀ k))))
+    (k ≤ n) × ((kept ≤ k) × ((length (staying root waiting₀ k) ≡ kept * entryLength) × (waiting ≡ splice waiting₀ 0 (staying root waiting₀ k))))
 
 abbrev μ-loop : tie.MeasureT-loop
 μ-loop waiting₀ root n kept₀ k₀ waiting kept k = n - k

@@ -7,12 +7,13 @@ use Rattle.waiting_tags.proofs.Entries.{entry-spliced}
 use borrow.Author.Needs.{needs}
 use Rattle.waiting_tags.proofs.put_entry.Statement.{statement}
 use Rattle.waiting_tags.proofs.put_entry.Tie as tie
+use Rattle.rules.specs.State.{entryLength}
 
 returns : tie.Need-returns
 returns c =
     let g = c .before .before .before .before .before .before .before .before .before .before .before .args in
     rw (c .before .before .copy-at2 .ensures, c .before .before .before .before .before .before .copy-at .ensures)
-    (entry-spliced (now (g .waiting)) (g .k * 84) (g .t) (now (g .set)) (omega arith) (omega arith))
+    (entry-spliced (now (g .waiting)) (g .k * entryLength) (g .t) (now (g .set)) (omega arith) (omega arith))
 
 pub put-entry-spec : {M : Type 1} → statement M
 put-entry-spec =

@@ -1,0 +1,2 @@
+-- A start by its number.
+pub mod Started

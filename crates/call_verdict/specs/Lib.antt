@@ -1,2 +1,0 @@
--- what a verdict may change
-pub mod Trusted

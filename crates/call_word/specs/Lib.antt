@@ -1,2 +1,0 @@
--- what a word may change
-pub mod Heard
