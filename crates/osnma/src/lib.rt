@@ -1,15 +1,23 @@
-// The boundary to C and Rust: the calls over the sixteen lent regions, as exported functions. A slice is two arguments, a pointer and a count of
-// elements. include/osnma.h and rust/osnma have the calls over one object. Nobody but these calls writes the regions between a start and the last
-// call, and the regions do not overlap.
-// No function asks anything of its caller: any lengths, bytes, numbers and times. Here alone all sixteen regions stand together: each function looks
-// at the lengths (row 1 of 01's table) and hands on the regions that the call reads or writes.
+// The boundary to C and Rust: the calls over lent regions, as exported functions. A slice is two arguments, a pointer and a count of elements.
+// include/osnma.h and rust/osnma have the calls over one object. Nobody but these calls writes the regions between a start and the last call, and the
+// regions do not overlap.
+// No function asks anything of its caller: any lengths, bytes, numbers and times. A call is lent the regions that it reads or writes: start and
+// sub-frame all sixteen, a word four, a verdict seven, a read two; the others have no part in it, whatever they hold. Each function looks at the
+// lengths (row 1 of 01's table) and hands on what it was lent.
 ghost use mathlib.Core.Path.{_≡_};
 ghost use Rattle.regions.specs.Told.{told};
 ghost use Rattle.call_subframe.specs.Told.{subframeTold, subframe};
 ghost use Rattle.call_reads.specs.Reads.{setTold, offerTold};
 ghost use Rattle.rules.specs.Calls.{startCall, wordCall, subframeCall, verdictCall, setRead, offerRead};
-ghost use Rattle.rules.specs.Whole.{wholeSubframe};
-ghost use Rattle.rules.specs.State.{state};
+ghost use Rattle.rules.specs.State.{State, state, wordLent, verdictLent, setLent, offerLent};
+
+// The number of the layout of regions and exported parameters, in the name too: a caller that was written for another one does not link.
+#[no_mangle]
+pub extern "C" fn osnma_layout_1() -> u32
+    ensures { λ r. ⌜ r ≡ 1 ⌝ }
+{
+    1
+}
 
 // Begins: installs the settings and the first public key, and clears all else (01, start).
 #[no_mangle]
@@ -38,7 +46,17 @@ pub extern "C" fn osnma_regions_start(
     root: &[u8],
     pubkey: &[u8],
 ) -> u32
-    ensures { λ r. ⌜ told r (state (now (config .exit)) (now (clocks .exit)) (now (words .exit)) (now (stamps .exit)) (now (blocks .exit)) (now (headers .exit)) (now (present .exit)) (now (since .exit)) (now (pubkeys .exit)) (now (offer .exit)) (now (chain .exit)) (now (numbers .exit)) (now (heldkey .exit)) (now (waiting .exit)) (now (sets .exit)) (now (arrivals .exit))) ≡ startCall (state (now (config .entry)) (now (clocks .entry)) (now (words .entry)) (now (stamps .entry)) (now (blocks .entry)) (now (headers .entry)) (now (present .entry)) (now (since .entry)) (now (pubkeys .entry)) (now (offer .entry)) (now (chain .entry)) (now (numbers .entry)) (now (heldkey .entry)) (now (waiting .entry)) (now (sets .entry)) (now (arrivals .entry))) (record { ns = ns; id = id; type = kind; maclt = maclt; marks = now (marks .entry); root = now (root .entry); key = now (pubkey .entry) }) ⌝ }
+    ensures { λ r. ⌜ told r
+        (state (now (config .exit)) (now (clocks .exit)) (now (words .exit)) (now (stamps .exit))
+        (now (blocks .exit)) (now (headers .exit)) (now (present .exit)) (now (since .exit))
+        (now (pubkeys .exit)) (now (offer .exit)) (now (chain .exit)) (now (numbers .exit))
+        (now (heldkey .exit)) (now (waiting .exit)) (now (sets .exit)) (now (arrivals .exit)))
+        ≡ startCall
+        (state (now (config .entry)) (now (clocks .entry)) (now (words .entry)) (now (stamps .entry))
+        (now (blocks .entry)) (now (headers .entry)) (now (present .entry)) (now (since .entry))
+        (now (pubkeys .entry)) (now (offer .entry)) (now (chain .entry)) (now (numbers .entry))
+        (now (heldkey .entry)) (now (waiting .entry)) (now (sets .entry)) (now (arrivals .entry)))
+        (record { ns = ns; id = id; type = kind; maclt = maclt; marks = now (marks .entry); root = now (root .entry); key = now (pubkey .entry) }) ⌝ }
 {
     let shaped = regions::shaped(
         config,
@@ -100,108 +118,27 @@ pub extern "C" fn osnma_regions_word(
     clocks: &mut [u32],
     words: &mut [u8],
     stamps: &mut [u32],
-    blocks: &[u8],
-    headers: &[u8],
-    present: &[u16],
-    since: &[u32],
-    pubkeys: &[u8],
-    offer: &[u8],
-    chain: &[u8],
-    numbers: &[u64],
-    heldkey: &[u8],
-    waiting: &[u8],
-    sets: &[u8],
-    arrivals: &[u32],
     prn: u8,
     time: u32,
     bytes: &[u8],
 ) -> u32
-    ensures { λ r. ⌜ told r (state (now (config .entry)) (now (clocks .exit)) (now (words .exit)) (now (stamps .exit)) (now (blocks .entry)) (now (headers .entry)) (now (present .entry)) (now (since .entry)) (now (pubkeys .entry)) (now (offer .entry)) (now (chain .entry)) (now (numbers .entry)) (now (heldkey .entry)) (now (waiting .entry)) (now (sets .entry)) (now (arrivals .entry))) ≡ wordCall (state (now (config .entry)) (now (clocks .entry)) (now (words .entry)) (now (stamps .entry)) (now (blocks .entry)) (now (headers .entry)) (now (present .entry)) (now (since .entry)) (now (pubkeys .entry)) (now (offer .entry)) (now (chain .entry)) (now (numbers .entry)) (now (heldkey .entry)) (now (waiting .entry)) (now (sets .entry)) (now (arrivals .entry))) (record { prn = prn; time = time; bytes = now (bytes .entry) }) ⌝ }
+    ensures { λ r. ⌜ ((s : State) →
+        told r (wordLent s (now (config .entry)) (now (clocks .exit)) (now (words .exit)) (now (stamps .exit)))
+        ≡ wordCall (wordLent s (now (config .entry)) (now (clocks .entry)) (now (words .entry)) (now (stamps .entry)))
+        (record { prn = prn; time = time; bytes = now (bytes .entry) })) ⌝ }
 {
-    let shaped = regions::shaped(
-        config,
-        clocks,
-        words,
-        stamps,
-        blocks,
-        headers,
-        present,
-        since,
-        pubkeys,
-        offer,
-        chain,
-        numbers,
-        heldkey,
-        waiting,
-        sets,
-        arrivals,
-    );
+    let shaped = regions::word_shaped(config, clocks, words, stamps);
     if !(shaped & (bytes.len() == 16)) {
         return 1;
     }
     call_word::take_word(config, clocks, words, stamps, prn, time, bytes)
 }
 
-// Lends the authentication fields of a sub-frame, 15 of five bytes, with its GST_SF (01, sub-frame). The two halves' numbers go to `hkroot`
-// and `mack`; it returns how many tag records of 12 bytes now stand at the front of `area`. Every field came: its rule is the one of 01 alone.
+// Lends the authentication fields of a sub-frame, 15 of five bytes, with its GST_SF (01, sub-frame). `marks` say which of them came (02, P3), field 0
+// in the first of sixteen bits; the last bit is not read, nor is what is lent for a field that did not come. The two halves' numbers go to `hkroot`
+// and `mack`; it returns how many tag records of 12 bytes now stand at the front of `area`.
 #[no_mangle]
 pub extern "C" fn osnma_regions_subframe(
-    config: &mut [u8],
-    clocks: &mut [u32],
-    words: &[u8],
-    stamps: &[u32],
-    blocks: &mut [u8],
-    headers: &mut [u8],
-    present: &mut [u16],
-    since: &mut [u32],
-    pubkeys: &mut [u8],
-    offer: &mut [u8],
-    chain: &[u8],
-    numbers: &mut [u64],
-    heldkey: &mut [u8],
-    waiting: &mut [u8],
-    sets: &mut [u8],
-    arrivals: &mut [u32],
-    area: &mut [u8],
-    prn: u8,
-    time: u32,
-    bytes: &[u8],
-    hkroot: &mut u32,
-    mack: &mut u32,
-) -> u32
-    ensures { λ r. ⌜ subframeTold (now (hkroot .exit)) (now (mack .exit)) r (state (now (config .exit)) (now (clocks .exit)) (now (words .entry)) (now (stamps .entry)) (now (blocks .exit)) (now (headers .exit)) (now (present .exit)) (now (since .exit)) (now (pubkeys .exit)) (now (offer .exit)) (now (chain .entry)) (now (numbers .exit)) (now (heldkey .exit)) (now (waiting .exit)) (now (sets .exit)) (now (arrivals .exit))) (now (area .exit)) ≡ wholeSubframe (state (now (config .entry)) (now (clocks .entry)) (now (words .entry)) (now (stamps .entry)) (now (blocks .entry)) (now (headers .entry)) (now (present .entry)) (now (since .entry)) (now (pubkeys .entry)) (now (offer .entry)) (now (chain .entry)) (now (numbers .entry)) (now (heldkey .entry)) (now (waiting .entry)) (now (sets .entry)) (now (arrivals .entry))) (now (area .entry)) (subframe prn time 65535 (now (bytes .entry))) ⌝ }
-{
-    osnma_regions_subframe_marked(
-        config,
-        clocks,
-        words,
-        stamps,
-        blocks,
-        headers,
-        present,
-        since,
-        pubkeys,
-        offer,
-        chain,
-        numbers,
-        heldkey,
-        waiting,
-        sets,
-        arrivals,
-        area,
-        prn,
-        time,
-        65535,
-        bytes,
-        hkroot,
-        mack,
-    )
-}
-
-// The same where fields may be missing (02, P3): `marks` say which came, field 0 in the first of sixteen bits; the last bit is not read, nor is what is
-// lent for a field that did not come.
-#[no_mangle]
-pub extern "C" fn osnma_regions_subframe_marked(
     config: &mut [u8],
     clocks: &mut [u32],
     words: &[u8],
@@ -226,7 +163,18 @@ pub extern "C" fn osnma_regions_subframe_marked(
     hkroot: &mut u32,
     mack: &mut u32,
 ) -> u32
-    ensures { λ r. ⌜ subframeTold (now (hkroot .exit)) (now (mack .exit)) r (state (now (config .exit)) (now (clocks .exit)) (now (words .entry)) (now (stamps .entry)) (now (blocks .exit)) (now (headers .exit)) (now (present .exit)) (now (since .exit)) (now (pubkeys .exit)) (now (offer .exit)) (now (chain .entry)) (now (numbers .exit)) (now (heldkey .exit)) (now (waiting .exit)) (now (sets .exit)) (now (arrivals .exit))) (now (area .exit)) ≡ subframeCall (state (now (config .entry)) (now (clocks .entry)) (now (words .entry)) (now (stamps .entry)) (now (blocks .entry)) (now (headers .entry)) (now (present .entry)) (now (since .entry)) (now (pubkeys .entry)) (now (offer .entry)) (now (chain .entry)) (now (numbers .entry)) (now (heldkey .entry)) (now (waiting .entry)) (now (sets .entry)) (now (arrivals .entry))) (now (area .entry)) (subframe prn time marks (now (bytes .entry))) ⌝ }
+    ensures { λ r. ⌜ subframeTold (now (hkroot .exit)) (now (mack .exit)) r
+        (state (now (config .exit)) (now (clocks .exit)) (now (words .entry)) (now (stamps .entry))
+        (now (blocks .exit)) (now (headers .exit)) (now (present .exit)) (now (since .exit))
+        (now (pubkeys .exit)) (now (offer .exit)) (now (chain .entry)) (now (numbers .exit))
+        (now (heldkey .exit)) (now (waiting .exit)) (now (sets .exit)) (now (arrivals .exit)))
+        (now (area .exit))
+        ≡ subframeCall
+        (state (now (config .entry)) (now (clocks .entry)) (now (words .entry)) (now (stamps .entry))
+        (now (blocks .entry)) (now (headers .entry)) (now (present .entry)) (now (since .entry))
+        (now (pubkeys .entry)) (now (offer .entry)) (now (chain .entry)) (now (numbers .entry))
+        (now (heldkey .entry)) (now (waiting .entry)) (now (sets .entry)) (now (arrivals .entry)))
+        (now (area .entry)) (subframe prn time marks (now (bytes .entry))) ⌝ }
 {
     let lent = bools::both(area.len() == regions::AREA_LENGTH, bytes.len() == 75);
     let shaped = regions::shaped(
@@ -284,46 +232,25 @@ pub extern "C" fn osnma_regions_subframe_marked(
 #[no_mangle]
 pub extern "C" fn osnma_regions_verdict(
     config: &[u8],
-    clocks: &[u32],
-    words: &[u8],
-    stamps: &[u32],
-    blocks: &[u8],
-    headers: &[u8],
-    present: &[u16],
-    since: &[u32],
     pubkeys: &mut [u8],
     offer: &mut [u8],
     chain: &mut [u8],
     numbers: &mut [u64],
     heldkey: &mut [u8],
     waiting: &mut [u8],
-    sets: &[u8],
-    arrivals: &[u32],
     good: u8,
     id: u8,
     message: &[u8],
     signature: &[u8],
 ) -> u32
-    ensures { λ r. ⌜ told r (state (now (config .entry)) (now (clocks .entry)) (now (words .entry)) (now (stamps .entry)) (now (blocks .entry)) (now (headers .entry)) (now (present .entry)) (now (since .entry)) (now (pubkeys .exit)) (now (offer .exit)) (now (chain .exit)) (now (numbers .exit)) (now (heldkey .exit)) (now (waiting .exit)) (now (sets .entry)) (now (arrivals .entry))) ≡ verdictCall (state (now (config .entry)) (now (clocks .entry)) (now (words .entry)) (now (stamps .entry)) (now (blocks .entry)) (now (headers .entry)) (now (present .entry)) (now (since .entry)) (now (pubkeys .entry)) (now (offer .entry)) (now (chain .entry)) (now (numbers .entry)) (now (heldkey .entry)) (now (waiting .entry)) (now (sets .entry)) (now (arrivals .entry))) (record { good = good; id = id; message = now (message .entry); signature = now (signature .entry) }) ⌝ }
+    ensures { λ r. ⌜ ((s : State) →
+        told r (verdictLent s (now (config .entry)) (now (pubkeys .exit)) (now (offer .exit)) (now (chain .exit))
+        (now (numbers .exit)) (now (heldkey .exit)) (now (waiting .exit)))
+        ≡ verdictCall (verdictLent s (now (config .entry)) (now (pubkeys .entry)) (now (offer .entry)) (now (chain .entry))
+        (now (numbers .entry)) (now (heldkey .entry)) (now (waiting .entry)))
+        (record { good = good; id = id; message = now (message .entry); signature = now (signature .entry) })) ⌝ }
 {
-    let shaped = regions::shaped(
-        config,
-        clocks,
-        words,
-        stamps,
-        blocks,
-        headers,
-        present,
-        since,
-        pubkeys,
-        offer,
-        chain,
-        numbers,
-        heldkey,
-        waiting,
-        sets,
-        arrivals,
-    );
+    let shaped = regions::verdict_shaped(config, pubkeys, offer, chain, numbers, heldkey, waiting);
     if !(shaped & ((message.len() == 45) & (signature.len() == 132))) {
         return 1;
     }
@@ -345,20 +272,6 @@ pub extern "C" fn osnma_regions_verdict(
 // Reads a satellite's authentic set, its IODnav and the GST_SF of its tag (01, read).
 #[no_mangle]
 pub extern "C" fn osnma_regions_read_set(
-    config: &[u8],
-    clocks: &[u32],
-    words: &[u8],
-    stamps: &[u32],
-    blocks: &[u8],
-    headers: &[u8],
-    present: &[u16],
-    since: &[u32],
-    pubkeys: &[u8],
-    offer: &[u8],
-    chain: &[u8],
-    numbers: &[u64],
-    heldkey: &[u8],
-    waiting: &[u8],
     sets: &[u8],
     arrivals: &[u32],
     prn: u8,
@@ -366,28 +279,13 @@ pub extern "C" fn osnma_regions_read_set(
     issue: &mut u16,
     time: &mut u32,
 ) -> u32
-    ensures { λ r. ⌜ setTold r (now (out .exit)) (now (issue .exit)) (now (time .exit)) ≡ setRead (state (now (config .entry)) (now (clocks .entry)) (now (words .entry)) (now (stamps .entry)) (now (blocks .entry)) (now (headers .entry)) (now (present .entry)) (now (since .entry)) (now (pubkeys .entry)) (now (offer .entry)) (now (chain .entry)) (now (numbers .entry)) (now (heldkey .entry)) (now (waiting .entry)) (now (sets .entry)) (now (arrivals .entry))) prn (now (out .entry)) ⌝ }
+    ensures { λ r. ⌜ ((s : State) →
+        setTold r (now (out .exit)) (now (issue .exit)) (now (time .exit))
+        ≡ setRead (setLent s (now (sets .entry)) (now (arrivals .entry))) prn (now (out .entry))) ⌝ }
 {
     *issue = 0;
     *time = 0;
-    let shaped = regions::shaped(
-        config,
-        clocks,
-        words,
-        stamps,
-        blocks,
-        headers,
-        present,
-        since,
-        pubkeys,
-        offer,
-        chain,
-        numbers,
-        heldkey,
-        waiting,
-        sets,
-        arrivals,
-    );
+    let shaped = regions::set_shaped(sets, arrivals);
     if !(shaped & (out.len() == 69)) {
         return 1;
     }
@@ -397,50 +295,21 @@ pub extern "C" fn osnma_regions_read_set(
 // Reads the message that waits for a verdict, with its key (01, read).
 #[no_mangle]
 pub extern "C" fn osnma_regions_read_message(
-    config: &[u8],
-    clocks: &[u32],
-    words: &[u8],
-    stamps: &[u32],
-    blocks: &[u8],
-    headers: &[u8],
-    present: &[u16],
-    since: &[u32],
     pubkeys: &[u8],
     offer: &[u8],
-    chain: &[u8],
-    numbers: &[u64],
-    heldkey: &[u8],
-    waiting: &[u8],
-    sets: &[u8],
-    arrivals: &[u32],
     message: &mut [u8],
     signature: &mut [u8],
     pubkey: &mut [u8],
     id: &mut u8,
     kind: &mut u8,
 ) -> u32
-    ensures { λ r. ⌜ offerTold r (now (message .exit)) (now (signature .exit)) (now (pubkey .exit)) (now (id .exit)) (now (kind .exit)) ≡ offerRead (state (now (config .entry)) (now (clocks .entry)) (now (words .entry)) (now (stamps .entry)) (now (blocks .entry)) (now (headers .entry)) (now (present .entry)) (now (since .entry)) (now (pubkeys .entry)) (now (offer .entry)) (now (chain .entry)) (now (numbers .entry)) (now (heldkey .entry)) (now (waiting .entry)) (now (sets .entry)) (now (arrivals .entry))) (now (message .entry)) (now (signature .entry)) (now (pubkey .entry)) ⌝ }
+    ensures { λ r. ⌜ ((s : State) →
+        offerTold r (now (message .exit)) (now (signature .exit)) (now (pubkey .exit)) (now (id .exit)) (now (kind .exit))
+        ≡ offerRead (offerLent s (now (pubkeys .entry)) (now (offer .entry))) (now (message .entry)) (now (signature .entry)) (now (pubkey .entry))) ⌝ }
 {
     *id = 0;
     *kind = 0;
-    let shaped = regions::shaped(
-        config,
-        clocks,
-        words,
-        stamps,
-        blocks,
-        headers,
-        present,
-        since,
-        pubkeys,
-        offer,
-        chain,
-        numbers,
-        heldkey,
-        waiting,
-        sets,
-        arrivals,
-    );
+    let shaped = regions::offer_shaped(pubkeys, offer);
     if !(shaped & ((message.len() == 45) & ((signature.len() == 132) & (pubkey.len() == 67)))) {
         return 1;
     }

@@ -1,14 +1,13 @@
--- Laws that the checks of the calls share: ranges as tests, and joined tests. Assumes nothing.
-use mathlib.Core.Path.{_≡_, refl, ap, sym, _∙_}
-use mathlib.Core.Bool.{Bool, true, false, _&&_}
-use mathlib.Core.List.{List, [], _∷_}
+-- Laws that the checks of the calls share: ranges as tests. Assumes nothing.
+use mathlib.Core.Path.{_≡_, refl, sym, _∙_}
+use mathlib.Core.Bool.{Bool, true, false}
+use mathlib.Core.List.{List}
 use Prim.Native.Nat.{ℕ, _+_, _-_, _%_, _^_, _≤_, _<_}
 use lib.Dec.{leb, ltb}
 use lib.ListN.{getD}
 use borrow.Author.Tests.{lt-ltb, le-ltb, le-leb, lt-leb, leb-true, ltb-true, ltb-false}
 use native.Mathlib.Omega.{arith}
-use Rattle.laws.proofs.Tests.{and-left, and-true}
-use Rattle.rules.specs.Bits.{allOf}
+use Rattle.laws.proofs.Tests.{and-left}
 use Rattle.rules.specs.State.{nsOf, prnValid, heldSlot, waitingCount}
 use Rattle.rules.specs.Times.{timeValid, secondOf, stampOf}
 
@@ -84,17 +83,3 @@ reached-stamp t n = by-test (ltb t n) refl
     by-test : (b : Bool) → ltb t n ≡ b → ltb t n ≡ leb (t + 1) n
     by-test true e = e ∙ sym (le-leb (t + 1) n (omega (arith, ltb-true t n e)))
     by-test false e = e ∙ sym (lt-leb (t + 1) n (omega (arith, ltb-false t n e)))
-
--- ---- sixteen tests in groups of four
-
-four-and : (a b c d r : Bool) → ((a && (b && (c && d))) && r) ≡ (a && (b && (c && (d && r))))
-four-and true true true d r = refl
-four-and true true false d r = refl
-four-and true false c d r = refl
-four-and false b c d r = refl
-
-pub joined : (a b c d e f g h i j k l m n o p : Bool) → ((a && (b && (c && d))) && ((e && (f && (g && h))) && ((i && (j && (k && l))) && (m && (n && (o && p)))))) ≡ allOf (a ∷ b ∷ c ∷ d ∷ e ∷ f ∷ g ∷ h ∷ i ∷ j ∷ k ∷ l ∷ m ∷ n ∷ o ∷ p ∷ [])
-joined a b c d e f g h i j k l m n o p =
-    four-and a b c d _
-    ∙ ap (λ (x : Bool). a && (b && (c && (d && x))))
-    (four-and e f g h _ ∙ ap (λ (x : Bool). e && (f && (g && (h && x)))) (four-and i j k l _ ∙ ap (λ (x : Bool). i && (j && (k && (l && (m && (n && (o && x))))))) (sym (and-true p))))

@@ -1,6 +1,6 @@
-// Accessors over the memory that the caller lends: sixteen regions (rules, State.antt), lent to every call; nobody else writes them. Offsets and
-// lengths of the regions that several calls share stand here alone. Each function gives what the definition of its name in State.antt gives.
-//   shaped                                       every region has its length (01, row 1)
+// Accessors over the memory that the caller lends: sixteen regions (rules, State.antt), of which a call is lent what it touches; nobody else writes
+// them. Their lengths stand here alone. Each function gives what the definition of its name in State.antt gives.
+//   shaped, word_shaped, verdict_shaped, set_shaped, offer_shaped    what a call is lent has its lengths (01, row 1)
 //   ns_of, maclt_of, stopped, stop               the settings
 //   prn_valid                                    a PRN that is heard
 //   last_subframe, last_subframe_of, last_word_of    the clocks, as stamps: a time plus 1, 0 for never
@@ -12,7 +12,7 @@ ghost use mathlib.Core.Bool.{true, _&&_};
 ghost use Prim.Native.Nat.{_+_, _≤_, _<_};
 ghost use lib.Dec.{leb, ltb};
 ghost use lib.ListN.{length, set};
-ghost use Rattle.rules.specs.State.{state, configLength, clocksLength, numbersLength, stoppedAt};
+ghost use Rattle.rules.specs.State.{State, state, wordLent, verdictLent, setLent, offerLent, configLength, clocksLength, numbersLength, stoppedAt};
 ghost use Rattle.rules.specs.State as S;
 ghost use Rattle.rules.specs.Times.{stampOf};
 
@@ -74,7 +74,10 @@ pub fn shaped(
     sets: &[u8],
     arrivals: &[u32],
 ) -> bool
-    ensures { λ r. ⌜ r ≡ S.shaped (state (now (config .entry)) (now (clocks .entry)) (now (words .entry)) (now (stamps .entry)) (now (blocks .entry)) (now (headers .entry)) (now (present .entry)) (now (since .entry)) (now (pubkeys .entry)) (now (offer .entry)) (now (chain .entry)) (now (numbers .entry)) (now (heldkey .entry)) (now (waiting .entry)) (now (sets .entry)) (now (arrivals .entry))) ⌝ }
+    ensures { λ r. ⌜ r ≡ S.shaped (state (now (config .entry)) (now (clocks .entry)) (now (words .entry)) (now (stamps .entry))
+        (now (blocks .entry)) (now (headers .entry)) (now (present .entry)) (now (since .entry))
+        (now (pubkeys .entry)) (now (offer .entry)) (now (chain .entry)) (now (numbers .entry))
+        (now (heldkey .entry)) (now (waiting .entry)) (now (sets .entry)) (now (arrivals .entry))) ⌝ }
 {
     let last = four(
         heldkey.len() == HELDKEY_LENGTH,
@@ -82,25 +85,85 @@ pub fn shaped(
         sets.len() == SETS_LENGTH,
         arrivals.len() == ARRIVALS_LENGTH,
     );
-    let third = four(
-        pubkeys.len() == PUBKEYS_LENGTH,
+    let trust = four(
         offer.len() == OFFER_LENGTH,
         chain.len() == CHAIN_LENGTH,
         numbers.len() == NUMBERS_LENGTH,
+        last,
     );
-    let second = four(
-        blocks.len() == BLOCKS_LENGTH,
-        headers.len() == DSM_IDS,
+    let keys = four(
         present.len() == DSM_IDS,
         since.len() == DSM_IDS,
+        pubkeys.len() == PUBKEYS_LENGTH,
+        trust,
     );
-    let first = four(
+    let store = four(
+        stamps.len() == STAMPS_LENGTH,
+        blocks.len() == BLOCKS_LENGTH,
+        headers.len() == DSM_IDS,
+        keys,
+    );
+    four(
+        config.len() == CONFIG_LENGTH,
+        clocks.len() == CLOCKS_LENGTH,
+        words.len() == WORDS_LENGTH,
+        store,
+    )
+}
+
+// What a word is lent has its lengths, whatever the other regions of the state hold.
+pub fn word_shaped(config: &[u8], clocks: &[u32], words: &[u8], stamps: &[u32]) -> bool
+    ensures { λ r. ⌜ ((s : State) →
+        r ≡ S.wordShaped (wordLent s (now (config .entry)) (now (clocks .entry)) (now (words .entry)) (now (stamps .entry)))) ⌝ }
+{
+    four(
         config.len() == CONFIG_LENGTH,
         clocks.len() == CLOCKS_LENGTH,
         words.len() == WORDS_LENGTH,
         stamps.len() == STAMPS_LENGTH,
+    )
+}
+
+// What a verdict is lent has its lengths.
+pub fn verdict_shaped(
+    config: &[u8],
+    pubkeys: &[u8],
+    offer: &[u8],
+    chain: &[u8],
+    numbers: &[u64],
+    heldkey: &[u8],
+    waiting: &[u8],
+) -> bool
+    ensures { λ r. ⌜ ((s : State) →
+        r ≡ S.verdictShaped (verdictLent s (now (config .entry)) (now (pubkeys .entry)) (now (offer .entry)) (now (chain .entry))
+        (now (numbers .entry)) (now (heldkey .entry)) (now (waiting .entry)))) ⌝ }
+{
+    let tesla = four(
+        chain.len() == CHAIN_LENGTH,
+        numbers.len() == NUMBERS_LENGTH,
+        heldkey.len() == HELDKEY_LENGTH,
+        waiting.len() == WAITING_LENGTH,
     );
-    four(first, second, third, last)
+    four(
+        config.len() == CONFIG_LENGTH,
+        pubkeys.len() == PUBKEYS_LENGTH,
+        offer.len() == OFFER_LENGTH,
+        tesla,
+    )
+}
+
+// What a read of a set is lent has its lengths.
+pub fn set_shaped(sets: &[u8], arrivals: &[u32]) -> bool
+    ensures { λ r. ⌜ ((s : State) → r ≡ S.setShaped (setLent s (now (sets .entry)) (now (arrivals .entry)))) ⌝ }
+{
+    bools::both(sets.len() == SETS_LENGTH, arrivals.len() == ARRIVALS_LENGTH)
+}
+
+// What a read of the waiting message is lent has its lengths.
+pub fn offer_shaped(pubkeys: &[u8], offer: &[u8]) -> bool
+    ensures { λ r. ⌜ ((s : State) → r ≡ S.offerShaped (offerLent s (now (pubkeys .entry)) (now (offer .entry)))) ⌝ }
+{
+    bools::both(pubkeys.len() == PUBKEYS_LENGTH, offer.len() == OFFER_LENGTH)
 }
 
 fn four(a: bool, b: bool, c: bool, d: bool) -> bool

@@ -6,10 +6,10 @@ use lib.ListN.{length}
 use borrow.Author.Needs.{needs}
 use Rattle.laws.specs.Refusal.{firstOf}
 use Rattle.rules.specs.Calls as S
-use Rattle.rules.specs.State.{State, state}
-use Rattle.rules.proofs.Lengths.{Sized}
+use Rattle.rules.specs.State.{State, state, shaped}
+use Rattle.rules.proofs.Lengths.{Sized, sized}
 use Rattle.osnma.proofs.Lengths.{long-three}
-use Rattle.osnma.proofs.Started.{refused, accepted, all-written}
+use Rattle.call_start.proofs.Started.{refused, accepted, all-written}
 use Rattle.osnma.proofs.osnma_regions_start.Statement.{statement}
 use Rattle.osnma.proofs.osnma_regions_start.Tie as tie
 
@@ -37,8 +37,8 @@ number-is c =
 long : (c : tie.Else1) → let g = start (c .before .before) in Sized (whole g) × ((length (now (g .args .marks)) ≡ 28) × ((length (now (g .args .root)) ≡ 32) × (length (now (g .args .pubkey)) ≡ 67)))
 long c =
     let g = start (c .before .before) in
-    long-three (whole g) (now (g .args .marks)) (now (g .args .root)) (now (g .args .pubkey)) 28 32 67
-    (rw (← (c .before .before .shaped .ensures)) (c .before .start-refusal .ensures .1 (c .if1 .left) .0))
+    let l = long-three (shaped (whole g)) (now (g .args .marks)) (now (g .args .root)) (now (g .args .pubkey)) 28 32 67 (rw (← (c .before .before .shaped .ensures)) (c .before .start-refusal .ensures .1 (c .if1 .left) .0)) in
+    (sized (whole g) (l .0), l .1)
 
 returns : tie.Need-returns
 returns c =
@@ -48,7 +48,7 @@ returns c =
 start-refusal-requires : tie.Need-start-refusal-requires
 start-refusal-requires c κs =
     let g = start c in
-    λ e. (long-three (whole g) (now (g .args .marks)) (now (g .args .root)) (now (g .args .pubkey)) 28 32 67 (rw (← (c .shaped .ensures)) e)) .1 .0
+    λ e. (long-three (shaped (whole g)) (now (g .args .marks)) (now (g .args .root)) (now (g .args .pubkey)) 28 32 67 (rw (← (c .shaped .ensures)) e)) .1 .0
 
 install-settings-requires : tie.Need-install-settings-requires
 install-settings-requires c κs =

@@ -7,8 +7,10 @@ use lib.Dec.{eqb}
 use lib.ListN.{length}
 use borrow.Author.Needs.{needs}
 use borrow.Author.Tests.{not-true, not-false}
-use Rattle.rules.specs.State.{State, state, shaped}
 use Rattle.rules.specs.Calls.{Word}
+use Rattle.rules.specs.Replay.{blankCore}
+use Rattle.rules.specs.State.{State, wordLent, wordShaped}
+use Rattle.rules.proofs.Lengths.{word-sized}
 use Rattle.osnma.proofs.Lengths.{long-one, word-misfit}
 use Rattle.osnma.proofs.osnma_regions_word.Statement.{statement}
 use Rattle.osnma.proofs.osnma_regions_word.Tie as tie
@@ -17,41 +19,39 @@ use Rattle.osnma.proofs.osnma_regions_word.Tie as tie
 abbrev word : tie.Start → Word
 word c = record { prn = c .args .prn; time = c .args .time; bytes = now (c .args .bytes) }
 
--- the state of the sixteen lent regions
-abbrev whole : tie.Start → State
-whole c =
-    state (now (c .args .config)) (now (c .args .clocks)) (now (c .args .words)) (now (c .args .stamps)) (now (c .args .blocks)) (now (c .args .headers)) (now (c .args .present)) (now (c .args .since)) (now (c .args .pubkeys)) (now (c .args .offer)) (now (c .args .chain)) (now (c .args .numbers)) (now (c .args .heldkey)) (now (c .args .waiting)) (now (c .args .sets)) (now (c .args .arrivals))
+-- the state with the lent regions
+abbrev lent : tie.Start → State → State
+lent c s = wordLent s (now (c .args .config)) (now (c .args .clocks)) (now (c .args .words)) (now (c .args .stamps))
 
-abbrev start : tie.After-shaped → tie.Start
-start c = c .before .before .before .before .before .before .before .before .before .before .before .before .before .before .before .before .before .before .before .before .before
+abbrev start : tie.After-word-shaped → tie.Start
+start c = c .before .before .before .before .before .before .before .before .before
 
-shaped-is : (c : tie.After-shaped) → shaped (whole (start c)) ≡ c .shaped .result
-shaped-is c = sym (c .shaped .ensures)
+shaped-is : (c : tie.After-word-shaped) (s : State) → wordShaped (lent (start c) s) ≡ c .word-shaped .result
+shaped-is c s = sym (c .word-shaped .ensures s)
 
 -- every lent length is right
-fits : (c : tie.Else1) → let g = start (c .before) in (shaped (whole g) && eqb (length (now (g .args .bytes))) 16) ≡ true
-fits c = rw (shaped-is (c .before)) (not-false _ (c .if1 .left))
+fits : (c : tie.Else1) (s : State) → let g = start (c .before) in (wordShaped (lent g s) && eqb (length (now (g .args .bytes))) 16) ≡ true
+fits c s = rw (shaped-is (c .before) s) (not-false _ (c .if1 .left))
 
 returns : tie.Need-returns
 returns c =
     let g = start (c .before) in
-    word-misfit (whole g) (word g) (rw (shaped-is (c .before)) (not-true _ (c .if1 .taken)))
+    λ s. word-misfit (lent g s) (word g) (rw (shaped-is (c .before) s) (not-true _ (c .if1 .taken)))
 
 take-word-requires : tie.Need-take-word-requires
 take-word-requires c κs =
     let i = c .before .before .before in
     let g = start (i .before) in
-    let l = long-one (whole g) (now (g .args .bytes)) 16 (fits i) in
-    ((l .0 .config, l .0 .clocks), (l .0 .words, (l .0 .stamps, l .1)))
+    let s = lent g blankCore in
+    let l = long-one (wordShaped s) (now (g .args .bytes)) 16 (fits i blankCore) in
+    let z = word-sized s (l .0) in
+    ((z .config, z .clocks), (z .words, (z .stamps, l .1)))
 
 abbrev taken : tie.After-slice-known6 → tie.After-take-word
 taken c = c .before .before .before .before .before .before
 
 returns-2 : tie.Need-returns-2
-returns-2 c =
-    let t = taken c in
-    let i = t .before .before .before .before in
-    t .take-word .ensures (whole (start (i .before))) refl refl refl (fits i)
+returns-2 c = (taken c) .take-word .ensures
 
 pub osnma-regions-word-spec : {M : Type 1} → statement M
 osnma-regions-word-spec =
