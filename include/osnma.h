@@ -412,8 +412,9 @@ static inline enum osnma_answer osnma_read_message(const struct osnma_core *core
 
 /*
  * What the library exports, and what the calls above use. Nobody else needs them but a caller who
- * keeps the regions apart, as bindings for other languages do. A region is a pointer and a count of
- * elements, in the order of struct osnma_core; those that are not const are written. Each returns its
+ * keeps the regions apart, as bindings for other languages do. A call is lent the regions that it reads
+ * or writes, in the order of struct osnma_core, each a pointer and a count of elements; those that are
+ * not const are written, and the other regions have no part in the call. Each returns its
  * answer, but for a sub-frame, which returns the count of records and writes the numbers of both
  * halves. Where a count is wrong the answer is OSNMA_WRONG_LENGTH, in both halves, and all that is
  * lent stays, but for IODnav and time, or key ID and key type, of a read, which are 0. The duties are
@@ -447,44 +448,10 @@ uint32_t osnma_regions_word(
     uint32_t *clocks, size_t clocks_count,
     uint8_t *words, size_t words_count,
     uint32_t *stamps, size_t stamps_count,
-    const uint8_t *blocks, size_t blocks_count,
-    const uint8_t *headers, size_t headers_count,
-    const uint16_t *present, size_t present_count,
-    const uint32_t *since, size_t since_count,
-    const uint8_t *pubkeys, size_t pubkeys_count,
-    const uint8_t *offer, size_t offer_count,
-    const uint8_t *chain, size_t chain_count,
-    const uint64_t *numbers, size_t numbers_count,
-    const uint8_t *heldkey, size_t heldkey_count,
-    const uint8_t *waiting, size_t waiting_count,
-    const uint8_t *sets, size_t sets_count,
-    const uint32_t *arrivals, size_t arrivals_count,
     uint8_t prn, uint32_t time,
     const uint8_t *bytes, size_t bytes_count);
 
 uint32_t osnma_regions_subframe(
-    uint8_t *config, size_t config_count,
-    uint32_t *clocks, size_t clocks_count,
-    const uint8_t *words, size_t words_count,
-    const uint32_t *stamps, size_t stamps_count,
-    uint8_t *blocks, size_t blocks_count,
-    uint8_t *headers, size_t headers_count,
-    uint16_t *present, size_t present_count,
-    uint32_t *since, size_t since_count,
-    uint8_t *pubkeys, size_t pubkeys_count,
-    uint8_t *offer, size_t offer_count,
-    const uint8_t *chain, size_t chain_count,
-    uint64_t *numbers, size_t numbers_count,
-    uint8_t *heldkey, size_t heldkey_count,
-    uint8_t *waiting, size_t waiting_count,
-    uint8_t *sets, size_t sets_count,
-    uint32_t *arrivals, size_t arrivals_count,
-    uint8_t *area, size_t area_count,
-    uint8_t prn, uint32_t time,
-    const uint8_t *bytes, size_t bytes_count,
-    uint32_t *hkroot, uint32_t *mack);
-
-uint32_t osnma_regions_subframe_marked(
     uint8_t *config, size_t config_count,
     uint32_t *clocks, size_t clocks_count,
     const uint8_t *words, size_t words_count,
@@ -508,40 +475,17 @@ uint32_t osnma_regions_subframe_marked(
 
 uint32_t osnma_regions_verdict(
     const uint8_t *config, size_t config_count,
-    const uint32_t *clocks, size_t clocks_count,
-    const uint8_t *words, size_t words_count,
-    const uint32_t *stamps, size_t stamps_count,
-    const uint8_t *blocks, size_t blocks_count,
-    const uint8_t *headers, size_t headers_count,
-    const uint16_t *present, size_t present_count,
-    const uint32_t *since, size_t since_count,
     uint8_t *pubkeys, size_t pubkeys_count,
     uint8_t *offer, size_t offer_count,
     uint8_t *chain, size_t chain_count,
     uint64_t *numbers, size_t numbers_count,
     uint8_t *heldkey, size_t heldkey_count,
     uint8_t *waiting, size_t waiting_count,
-    const uint8_t *sets, size_t sets_count,
-    const uint32_t *arrivals, size_t arrivals_count,
     uint8_t good, uint8_t id,
     const uint8_t *message, size_t message_count,
     const uint8_t *signature, size_t signature_count);
 
 uint32_t osnma_regions_read_set(
-    const uint8_t *config, size_t config_count,
-    const uint32_t *clocks, size_t clocks_count,
-    const uint8_t *words, size_t words_count,
-    const uint32_t *stamps, size_t stamps_count,
-    const uint8_t *blocks, size_t blocks_count,
-    const uint8_t *headers, size_t headers_count,
-    const uint16_t *present, size_t present_count,
-    const uint32_t *since, size_t since_count,
-    const uint8_t *pubkeys, size_t pubkeys_count,
-    const uint8_t *offer, size_t offer_count,
-    const uint8_t *chain, size_t chain_count,
-    const uint64_t *numbers, size_t numbers_count,
-    const uint8_t *heldkey, size_t heldkey_count,
-    const uint8_t *waiting, size_t waiting_count,
     const uint8_t *sets, size_t sets_count,
     const uint32_t *arrivals, size_t arrivals_count,
     uint8_t prn,
@@ -549,22 +493,8 @@ uint32_t osnma_regions_read_set(
     uint16_t *issue, uint32_t *time);
 
 uint32_t osnma_regions_read_message(
-    const uint8_t *config, size_t config_count,
-    const uint32_t *clocks, size_t clocks_count,
-    const uint8_t *words, size_t words_count,
-    const uint32_t *stamps, size_t stamps_count,
-    const uint8_t *blocks, size_t blocks_count,
-    const uint8_t *headers, size_t headers_count,
-    const uint16_t *present, size_t present_count,
-    const uint32_t *since, size_t since_count,
     const uint8_t *pubkeys, size_t pubkeys_count,
     const uint8_t *offer, size_t offer_count,
-    const uint8_t *chain, size_t chain_count,
-    const uint64_t *numbers, size_t numbers_count,
-    const uint8_t *heldkey, size_t heldkey_count,
-    const uint8_t *waiting, size_t waiting_count,
-    const uint8_t *sets, size_t sets_count,
-    const uint32_t *arrivals, size_t arrivals_count,
     uint8_t *message, size_t message_count,
     uint8_t *signature, size_t signature_count,
     uint8_t *pubkey, size_t pubkey_count,
@@ -590,19 +520,6 @@ static inline enum osnma_answer osnma_start(struct osnma_core *core,
         settings->marks, OSNMA_MARKS, settings->tree_root, OSNMA_TREE_ROOT, settings->key, OSNMA_KEY);
 }
 
-static inline struct osnma_halves osnma_subframe(struct osnma_core *core, uint8_t prn, uint32_t time,
-                                                 const uint8_t fields[OSNMA_FIELDS],
-                                                 uint8_t records[OSNMA_RECORDS])
-{
-    struct osnma_halves answer;
-    uint32_t hkroot, mack;
-    answer.records = osnma_regions_subframe(OSNMA_REGIONS_OF(core), records, OSNMA_RECORDS, prn, time,
-                                            fields, OSNMA_FIELDS, &hkroot, &mack);
-    answer.hkroot = (enum osnma_answer)hkroot;
-    answer.mack = (enum osnma_answer)mack;
-    return answer;
-}
-
 static inline struct osnma_halves osnma_subframe_marked(struct osnma_core *core, uint8_t prn,
                                                         uint32_t time, uint16_t marks,
                                                         const uint8_t fields[OSNMA_FIELDS],
@@ -610,11 +527,18 @@ static inline struct osnma_halves osnma_subframe_marked(struct osnma_core *core,
 {
     struct osnma_halves answer;
     uint32_t hkroot, mack;
-    answer.records = osnma_regions_subframe_marked(OSNMA_REGIONS_OF(core), records, OSNMA_RECORDS, prn,
-                                                   time, marks, fields, OSNMA_FIELDS, &hkroot, &mack);
+    answer.records = osnma_regions_subframe(OSNMA_REGIONS_OF(core), records, OSNMA_RECORDS, prn, time,
+                                            marks, fields, OSNMA_FIELDS, &hkroot, &mack);
     answer.hkroot = (enum osnma_answer)hkroot;
     answer.mack = (enum osnma_answer)mack;
     return answer;
+}
+
+static inline struct osnma_halves osnma_subframe(struct osnma_core *core, uint8_t prn, uint32_t time,
+                                                 const uint8_t fields[OSNMA_FIELDS],
+                                                 uint8_t records[OSNMA_RECORDS])
+{
+    return osnma_subframe_marked(core, prn, time, OSNMA_ALL_RECEIVED, fields, records);
 }
 
 static inline struct osnma_tag_record osnma_record(const uint8_t records[OSNMA_RECORDS], uint32_t i)
@@ -636,22 +560,28 @@ static inline struct osnma_tag_record osnma_record(const uint8_t records[OSNMA_R
 static inline enum osnma_answer osnma_word(struct osnma_core *core, uint8_t prn, uint32_t time,
                                            const uint8_t word[OSNMA_WORD])
 {
-    return (enum osnma_answer)osnma_regions_word(OSNMA_REGIONS_OF(core), prn, time, word, OSNMA_WORD);
+    return (enum osnma_answer)osnma_regions_word(
+        core->config, OSNMA_CONFIG_COUNT, core->clocks, OSNMA_CLOCKS_COUNT, core->words,
+        OSNMA_WORDS_COUNT, core->stamps, OSNMA_STAMPS_COUNT, prn, time, word, OSNMA_WORD);
 }
 
 static inline enum osnma_answer osnma_verdict(struct osnma_core *core, uint8_t good, uint8_t key_id,
                                               const uint8_t message[OSNMA_MESSAGE],
                                               const uint8_t signature[OSNMA_SIGNATURE])
 {
-    return (enum osnma_answer)osnma_regions_verdict(OSNMA_REGIONS_OF(core), good, key_id, message,
-                                                    OSNMA_MESSAGE, signature, OSNMA_SIGNATURE);
+    return (enum osnma_answer)osnma_regions_verdict(
+        core->config, OSNMA_CONFIG_COUNT, core->pubkeys, OSNMA_PUBKEYS_COUNT, core->offer,
+        OSNMA_OFFER_COUNT, core->chain, OSNMA_CHAIN_COUNT, core->numbers, OSNMA_NUMBERS_COUNT,
+        core->heldkey, OSNMA_HELDKEY_COUNT, core->waiting, OSNMA_WAITING_COUNT, good, key_id, message,
+        OSNMA_MESSAGE, signature, OSNMA_SIGNATURE);
 }
 
 static inline enum osnma_answer osnma_read_set(const struct osnma_core *core, uint8_t prn,
                                                uint8_t set[OSNMA_SET], uint16_t *iodnav,
                                                uint32_t *time)
 {
-    return (enum osnma_answer)osnma_regions_read_set(OSNMA_REGIONS_OF(core), prn, set, OSNMA_SET,
+    return (enum osnma_answer)osnma_regions_read_set(core->sets, OSNMA_SETS_COUNT, core->arrivals,
+                                                     OSNMA_ARRIVALS_COUNT, prn, set, OSNMA_SET,
                                                      iodnav, time);
 }
 
@@ -659,7 +589,7 @@ static inline enum osnma_answer osnma_read_message(const struct osnma_core *core
                                                    struct osnma_message *message)
 {
     return (enum osnma_answer)osnma_regions_read_message(
-        OSNMA_REGIONS_OF(core), message->message, OSNMA_MESSAGE, message->signature, OSNMA_SIGNATURE,
+        core->pubkeys, OSNMA_PUBKEYS_COUNT, core->offer, OSNMA_OFFER_COUNT, message->message, OSNMA_MESSAGE, message->signature, OSNMA_SIGNATURE,
         message->key, OSNMA_KEY, &message->key_id, &message->key_type);
 }
 

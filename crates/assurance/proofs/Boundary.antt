@@ -1,6 +1,7 @@
 -- The contract of each exported call IS the rule: what a caller learns (`Learnt`, which the checker makes of the `ensures`) is the equation with the
 -- definition, in both directions, and a call asks nothing (`Asked`). A weaker `ensures` of the boundary makes this crate fail.
--- `args` are the parameters at entry, `last` those at exit: the sixteen regions in their order, then the call's own. Assumes nothing.
+-- `args` are the parameters at entry, `last` those at exit. A call that is lent some of the regions has the equation for every state that has them.
+-- Assumes nothing.
 use mathlib.Core.Path.{_≡_}
 use Prim.Native.Nat.{ℕ}
 use contract.Lifetimes.{Lfts}
@@ -11,31 +12,30 @@ use Rattle.regions.specs.Told.{told}
 use Rattle.call_subframe.specs.Told.{subframeTold, subframe}
 use Rattle.call_reads.specs.Reads.{setTold, offerTold}
 use Rattle.rules.specs.Calls.{startCall, wordCall, subframeCall, verdictCall, setRead, offerRead}
-use Rattle.rules.specs.State.{state}
-use Rattle.rules.specs.Whole.{wholeSubframe}
+use Rattle.rules.specs.State.{State, state, setLent, offerLent}
 use Rattle.osnma.proofs.osnma_regions_start.Reads as start-reads
 use Rattle.osnma.proofs.osnma_regions_start.Kinds as start-kinds
 use Rattle.osnma.proofs.osnma_regions_word.Reads as word-reads
 use Rattle.osnma.proofs.osnma_regions_word.Kinds as word-kinds
 use Rattle.osnma.proofs.osnma_regions_subframe.Reads as subframe-reads
 use Rattle.osnma.proofs.osnma_regions_subframe.Kinds as subframe-kinds
-use Rattle.osnma.proofs.osnma_regions_subframe_marked.Reads as marked-reads
-use Rattle.osnma.proofs.osnma_regions_subframe_marked.Kinds as marked-kinds
 use Rattle.osnma.proofs.osnma_regions_verdict.Reads as verdict-reads
 use Rattle.osnma.proofs.osnma_regions_verdict.Kinds as verdict-kinds
 use Rattle.osnma.proofs.osnma_regions_read_set.Reads as read-set-reads
 use Rattle.osnma.proofs.osnma_regions_read_set.Kinds as read-set-kinds
 use Rattle.osnma.proofs.osnma_regions_read_message.Reads as read-message-reads
 use Rattle.osnma.proofs.osnma_regions_read_message.Kinds as read-message-kinds
+use Rattle.assurance.specs.Run.{wordBefore, wordGiven, wordAfter, verdictBefore, verdictGiven, verdictAfter}
 
--- ---- start: told by its number and all sixteen regions at exit
+-- ---- start: its number, and all sixteen regions at exit
 
 pub start-asks-nothing : (κs : Lfts 19) (args : Dens κs start-kinds.ps) → start-reads.Asked κs args
 start-asks-nothing κs args = tt
 
 abbrev start-rule : (κs : Lfts 19) (args : Dens κs start-kinds.ps) (r : ℕ) (last : AtExit (endedOf 19 start-kinds.ps start-kinds.r) κs) → Type 0
 start-rule κs (config, (clocks, (words, (stamps, (blocks, (headers, (present, (since, (pubkeys, (offer, (chain, (numbers, (heldkey, (waiting, (sets, (arrivals, (ns, (id, (kind, (maclt, (marks, (root, (pubkey, _))))))))))))))))))))))) r (config′, (clocks′, (words′, (stamps′, (blocks′, (headers′, (present′, (since′, (pubkeys′, (offer′, (chain′, (numbers′, (heldkey′, (waiting′, (sets′, (arrivals′, (_, (_, (_, (_, (_, (_, (_, _))))))))))))))))))))))) =
-    told r (state (now config′) (now clocks′) (now words′) (now stamps′) (now blocks′) (now headers′) (now present′) (now since′) (now pubkeys′) (now offer′) (now chain′) (now numbers′) (now heldkey′) (now waiting′) (now sets′) (now arrivals′)) ≡ startCall (state (now config) (now clocks) (now words) (now stamps) (now blocks) (now headers) (now present) (now since) (now pubkeys) (now offer) (now chain) (now numbers) (now heldkey) (now waiting) (now sets) (now arrivals)) (record { ns = ns; id = id; type = kind; maclt = maclt; marks = now marks; root = now root; key = now pubkey })
+    told r (state (now config′) (now clocks′) (now words′) (now stamps′) (now blocks′) (now headers′) (now present′) (now since′) (now pubkeys′) (now offer′) (now chain′) (now numbers′) (now heldkey′) (now waiting′) (now sets′) (now arrivals′))
+    ≡ startCall (state (now config) (now clocks) (now words) (now stamps) (now blocks) (now headers) (now present) (now since) (now pubkeys) (now offer) (now chain) (now numbers) (now heldkey) (now waiting) (now sets) (now arrivals)) (record { ns = ns; id = id; type = kind; maclt = maclt; marks = now marks; root = now root; key = now pubkey })
 
 pub start-is : (κs : Lfts 19) (args : Dens κs start-kinds.ps) (r : ℕ) (last : AtExit (endedOf 19 start-kinds.ps start-kinds.r) κs) → start-reads.Learnt κs args r last → start-rule κs args r last
 start-is κs args r last d = d
@@ -43,30 +43,29 @@ start-is κs args r last d = d
 pub start-only : (κs : Lfts 19) (args : Dens κs start-kinds.ps) (r : ℕ) (last : AtExit (endedOf 19 start-kinds.ps start-kinds.r) κs) → start-rule κs args r last → start-reads.Learnt κs args r last
 start-only κs args r last d = d
 
--- ---- word: the clocks, words and stamps at exit; the other regions are lent to be read only
+-- ---- word: its number, and its clocks, words and stamps at exit
 
-pub word-asks-nothing : (κs : Lfts 17) (args : Dens κs word-kinds.ps) → word-reads.Asked κs args
+pub word-asks-nothing : (κs : Lfts 5) (args : Dens κs word-kinds.ps) → word-reads.Asked κs args
 word-asks-nothing κs args = tt
 
-abbrev word-rule : (κs : Lfts 17) (args : Dens κs word-kinds.ps) (r : ℕ) (last : AtExit (endedOf 17 word-kinds.ps word-kinds.r) κs) → Type 0
-word-rule κs (config, (clocks, (words, (stamps, (blocks, (headers, (present, (since, (pubkeys, (offer, (chain, (numbers, (heldkey, (waiting, (sets, (arrivals, (prn, (time, (bytes, _))))))))))))))))))) r (_, (clocks′, (words′, (stamps′, (_, (_, (_, (_, (_, (_, (_, (_, (_, (_, (_, (_, (_, (_, (_, _))))))))))))))))))) =
-    told r (state (now config) (now clocks′) (now words′) (now stamps′) (now blocks) (now headers) (now present) (now since) (now pubkeys) (now offer) (now chain) (now numbers) (now heldkey) (now waiting) (now sets) (now arrivals)) ≡ wordCall (state (now config) (now clocks) (now words) (now stamps) (now blocks) (now headers) (now present) (now since) (now pubkeys) (now offer) (now chain) (now numbers) (now heldkey) (now waiting) (now sets) (now arrivals)) (record { prn = prn; time = time; bytes = now bytes })
+abbrev word-rule : (κs : Lfts 5) (args : Dens κs word-kinds.ps) (r : ℕ) (last : AtExit (endedOf 5 word-kinds.ps word-kinds.r) κs) → Type 0
+word-rule κs args r last = (s : State) → told r (wordAfter κs args last s) ≡ wordCall (wordBefore κs args s) (wordGiven κs args)
 
-pub word-is : (κs : Lfts 17) (args : Dens κs word-kinds.ps) (r : ℕ) (last : AtExit (endedOf 17 word-kinds.ps word-kinds.r) κs) → word-reads.Learnt κs args r last → word-rule κs args r last
+pub word-is : (κs : Lfts 5) (args : Dens κs word-kinds.ps) (r : ℕ) (last : AtExit (endedOf 5 word-kinds.ps word-kinds.r) κs) → word-reads.Learnt κs args r last → word-rule κs args r last
 word-is κs args r last d = d
 
-pub word-only : (κs : Lfts 17) (args : Dens κs word-kinds.ps) (r : ℕ) (last : AtExit (endedOf 17 word-kinds.ps word-kinds.r) κs) → word-rule κs args r last → word-reads.Learnt κs args r last
+pub word-only : (κs : Lfts 5) (args : Dens κs word-kinds.ps) (r : ℕ) (last : AtExit (endedOf 5 word-kinds.ps word-kinds.r) κs) → word-rule κs args r last → word-reads.Learnt κs args r last
 word-only κs args r last d = d
 
--- ---- sub-frame of which every field came: both numbers, the count of tag records, the record area, and all regions but words, stamps and chain at
--- exit
+-- ---- sub-frame: both numbers, the count of tag records, the record area, and all regions but words, stamps and chain at exit
 
 pub subframe-asks-nothing : (κs : Lfts 20) (args : Dens κs subframe-kinds.ps) → subframe-reads.Asked κs args
 subframe-asks-nothing κs args = tt
 
 abbrev subframe-rule : (κs : Lfts 20) (args : Dens κs subframe-kinds.ps) (r : ℕ) (last : AtExit (endedOf 20 subframe-kinds.ps subframe-kinds.r) κs) → Type 0
-subframe-rule κs (config, (clocks, (words, (stamps, (blocks, (headers, (present, (since, (pubkeys, (offer, (chain, (numbers, (heldkey, (waiting, (sets, (arrivals, (area, (prn, (time, (bytes, (_, (_, _)))))))))))))))))))))) r (config′, (clocks′, (_, (_, (blocks′, (headers′, (present′, (since′, (pubkeys′, (offer′, (_, (numbers′, (heldkey′, (waiting′, (sets′, (arrivals′, (area′, (_, (_, (_, (hkroot′, (mack′, _)))))))))))))))))))))) =
-    subframeTold (now hkroot′) (now mack′) r (state (now config′) (now clocks′) (now words) (now stamps) (now blocks′) (now headers′) (now present′) (now since′) (now pubkeys′) (now offer′) (now chain) (now numbers′) (now heldkey′) (now waiting′) (now sets′) (now arrivals′)) (now area′) ≡ wholeSubframe (state (now config) (now clocks) (now words) (now stamps) (now blocks) (now headers) (now present) (now since) (now pubkeys) (now offer) (now chain) (now numbers) (now heldkey) (now waiting) (now sets) (now arrivals)) (now area) (subframe prn time 65535 (now bytes))
+subframe-rule κs (config, (clocks, (words, (stamps, (blocks, (headers, (present, (since, (pubkeys, (offer, (chain, (numbers, (heldkey, (waiting, (sets, (arrivals, (area, (prn, (time, (marks, (bytes, (_, (_, _))))))))))))))))))))))) r (config′, (clocks′, (_, (_, (blocks′, (headers′, (present′, (since′, (pubkeys′, (offer′, (_, (numbers′, (heldkey′, (waiting′, (sets′, (arrivals′, (area′, (_, (_, (_, (_, (hkroot′, (mack′, _))))))))))))))))))))))) =
+    subframeTold (now hkroot′) (now mack′) r (state (now config′) (now clocks′) (now words) (now stamps) (now blocks′) (now headers′) (now present′) (now since′) (now pubkeys′) (now offer′) (now chain) (now numbers′) (now heldkey′) (now waiting′) (now sets′) (now arrivals′)) (now area′)
+    ≡ subframeCall (state (now config) (now clocks) (now words) (now stamps) (now blocks) (now headers) (now present) (now since) (now pubkeys) (now offer) (now chain) (now numbers) (now heldkey) (now waiting) (now sets) (now arrivals)) (now area) (subframe prn time marks (now bytes))
 
 pub subframe-is : (κs : Lfts 20) (args : Dens κs subframe-kinds.ps) (r : ℕ) (last : AtExit (endedOf 20 subframe-kinds.ps subframe-kinds.r) κs) → subframe-reads.Learnt κs args r last → subframe-rule κs args r last
 subframe-is κs args r last d = d
@@ -74,62 +73,44 @@ subframe-is κs args r last d = d
 pub subframe-only : (κs : Lfts 20) (args : Dens κs subframe-kinds.ps) (r : ℕ) (last : AtExit (endedOf 20 subframe-kinds.ps subframe-kinds.r) κs) → subframe-rule κs args r last → subframe-reads.Learnt κs args r last
 subframe-only κs args r last d = d
 
--- ---- sub-frame with marks: the same
+-- ---- verdict: its number, and all of its regions but the settings at exit
 
-pub marked-asks-nothing : (κs : Lfts 20) (args : Dens κs marked-kinds.ps) → marked-reads.Asked κs args
-marked-asks-nothing κs args = tt
-
-abbrev marked-rule : (κs : Lfts 20) (args : Dens κs marked-kinds.ps) (r : ℕ) (last : AtExit (endedOf 20 marked-kinds.ps marked-kinds.r) κs) → Type 0
-marked-rule κs (config, (clocks, (words, (stamps, (blocks, (headers, (present, (since, (pubkeys, (offer, (chain, (numbers, (heldkey, (waiting, (sets, (arrivals, (area, (prn, (time, (marks, (bytes, (_, (_, _))))))))))))))))))))))) r (config′, (clocks′, (_, (_, (blocks′, (headers′, (present′, (since′, (pubkeys′, (offer′, (_, (numbers′, (heldkey′, (waiting′, (sets′, (arrivals′, (area′, (_, (_, (_, (_, (hkroot′, (mack′, _))))))))))))))))))))))) =
-    subframeTold (now hkroot′) (now mack′) r (state (now config′) (now clocks′) (now words) (now stamps) (now blocks′) (now headers′) (now present′) (now since′) (now pubkeys′) (now offer′) (now chain) (now numbers′) (now heldkey′) (now waiting′) (now sets′) (now arrivals′)) (now area′) ≡ subframeCall (state (now config) (now clocks) (now words) (now stamps) (now blocks) (now headers) (now present) (now since) (now pubkeys) (now offer) (now chain) (now numbers) (now heldkey) (now waiting) (now sets) (now arrivals)) (now area) (subframe prn time marks (now bytes))
-
-pub marked-is : (κs : Lfts 20) (args : Dens κs marked-kinds.ps) (r : ℕ) (last : AtExit (endedOf 20 marked-kinds.ps marked-kinds.r) κs) → marked-reads.Learnt κs args r last → marked-rule κs args r last
-marked-is κs args r last d = d
-
-pub marked-only : (κs : Lfts 20) (args : Dens κs marked-kinds.ps) (r : ℕ) (last : AtExit (endedOf 20 marked-kinds.ps marked-kinds.r) κs) → marked-rule κs args r last → marked-reads.Learnt κs args r last
-marked-only κs args r last d = d
-
--- ---- verdict: keys, offer, chain, numbers, key and waiting at exit; the other regions are lent to be read only
-
-pub verdict-asks-nothing : (κs : Lfts 18) (args : Dens κs verdict-kinds.ps) → verdict-reads.Asked κs args
+pub verdict-asks-nothing : (κs : Lfts 9) (args : Dens κs verdict-kinds.ps) → verdict-reads.Asked κs args
 verdict-asks-nothing κs args = tt
 
-abbrev verdict-rule : (κs : Lfts 18) (args : Dens κs verdict-kinds.ps) (r : ℕ) (last : AtExit (endedOf 18 verdict-kinds.ps verdict-kinds.r) κs) → Type 0
-verdict-rule κs (config, (clocks, (words, (stamps, (blocks, (headers, (present, (since, (pubkeys, (offer, (chain, (numbers, (heldkey, (waiting, (sets, (arrivals, (good, (id, (message, (signature, _)))))))))))))))))))) r (_, (_, (_, (_, (_, (_, (_, (_, (pubkeys′, (offer′, (chain′, (numbers′, (heldkey′, (waiting′, (_, (_, (_, (_, (_, (_, _)))))))))))))))))))) =
-    told r (state (now config) (now clocks) (now words) (now stamps) (now blocks) (now headers) (now present) (now since) (now pubkeys′) (now offer′) (now chain′) (now numbers′) (now heldkey′) (now waiting′) (now sets) (now arrivals)) ≡ verdictCall (state (now config) (now clocks) (now words) (now stamps) (now blocks) (now headers) (now present) (now since) (now pubkeys) (now offer) (now chain) (now numbers) (now heldkey) (now waiting) (now sets) (now arrivals)) (record { good = good; id = id; message = now message; signature = now signature })
+abbrev verdict-rule : (κs : Lfts 9) (args : Dens κs verdict-kinds.ps) (r : ℕ) (last : AtExit (endedOf 9 verdict-kinds.ps verdict-kinds.r) κs) → Type 0
+verdict-rule κs args r last = (s : State) → told r (verdictAfter κs args last s) ≡ verdictCall (verdictBefore κs args s) (verdictGiven κs args)
 
-pub verdict-is : (κs : Lfts 18) (args : Dens κs verdict-kinds.ps) (r : ℕ) (last : AtExit (endedOf 18 verdict-kinds.ps verdict-kinds.r) κs) → verdict-reads.Learnt κs args r last → verdict-rule κs args r last
+pub verdict-is : (κs : Lfts 9) (args : Dens κs verdict-kinds.ps) (r : ℕ) (last : AtExit (endedOf 9 verdict-kinds.ps verdict-kinds.r) κs) → verdict-reads.Learnt κs args r last → verdict-rule κs args r last
 verdict-is κs args r last d = d
 
-pub verdict-only : (κs : Lfts 18) (args : Dens κs verdict-kinds.ps) (r : ℕ) (last : AtExit (endedOf 18 verdict-kinds.ps verdict-kinds.r) κs) → verdict-rule κs args r last → verdict-reads.Learnt κs args r last
+pub verdict-only : (κs : Lfts 9) (args : Dens κs verdict-kinds.ps) (r : ℕ) (last : AtExit (endedOf 9 verdict-kinds.ps verdict-kinds.r) κs) → verdict-rule κs args r last → verdict-reads.Learnt κs args r last
 verdict-only κs args r last d = d
 
--- ---- the read of an authentic set: its 69 bytes, IODnav and GST_SF at exit
+-- ---- the read of an authentic set: its number, its 69 bytes, IODnav and GST_SF at exit
 
-pub read-set-asks-nothing : (κs : Lfts 19) (args : Dens κs read-set-kinds.ps) → read-set-reads.Asked κs args
+pub read-set-asks-nothing : (κs : Lfts 5) (args : Dens κs read-set-kinds.ps) → read-set-reads.Asked κs args
 read-set-asks-nothing κs args = tt
 
-abbrev read-set-rule : (κs : Lfts 19) (args : Dens κs read-set-kinds.ps) (r : ℕ) (last : AtExit (endedOf 19 read-set-kinds.ps read-set-kinds.r) κs) → Type 0
-read-set-rule κs (config, (clocks, (words, (stamps, (blocks, (headers, (present, (since, (pubkeys, (offer, (chain, (numbers, (heldkey, (waiting, (sets, (arrivals, (prn, (out, (_, (_, _)))))))))))))))))))) r (_, (_, (_, (_, (_, (_, (_, (_, (_, (_, (_, (_, (_, (_, (_, (_, (_, (out′, (issue′, (time′, _)))))))))))))))))))) =
-    setTold r (now out′) (now issue′) (now time′) ≡ setRead (state (now config) (now clocks) (now words) (now stamps) (now blocks) (now headers) (now present) (now since) (now pubkeys) (now offer) (now chain) (now numbers) (now heldkey) (now waiting) (now sets) (now arrivals)) prn (now out)
+abbrev read-set-rule : (κs : Lfts 5) (args : Dens κs read-set-kinds.ps) (r : ℕ) (last : AtExit (endedOf 5 read-set-kinds.ps read-set-kinds.r) κs) → Type 0
+read-set-rule κs (sets, (arrivals, (prn, (out, _)))) r (_, (_, (_, (out′, (issue′, (time′, _)))))) = (s : State) → setTold r (now out′) (now issue′) (now time′) ≡ setRead (setLent s (now sets) (now arrivals)) prn (now out)
 
-pub read-set-is : (κs : Lfts 19) (args : Dens κs read-set-kinds.ps) (r : ℕ) (last : AtExit (endedOf 19 read-set-kinds.ps read-set-kinds.r) κs) → read-set-reads.Learnt κs args r last → read-set-rule κs args r last
+pub read-set-is : (κs : Lfts 5) (args : Dens κs read-set-kinds.ps) (r : ℕ) (last : AtExit (endedOf 5 read-set-kinds.ps read-set-kinds.r) κs) → read-set-reads.Learnt κs args r last → read-set-rule κs args r last
 read-set-is κs args r last d = d
 
-pub read-set-only : (κs : Lfts 19) (args : Dens κs read-set-kinds.ps) (r : ℕ) (last : AtExit (endedOf 19 read-set-kinds.ps read-set-kinds.r) κs) → read-set-rule κs args r last → read-set-reads.Learnt κs args r last
+pub read-set-only : (κs : Lfts 5) (args : Dens κs read-set-kinds.ps) (r : ℕ) (last : AtExit (endedOf 5 read-set-kinds.ps read-set-kinds.r) κs) → read-set-rule κs args r last → read-set-reads.Learnt κs args r last
 read-set-only κs args r last d = d
 
--- ---- the read of what waits: message, signature, key, key ID and type at exit
+-- ---- the read of what waits: its number, message, signature, key, key ID and type at exit
 
-pub read-message-asks-nothing : (κs : Lfts 21) (args : Dens κs read-message-kinds.ps) → read-message-reads.Asked κs args
+pub read-message-asks-nothing : (κs : Lfts 7) (args : Dens κs read-message-kinds.ps) → read-message-reads.Asked κs args
 read-message-asks-nothing κs args = tt
 
-abbrev read-message-rule : (κs : Lfts 21) (args : Dens κs read-message-kinds.ps) (r : ℕ) (last : AtExit (endedOf 21 read-message-kinds.ps read-message-kinds.r) κs) → Type 0
-read-message-rule κs (config, (clocks, (words, (stamps, (blocks, (headers, (present, (since, (pubkeys, (offer, (chain, (numbers, (heldkey, (waiting, (sets, (arrivals, (message, (signature, (pubkey, (_, (_, _))))))))))))))))))))) r (_, (_, (_, (_, (_, (_, (_, (_, (_, (_, (_, (_, (_, (_, (_, (_, (message′, (signature′, (pubkey′, (id′, (kind′, _))))))))))))))))))))) =
-    offerTold r (now message′) (now signature′) (now pubkey′) (now id′) (now kind′) ≡ offerRead (state (now config) (now clocks) (now words) (now stamps) (now blocks) (now headers) (now present) (now since) (now pubkeys) (now offer) (now chain) (now numbers) (now heldkey) (now waiting) (now sets) (now arrivals)) (now message) (now signature) (now pubkey)
+abbrev read-message-rule : (κs : Lfts 7) (args : Dens κs read-message-kinds.ps) (r : ℕ) (last : AtExit (endedOf 7 read-message-kinds.ps read-message-kinds.r) κs) → Type 0
+read-message-rule κs (pubkeys, (offer, (message, (signature, (key, _))))) r (_, (_, (message′, (signature′, (key′, (id′, (kind′, _))))))) = (s : State) → offerTold r (now message′) (now signature′) (now key′) (now id′) (now kind′) ≡ offerRead (offerLent s (now pubkeys) (now offer)) (now message) (now signature) (now key)
 
-pub read-message-is : (κs : Lfts 21) (args : Dens κs read-message-kinds.ps) (r : ℕ) (last : AtExit (endedOf 21 read-message-kinds.ps read-message-kinds.r) κs) → read-message-reads.Learnt κs args r last → read-message-rule κs args r last
+pub read-message-is : (κs : Lfts 7) (args : Dens κs read-message-kinds.ps) (r : ℕ) (last : AtExit (endedOf 7 read-message-kinds.ps read-message-kinds.r) κs) → read-message-reads.Learnt κs args r last → read-message-rule κs args r last
 read-message-is κs args r last d = d
 
-pub read-message-only : (κs : Lfts 21) (args : Dens κs read-message-kinds.ps) (r : ℕ) (last : AtExit (endedOf 21 read-message-kinds.ps read-message-kinds.r) κs) → read-message-rule κs args r last → read-message-reads.Learnt κs args r last
+pub read-message-only : (κs : Lfts 7) (args : Dens κs read-message-kinds.ps) (r : ℕ) (last : AtExit (endedOf 7 read-message-kinds.ps read-message-kinds.r) κs) → read-message-rule κs args r last → read-message-reads.Learnt κs args r last
 read-message-only κs args r last d = d

@@ -1,15 +1,18 @@
 -- Each exported call's contract is the rule that `step` uses; so a run of exported calls is a run of the rules, by one induction, and the claim of
 -- demand 3 holds of it. Assumes nothing.
-use Prim.Native.Nat.{_*_}
+use Prim.Native.Nat.{ℕ, _*_}
 use mathlib.Core.Path.{_≡_, refl, sym, _∙_, ap}
 use mathlib.Core.List.{List, [], _∷_}
+use contract.Lifetimes.{Lfts}
+use borrow.Fn.Kinds.{PK, RK, Dens, endedOf}
+use denote.Triple.Clauses.{AtExit}
 use Rattle.rules.specs.Calls.{Start, Told, SubframeTold, SetRead, OfferRead, startCall}
 use Rattle.rules.specs.Claim.{FairHistory}
-use Rattle.rules.specs.Log.{Call, start, Reply, plain, nothing, Stepped, History, advanced, step, ran, ranFrom}
+use Rattle.rules.specs.Log.{Call, start, Reply, plain, nothing, Stepped, History, advanced, step, asked, ran, ranFrom}
 use Rattle.rules.specs.State.{State}
 use Rattle.rules.proofs.Sound.{claim}
-use Rattle.rules.proofs.Whole.{all-whole, lost-fields}
-use Rattle.assurance.specs.Run.{StartDid, WordDid, SubframeDid, MarkedDid, VerdictDid, ReadSetDid, ReadOfferDid, Did, started, worded, subframed, marked, judged, set-read, offer-read, Done, Run, historyOf, ExportedClaim, readSetBefore, readOfferBefore}
+use Rattle.rules.proofs.Whole.{lost-fields}
+use Rattle.assurance.specs.Run.{Made, StartDid, WordDid, SubframeDid, VerdictDid, ReadSetDid, ReadOfferDid, Did, started, worded, subframed, judged, set-read, offer-read, Done, Run, historyOf, ExportedClaim, readSetBefore, readOfferBefore}
 use Rattle.laws.specs.Lists.{part}
 
 abbrev Steps : State → Call → Reply → State → Type 0
@@ -17,43 +20,50 @@ Steps s c r s' = step s c ≡ record { reply = r; state = s' }
 
 -- ---- one lemma a call
 
-start-steps : {s s' : State} {c : Call} {r : Reply} → StartDid s c r s' → Steps s c r s'
-unfolding step
-start-steps d = rw (← (d .before-is), ← (d .call-is), ← (d .after-is), ← (d .reply-is)) (ap (λ (t : Told). record { reply = plain (t .code); state = t .state }) (sym (d .learnt)))
+-- a call whose contract is a step of the rules
+made-steps : (n : ℕ) (ps : List (PK n)) (k : RK n)
+    (Learnt : (κs : Lfts n) → Dens κs ps → ℕ → AtExit (endedOf n ps k) κs → Type 0)
+    (before : (κs : Lfts n) → Dens κs ps → State → State)
+    (given : (κs : Lfts n) → Dens κs ps → Call)
+    (after : (κs : Lfts n) → Dens κs ps → AtExit (endedOf n ps k) κs → State → State)
+    (told : (κs : Lfts n) → ℕ → AtExit (endedOf n ps k) κs → Reply)
+    → ((κs : Lfts n) (args : Dens κs ps) (r : ℕ) (last : AtExit (endedOf n ps k) κs) (s : State) → Learnt κs args r last
+    → Steps (before κs args s) (given κs args) (told κs r last) (after κs args last s))
+    → (s s' : State) (c : Call) (r : Reply) → Made n ps k Learnt before given after told s c r s' → Steps s c r s'
+made-steps n ps k Learnt before given after told h s s' c r d =
+    rw (d .before-is, d .call-is, d .after-is, d .reply-is) at (h (d .lifetimes) (d .args) (d .result) (d .last) s (d .learnt))
 
-word-steps : {s s' : State} {c : Call} {r : Reply} → WordDid s c r s' → Steps s c r s'
+start-steps : (s s' : State) (c : Call) (r : Reply) → StartDid s c r s' → Steps s c r s'
 unfolding step
-word-steps d = rw (← (d .before-is), ← (d .call-is), ← (d .after-is), ← (d .reply-is)) (ap (λ (t : Told). record { reply = plain (t .code); state = t .state }) (sym (d .learnt)))
+start-steps = made-steps _ _ _ _ _ _ _ _ (λ κs args r last s d. ap (λ (t : Told). record { reply = plain (t .code); state = t .state }) (sym d))
 
--- with all marks 1 the call is the one of 01 alone
-subframe-steps : {s s' : State} {c : Call} {r : Reply} → SubframeDid s c r s' → Steps s c r s'
+word-steps : (s s' : State) (c : Call) (r : Reply) → WordDid s c r s' → Steps s c r s'
 unfolding step
-subframe-steps d = rw (← (d .before-is), ← (d .call-is), ← (d .after-is), ← (d .reply-is)) (ap (λ (t : SubframeTold). record { reply = record { code = t .hkroot; mack = t .mack; records = part (t .area) 0 (12 * t .count); out = []; issue = 0; time = 0; handed = nothing }; state = t .state }) (all-whole _ _ _ _ _ ∙ sym (d .learnt)))
+word-steps = made-steps _ _ _ _ _ _ _ _ (λ κs args r last s d. ap (λ (t : Told). record { reply = plain (t .code); state = t .state }) (sym (d s)))
 
-marked-steps : {s s' : State} {c : Call} {r : Reply} → MarkedDid s c r s' → Steps s c r s'
+subframe-steps : (s s' : State) (c : Call) (r : Reply) → SubframeDid s c r s' → Steps s c r s'
 unfolding step
-marked-steps d = rw (← (d .before-is), ← (d .call-is), ← (d .after-is), ← (d .reply-is)) (ap (λ (t : SubframeTold). record { reply = record { code = t .hkroot; mack = t .mack; records = part (t .area) 0 (12 * t .count); out = []; issue = 0; time = 0; handed = nothing }; state = t .state }) (sym (d .learnt)))
+subframe-steps = made-steps _ _ _ _ _ _ _ _ (λ κs args r last s d. ap (λ (t : SubframeTold). record { reply = record { code = t .hkroot; mack = t .mack; records = part (t .area) 0 (12 * t .count); out = []; issue = 0; time = 0; handed = nothing }; state = t .state }) (sym d))
 
-verdict-steps : {s s' : State} {c : Call} {r : Reply} → VerdictDid s c r s' → Steps s c r s'
+verdict-steps : (s s' : State) (c : Call) (r : Reply) → VerdictDid s c r s' → Steps s c r s'
 unfolding step
-verdict-steps d = rw (← (d .before-is), ← (d .call-is), ← (d .after-is), ← (d .reply-is)) (ap (λ (t : Told). record { reply = plain (t .code); state = t .state }) (sym (d .learnt)))
+verdict-steps = made-steps _ _ _ _ _ _ _ _ (λ κs args r last s d. ap (λ (t : Told). record { reply = plain (t .code); state = t .state }) (sym (d s)))
 
-read-set-steps : {s s' : State} {c : Call} {r : Reply} → ReadSetDid s c r s' → Steps s c r s'
-unfolding step
-read-set-steps d = rw (← (d .before-is), ← (d .call-is), ← (d .after-is), ← (d .reply-is)) (ap (λ (t : SetRead). record { reply = record { code = t .code; mack = 0; records = []; out = t .out; issue = t .issue; time = t .time; handed = nothing }; state = readSetBefore (d .lifetimes) (d .args) }) (sym (d .learnt)))
+read-set-steps : (s s' : State) (c : Call) (r : Reply) → ReadSetDid s c r s' → Steps s c r s'
+unfolding step asked
+read-set-steps = made-steps _ _ _ _ _ _ _ _ (λ κs args r last s d. ap (λ (t : SetRead). record { reply = record { code = t .code; mack = 0; records = []; out = t .out; issue = t .issue; time = t .time; handed = nothing }; state = readSetBefore κs args s }) (sym (d s)))
 
-read-message-steps : {s s' : State} {c : Call} {r : Reply} → ReadOfferDid s c r s' → Steps s c r s'
-unfolding step
-read-message-steps d = rw (← (d .before-is), ← (d .call-is), ← (d .after-is), ← (d .reply-is)) (ap (λ (t : OfferRead). record { reply = record { code = t .code; mack = 0; records = []; out = []; issue = 0; time = 0; handed = record { message = t .message; signature = t .signature; key = t .key; id = t .id; type = t .type } }; state = readOfferBefore (d .lifetimes) (d .args) }) (sym (d .learnt)))
+read-message-steps : (s s' : State) (c : Call) (r : Reply) → ReadOfferDid s c r s' → Steps s c r s'
+unfolding step asked
+read-message-steps = made-steps _ _ _ _ _ _ _ _ (λ κs args r last s d. ap (λ (t : OfferRead). record { reply = record { code = t .code; mack = 0; records = []; out = []; issue = 0; time = 0; handed = record { message = t .message; signature = t .signature; key = t .key; id = t .id; type = t .type } }; state = readOfferBefore κs args s }) (sym (d s)))
 
 pub steps : (s s' : State) (c : Call) (r : Reply) → Did s c r s' → Steps s c r s'
-steps s s' c r (started d) = start-steps d
-steps s s' c r (worded d) = word-steps d
-steps s s' c r (subframed d) = subframe-steps d
-steps s s' c r (marked d) = marked-steps d
-steps s s' c r (judged d) = verdict-steps d
-steps s s' c r (set-read d) = read-set-steps d
-steps s s' c r (offer-read d) = read-message-steps d
+steps s s' c r (started d) = start-steps s s' c r d
+steps s s' c r (worded d) = word-steps s s' c r d
+steps s s' c r (subframed d) = subframe-steps s s' c r d
+steps s s' c r (judged d) = verdict-steps s s' c r d
+steps s s' c r (set-read d) = read-set-steps s s' c r d
+steps s s' c r (offer-read d) = read-message-steps s s' c r d
 
 -- ---- a run of exported calls is a run of the rules
 

@@ -3,7 +3,7 @@
 use crate::sky::{calls, part, settings, time};
 use crate::stack::of_call;
 use osnma::regions::Regions;
-use osnma::{Records, NO_RECORDS};
+use osnma::{Marks, Records, NO_RECORDS};
 
 /// A message with this NMA header: CIDKR 1, NMACK 1, KS 128, MS 40, MACLT 27, at this hour of week 1000.
 fn message(header: u8, hour: u8) -> [u8; 45] {
@@ -82,6 +82,7 @@ fn subframes() -> usize {
                         area,
                         call[1],
                         time(&call),
+                        Marks::ALL.bits(),
                         fields,
                         &mut hkroot,
                         &mut mack,

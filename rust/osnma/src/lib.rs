@@ -243,14 +243,7 @@ impl Core {
         fields: &[u8; FIELDS_LEN],
         records: &'a mut Records,
     ) -> SubframeAnswer<'a> {
-        let (mut hkroot, mut mack) = (0, 0);
-        let mut lent = self.regions.lend();
-        let count = lent.subframe(records, prn, time.bits(), fields, &mut hkroot, &mut mack);
-        SubframeAnswer {
-            hkroot: answered(hkroot),
-            mack: answered(mack),
-            tags: TagRecords::of(records, count),
-        }
+        self.subframe_marked(prn, time, Marks::ALL, fields, records)
     }
 
     /// The authentication fields of a sub-frame of which some may not have been received. With
@@ -279,7 +272,7 @@ impl Core {
         let (mut hkroot, mut mack) = (0, 0);
         let mut lent = self.regions.lend();
         let (time, marks) = (time.bits(), marks.bits());
-        let count = lent.subframe_marked(records, prn, time, marks, fields, &mut hkroot, &mut mack);
+        let count = lent.subframe(records, prn, time, marks, fields, &mut hkroot, &mut mack);
         SubframeAnswer {
             hkroot: answered(hkroot),
             mack: answered(mack),

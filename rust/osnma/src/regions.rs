@@ -1,4 +1,4 @@
-//! The sixteen regions that a core lends to each call, and the calls over them. For
+//! The sixteen regions of a core, and the calls over those that each is lent. For
 //! [`Core`](crate::Core), and for tests, which look at every byte and lend wrong lengths.
 
 use crate::raw;
@@ -91,26 +91,21 @@ regions! {
 // As the header says of `struct osnma_core`.
 const _: () = assert!(size_of::<Regions>() <= 32_896);
 
-/// Lends all regions to an export, by pointer and count, and then its other arguments.
+/// Lends the named regions to an export, by pointer and count, and then its other arguments.
 macro_rules! lend {
-    ($export:ident, $from:ident.$pointer:ident, $($other:expr),*) => {
-        raw::$export(
-            $from.config.$pointer(), $from.config.len(),
-            $from.clocks.$pointer(), $from.clocks.len(),
-            $from.words.$pointer(), $from.words.len(),
-            $from.stamps.$pointer(), $from.stamps.len(),
-            $from.blocks.$pointer(), $from.blocks.len(),
-            $from.headers.$pointer(), $from.headers.len(),
-            $from.present.$pointer(), $from.present.len(),
-            $from.since.$pointer(), $from.since.len(),
-            $from.pubkeys.$pointer(), $from.pubkeys.len(),
-            $from.offer.$pointer(), $from.offer.len(),
-            $from.chain.$pointer(), $from.chain.len(),
-            $from.numbers.$pointer(), $from.numbers.len(),
-            $from.heldkey.$pointer(), $from.heldkey.len(),
-            $from.waiting.$pointer(), $from.waiting.len(),
-            $from.sets.$pointer(), $from.sets.len(),
-            $from.arrivals.$pointer(), $from.arrivals.len(),
+    ($export:ident, $from:ident.$pointer:ident, [$($region:ident)*], $($other:expr),*) => {
+        raw::$export($($from.$region.$pointer(), $from.$region.len(),)* $($other),*)
+    };
+}
+
+/// Lends all regions.
+macro_rules! lend_all {
+    ($export:ident, $from:ident, $($other:expr),*) => {
+        lend!(
+            $export,
+            $from.as_mut_ptr,
+            [config clocks words stamps blocks headers present since
+             pubkeys offer chain numbers heldkey waiting sets arrivals],
             $($other),*
         )
     };
@@ -133,9 +128,9 @@ impl Lent<'_> {
         // SAFETY: each pointer is of a live slice and has its length beside it; what is written is
         // borrowed for that alone.
         unsafe {
-            lend!(
+            lend_all!(
                 osnma_regions_start,
-                self.as_mut_ptr,
+                self,
                 ns,
                 key_id,
                 key_type,
@@ -157,6 +152,7 @@ impl Lent<'_> {
             lend!(
                 osnma_regions_word,
                 self.as_mut_ptr,
+                [config clocks words stamps],
                 prn,
                 time,
                 word.as_ptr(),
@@ -165,38 +161,11 @@ impl Lent<'_> {
         }
     }
 
-    /// The authentication fields of a sub-frame: the count of tag records in `area`, and the numbers
-    /// of both halves.
-    pub fn subframe(
-        &mut self,
-        area: &mut [u8],
-        prn: u8,
-        time: u32,
-        fields: &[u8],
-        hkroot: &mut u32,
-        mack: &mut u32,
-    ) -> u32 {
-        // SAFETY: as above.
-        unsafe {
-            lend!(
-                osnma_regions_subframe,
-                self.as_mut_ptr,
-                area.as_mut_ptr(),
-                area.len(),
-                prn,
-                time,
-                fields.as_ptr(),
-                fields.len(),
-                hkroot,
-                mack
-            )
-        }
-    }
-
-    /// The same with a mark a field, 1 for received: field 0 in the top bit, and the lowest bit is
-    /// not read.
+    /// The authentication fields of a sub-frame, with a mark a field, 1 for received: field 0 in the
+    /// top bit, and the lowest bit is not read. Gives the count of tag records in `area`, and the
+    /// numbers of both halves.
     #[allow(clippy::too_many_arguments)]
-    pub fn subframe_marked(
+    pub fn subframe(
         &mut self,
         area: &mut [u8],
         prn: u8,
@@ -208,9 +177,9 @@ impl Lent<'_> {
     ) -> u32 {
         // SAFETY: as above.
         unsafe {
-            lend!(
-                osnma_regions_subframe_marked,
-                self.as_mut_ptr,
+            lend_all!(
+                osnma_regions_subframe,
+                self,
                 area.as_mut_ptr(),
                 area.len(),
                 prn,
@@ -231,6 +200,7 @@ impl Lent<'_> {
             lend!(
                 osnma_regions_verdict,
                 self.as_mut_ptr,
+                [config pubkeys offer chain numbers heldkey waiting],
                 good,
                 key_id,
                 message.as_ptr(),
@@ -251,6 +221,7 @@ impl View<'_> {
             lend!(
                 osnma_regions_read_set,
                 self.as_ptr,
+                [sets arrivals],
                 prn,
                 set.as_mut_ptr(),
                 set.len(),
@@ -274,6 +245,7 @@ impl View<'_> {
             lend!(
                 osnma_regions_read_message,
                 self.as_ptr,
+                [pubkeys offer],
                 message.as_mut_ptr(),
                 message.len(),
                 signature.as_mut_ptr(),

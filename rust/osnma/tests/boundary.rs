@@ -204,7 +204,7 @@ fn one_change_of_a_declaration_is_seen() {
             "uint32_t time, uint8_t marks,\n    const",
         ),
         ("uint32_t *clocks", "const uint32_t *clocks"),
-        ("const uint16_t *present", "uint16_t *present"),
+        ("const uint32_t *arrivals", "uint32_t *arrivals"),
         ("uint32_t osnma_regions_word", "uint8_t osnma_regions_word"),
         (
             "uint32_t osnma_regions_word",
@@ -222,7 +222,7 @@ fn one_change_of_a_declaration_is_seen() {
         ("time: u32", "time: u64"),
         ("marks: u16", "marks: u32"),
         ("clocks: *mut u32", "clocks: *const u32"),
-        ("present: *const u16", "present: *mut u16"),
+        ("arrivals: *const u32", "arrivals: *mut u32"),
         (") -> u32;", ") -> u8;"),
         (") -> u32;", ");"),
     ] {

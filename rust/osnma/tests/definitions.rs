@@ -7,6 +7,7 @@ mod common;
 use common::twin::{garbage, Call, Kind};
 use common::{draw, driver};
 use osnma::regions::Regions;
+use osnma::Marks;
 use rules_runner::machine::with_large_stack;
 use rules_runner::program::Hashes;
 use rules_runner::rules::{self, Rules};
@@ -224,13 +225,16 @@ fn by_core(r: &mut Regions, call: &Call) -> Given {
             fields,
         } => {
             let (mut area, mut hkroot, mut mack) = (AREA, 77, 77);
-            let (prn, time, lent_area) = (*prn, *time, &mut area);
-            let count = match *marks {
-                None => lent.subframe(lent_area, prn, time, fields, &mut hkroot, &mut mack),
-                Some(bits) => {
-                    lent.subframe_marked(lent_area, prn, time, bits, fields, &mut hkroot, &mut mack)
-                }
-            };
+            let marks = marks.unwrap_or(Marks::ALL.bits());
+            let count = lent.subframe(
+                &mut area,
+                *prn,
+                *time,
+                marks,
+                fields,
+                &mut hkroot,
+                &mut mack,
+            );
             (count.into(), area.to_vec(), [hkroot.into(), mack.into()])
         }
         Call::Verdict {

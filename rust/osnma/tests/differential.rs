@@ -5,7 +5,7 @@ mod common;
 
 use common::driver::{replay, Driver, Tally};
 use common::expected::difference;
-use common::loose::{parts, refused, REGIONS, WRONG};
+use common::loose::{parts, refused, regions_of, WRONG};
 use common::twin::{garbage, Answer, Call, Twin};
 use common::{draw, driver};
 use osnma::regions::Regions;
@@ -102,7 +102,7 @@ fn wrong_lengths() {
             _ => twin.core.regions().clone(),
         };
         for call in calls {
-            for what in REGIONS.iter().chain(parts(&call)) {
+            for what in regions_of(&call).iter().chain(parts(&call)) {
                 for wrong in WRONG {
                     let result = refused(&regions, &call, what, wrong);
                     assert_eq!(result, Ok(()), "{call:?}");

@@ -1,7 +1,7 @@
 //! Long sequences of calls from many states, and a tally of what was answered.
 
 use super::draw;
-use super::loose::{parts, refused, REGIONS, WRONG};
+use super::loose::{parts, refused, regions_of, WRONG};
 use super::twin::{Answer, Call, Kind, Twin};
 use second_receiver::Receiver;
 use signal::chain::AES_KEYS;
@@ -504,7 +504,7 @@ impl Driver {
         let (rng, parts) = (&mut self.rng, parts(call));
         let what = match rng.once_in(3) {
             true => *rng.pick(parts),
-            false => *rng.pick(REGIONS),
+            false => *rng.pick(regions_of(call)),
         };
         let wrong = *rng.pick(&WRONG);
         refused(self.state.twin.core.regions(), call, what, wrong)

@@ -2,6 +2,10 @@
 
 use super::twin::Call;
 use osnma::regions::{Lent, Regions};
+use osnma::Marks;
+
+/// The marks of a sub-frame all of whose fields came.
+pub const ALL_RECEIVED: u16 = Marks::ALL.bits();
 
 /// Regions whose lengths can be changed.
 macro_rules! loose {
@@ -75,6 +79,19 @@ impl Wrong {
     }
 }
 
+/// Names of the regions that a call is lent.
+pub fn regions_of(call: &Call) -> &'static [&'static str] {
+    match call {
+        Call::Start(_) | Call::Subframe { .. } => REGIONS,
+        Call::Word { .. } => &["config", "clocks", "words", "stamps"],
+        Call::Verdict { .. } => &[
+            "config", "pubkeys", "offer", "chain", "numbers", "heldkey", "waiting",
+        ],
+        Call::ReadSet(_) => &["sets", "arrivals"],
+        Call::ReadMessage => &["pubkeys", "offer"],
+    }
+}
+
 /// Names of the byte strings that a call is lent beside the regions.
 pub fn parts(call: &Call) -> &'static [&'static str] {
     match call {
@@ -135,19 +152,16 @@ fn answer(lent: &mut Loose, call: &Call, what: &str, wrong: Wrong) -> Result<u32
             let mut area = cut(&[0x5A; 3240], "the record area");
             let fields = cut(fields, "the fields");
             let (mut hkroot, mut mack) = (0x5A5A_5A5A, 0x5A5A_5A5A);
-            let (prn, time, area_lent) = (*prn, *time, &mut area[..]);
-            let count = match *marks {
-                None => lent.subframe(area_lent, prn, time, &fields, &mut hkroot, &mut mack),
-                Some(bits) => lent.subframe_marked(
-                    area_lent,
-                    prn,
-                    time,
-                    bits,
-                    &fields,
-                    &mut hkroot,
-                    &mut mack,
-                ),
-            };
+            let marks = marks.unwrap_or(ALL_RECEIVED);
+            let count = lent.subframe(
+                &mut area,
+                *prn,
+                *time,
+                marks,
+                &fields,
+                &mut hkroot,
+                &mut mack,
+            );
             match (count, hkroot == mack) {
                 (0, true) => stayed(&[&area], hkroot),
                 _ => Err("a count that is not 0, or halves that differ"),
