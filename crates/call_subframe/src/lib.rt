@@ -54,7 +54,10 @@ fn subframe_refusal(
     fields: &[u8],
 ) -> u32
     requires { ⌜ (length (now config) ≡ configLength) × (length (now clocks) ≡ clocksLength) ⌝ }
-    ensures { λ r. ⌜ ((s : State) (area lent : List ℕ) → s .config ≡ now (config .entry) → s .clocks ≡ now (clocks .entry) → now (fields .entry) ≡ received marks lent 15 → (shaped s && (eqb (length area) areaLength && eqb (length lent) 75)) ≡ true → r ≡ firstOf (subframeChecks s area (subframe prn time marks lent))) × ((r ≡ 0 → ((1 ≤ prn) × (prn ≤ 36)) × (time < 4294967295)) × (r ≡ 5 → ((1 ≤ prn) × (prn ≤ 36)) × (time < 4294967295))) ⌝ }
+    ensures { λ r. ⌜ ((s : State) (area lent : List ℕ) → s .config ≡ now (config .entry) → s .clocks ≡ now (clocks .entry) →
+        now (fields .entry) ≡ received marks lent 15 → (shaped s && (eqb (length area) areaLength && eqb (length lent) 75)) ≡ true →
+        r ≡ firstOf (subframeChecks s area (subframe prn time marks lent)))
+        × ((r ≡ 0 → ((1 ≤ prn) × (prn ≤ 36)) × (time < 4294967295)) × (r ≡ 5 → ((1 ≤ prn) × (prn ≤ 36)) × (time < 4294967295))) ⌝ }
 {
     if !regions::prn_valid(prn) {
         return 2;
@@ -99,11 +102,23 @@ fn both_halves(
     marks: u16,
     fields: &[u8],
 ) -> Halves
-    requires { ⌜ Lent (now blocks) (now headers) (now present) (now since) × ((length (now config) ≡ configLength) × ((length (now pubkeys) ≡ pubkeysLength) × (length (now offer) ≡ offerLength))) ⌝ }
-    requires { ⌜ ((length (now words) ≡ wordsLength) × (length (now stamps) ≡ stampsLength)) × ((length (now chain) ≡ chainLength) × ((length (now numbers) ≡ numbersLength) × (length (now heldkey) ≡ heldkeyLength))) ⌝ }
-    requires { ⌜ ((length (now sets) ≡ setsLength) × (length (now arrivals) ≡ arrivalsLength)) × ((length (now waiting) ≡ waitingLength) × (length (now area) ≡ areaLength)) ⌝ }
+    requires { ⌜ Lent (now blocks) (now headers) (now present) (now since)
+        × ((length (now config) ≡ configLength) × ((length (now pubkeys) ≡ pubkeysLength) × (length (now offer) ≡ offerLength))) ⌝ }
+    requires { ⌜ ((length (now words) ≡ wordsLength) × (length (now stamps) ≡ stampsLength))
+        × ((length (now chain) ≡ chainLength) × ((length (now numbers) ≡ numbersLength) × (length (now heldkey) ≡ heldkeyLength))) ⌝ }
+    requires { ⌜ ((length (now sets) ≡ setsLength) × (length (now arrivals) ≡ arrivalsLength))
+        × ((length (now waiting) ≡ waitingLength) × (length (now area) ≡ areaLength)) ⌝ }
     requires { ⌜ length (now fields) ≡ 75 ⌝ }
-    ensures { λ r. ⌜ ((clocks lent : List ℕ) → now (fields .entry) ≡ received marks lent 15 → subframeTold (r .hkroot) (r .mack) (r .count) (state (now (config .exit)) clocks (now (words .entry)) (now (stamps .entry)) (now (blocks .exit)) (now (headers .exit)) (now (present .exit)) (now (since .exit)) (now (pubkeys .exit)) (now (offer .exit)) (now (chain .entry)) (now (numbers .exit)) (now (heldkey .exit)) (now (waiting .exit)) (now (sets .exit)) (now (arrivals .exit))) (now (area .exit)) ≡ halvesDone (state (now (config .entry)) clocks (now (words .entry)) (now (stamps .entry)) (now (blocks .entry)) (now (headers .entry)) (now (present .entry)) (now (since .entry)) (now (pubkeys .entry)) (now (offer .entry)) (now (chain .entry)) (now (numbers .entry)) (now (heldkey .entry)) (now (waiting .entry)) (now (sets .entry)) (now (arrivals .entry))) (now (area .entry)) (subframe prn time marks lent)) ⌝ }
+    ensures { λ r. ⌜ ((clocks lent : List ℕ) → now (fields .entry) ≡ received marks lent 15 →
+        subframeTold (r .hkroot) (r .mack) (r .count)
+        (state (now (config .exit)) clocks (now (words .entry)) (now (stamps .entry)) (now (blocks .exit)) (now (headers .exit)) (now (present .exit))
+        (now (since .exit)) (now (pubkeys .exit)) (now (offer .exit)) (now (chain .entry)) (now (numbers .exit)) (now (heldkey .exit))
+        (now (waiting .exit)) (now (sets .exit)) (now (arrivals .exit))) (now (area .exit))
+        ≡ halvesDone
+        (state (now (config .entry)) clocks (now (words .entry)) (now (stamps .entry)) (now (blocks .entry)) (now (headers .entry))
+        (now (present .entry)) (now (since .entry)) (now (pubkeys .entry)) (now (offer .entry)) (now (chain .entry)) (now (numbers .entry))
+        (now (heldkey .entry)) (now (waiting .entry)) (now (sets .entry)) (now (arrivals .entry))) (now (area .entry))
+        (subframe prn time marks lent)) ⌝ }
 {
     let hk = gather::hkroot_of(fields);
     let mack = gather::mack_of(fields);
@@ -175,8 +190,20 @@ pub fn take_subframe(
     marks: u16,
     bytes: &[u8],
 ) -> Halves
-    requires { ⌜ (shaped (state (now config) (now clocks) (now words) (now stamps) (now blocks) (now headers) (now present) (now since) (now pubkeys) (now offer) (now chain) (now numbers) (now heldkey) (now waiting) (now sets) (now arrivals)) ≡ true) × ((length (now area) ≡ areaLength) × (length (now bytes) ≡ 75)) ⌝ }
-    ensures { λ r. ⌜ subframeTold (r .hkroot) (r .mack) (r .count) (state (now (config .exit)) (now (clocks .exit)) (now (words .entry)) (now (stamps .entry)) (now (blocks .exit)) (now (headers .exit)) (now (present .exit)) (now (since .exit)) (now (pubkeys .exit)) (now (offer .exit)) (now (chain .entry)) (now (numbers .exit)) (now (heldkey .exit)) (now (waiting .exit)) (now (sets .exit)) (now (arrivals .exit))) (now (area .exit)) ≡ subframeCall (state (now (config .entry)) (now (clocks .entry)) (now (words .entry)) (now (stamps .entry)) (now (blocks .entry)) (now (headers .entry)) (now (present .entry)) (now (since .entry)) (now (pubkeys .entry)) (now (offer .entry)) (now (chain .entry)) (now (numbers .entry)) (now (heldkey .entry)) (now (waiting .entry)) (now (sets .entry)) (now (arrivals .entry))) (now (area .entry)) (subframe prn time marks (now (bytes .entry))) ⌝ }
+    requires { ⌜ (shaped
+        (state (now config) (now clocks) (now words) (now stamps) (now blocks) (now headers) (now present) (now since) (now pubkeys) (now offer)
+        (now chain) (now numbers) (now heldkey) (now waiting) (now sets) (now arrivals))
+        ≡ true)
+        × ((length (now area) ≡ areaLength) × (length (now bytes) ≡ 75)) ⌝ }
+    ensures { λ r. ⌜ subframeTold (r .hkroot) (r .mack) (r .count)
+        (state (now (config .exit)) (now (clocks .exit)) (now (words .entry)) (now (stamps .entry)) (now (blocks .exit)) (now (headers .exit))
+        (now (present .exit)) (now (since .exit)) (now (pubkeys .exit)) (now (offer .exit)) (now (chain .entry)) (now (numbers .exit))
+        (now (heldkey .exit)) (now (waiting .exit)) (now (sets .exit)) (now (arrivals .exit))) (now (area .exit))
+        ≡ subframeCall
+        (state (now (config .entry)) (now (clocks .entry)) (now (words .entry)) (now (stamps .entry)) (now (blocks .entry)) (now (headers .entry))
+        (now (present .entry)) (now (since .entry)) (now (pubkeys .entry)) (now (offer .entry)) (now (chain .entry)) (now (numbers .entry))
+        (now (heldkey .entry)) (now (waiting .entry)) (now (sets .entry)) (now (arrivals .entry))) (now (area .entry))
+        (subframe prn time marks (now (bytes .entry))) ⌝ }
 {
     let fields = received::received(marks, bytes);
     let code = subframe_refusal(config, clocks, prn, time, marks, &fields);

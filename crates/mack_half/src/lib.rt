@@ -29,7 +29,8 @@ ghost use Rattle.mack_half.specs.Half.{tesla, judging, Gives};
 // The numbers of the chain in force.
 fn chain_of(config: &[u8], chain: &[u8]) -> Chain
     requires { ⌜ (length (now config) ≡ configLength) × (length (now chain) ≡ chainLength) ⌝ }
-    ensures { λ r. ⌜ (r ≡ chainWith (nsOf (now (config .entry))) (chainContents (now (chain .entry)))) × (inForce (now (config .entry)) (now (chain .entry)) ≡ true → Sound r × Laid r) ⌝ }
+    ensures { λ r. ⌜ (r ≡ chainWith (nsOf (now (config .entry))) (chainContents (now (chain .entry))))
+        × (inForce (now (config .entry)) (now (chain .entry)) ≡ true → Sound r × Laid r) ⌝ }
 {
     kroot::chain_with(regions::ns_of(config), &chain[1..45])
 }
@@ -37,7 +38,8 @@ fn chain_of(config: &[u8], chain: &[u8]) -> Chain
 // Row 11: no chain, status 0 or 3, other CID, or before sub-frame 0.
 fn section_unfit(config: &[u8], chain: &[u8], time: u32, header: u8) -> bool
     requires { ⌜ (length (now config) ≡ configLength) × (length (now chain) ≡ chainLength) ⌝ }
-    ensures { λ r. ⌜ ((s : State) → s .config ≡ now (config .entry) → s .chain ≡ now (chain .entry) → r ≡ sectionUnfit s time header) × (r ≡ false → inForce (now (config .entry)) (now (chain .entry)) ≡ true) ⌝ }
+    ensures { λ r. ⌜ ((s : State) → s .config ≡ now (config .entry) → s .chain ≡ now (chain .entry) → r ≡ sectionUnfit s time header)
+        × (r ≡ false → inForce (now (config .entry)) (now (chain .entry)) ≡ true) ⌝ }
 {
     if !kroot::in_force(config, chain) {
         return true;
@@ -91,7 +93,9 @@ fn prove_keys(
 ) -> Keys
     requires { ⌜ Sound c × ((length (now mack) ≡ 60) × ((slot < 2 ^ 34) × (length (now key) ≡ 32))) ⌝ }
     requires { ⌜ (length (now waiting) ≡ waitingLength) × (n ≤ 256) ⌝ }
-    ensures { λ r. ⌜ Hands (keysReceived c time prn (now (mack .entry)) marks (held slot (take (c .width) (now (key .entry)))) (c .nmack)) (r .code) (r .slot) (now (key .entry)) (now (key .exit)) × ((r .slot < 2 ^ 34) × Met c (held (r .slot) (take (c .width) (now (key .exit)))) (r .met) (now (met .exit))) ⌝ }
+    ensures { λ r. ⌜ Hands (keysReceived c time prn (now (mack .entry)) marks (held slot (take (c .width) (now (key .entry)))) (c .nmack)) (r .code)
+        (r .slot) (now (key .entry)) (now (key .exit))
+        × ((r .slot < 2 ^ 34) × Met c (held (r .slot) (take (c .width) (now (key .exit)))) (r .met) (now (met .exit))) ⌝ }
 {
     let last = chain::sent_slot(c, time, c.nmack, prn);
     let via = due_tag_keys::slot_to_keep(c, slot, last, waiting, n);
@@ -128,10 +132,22 @@ fn judge_tags(
     arrivals: &mut [u32],
     area: &mut [u8],
 ) -> Judged
-    requires { ⌜ ((length (now config) ≡ configLength) × (length (now words) ≡ wordsLength)) × ((length (now stamps) ≡ stampsLength) × (length (now mack) ≡ 60)) ⌝ }
-    requires { ⌜ ((length (now sets) ≡ setsLength) × (length (now arrivals) ≡ arrivalsLength)) × ((length (now waiting) ≡ waitingLength) × (length (now area) ≡ areaLength)) ⌝ }
+    requires { ⌜ ((length (now config) ≡ configLength) × (length (now words) ≡ wordsLength))
+        × ((length (now stamps) ≡ stampsLength) × (length (now mack) ≡ 60)) ⌝ }
+    requires { ⌜ ((length (now sets) ≡ setsLength) × (length (now arrivals) ≡ arrivalsLength))
+        × ((length (now waiting) ≡ waitingLength) × (length (now area) ≡ areaLength)) ⌝ }
     requires { ⌜ ((Sound c × Laid c) × ((slot < 2 ^ 34) × (n ≤ 256))) × Met c (held slot (take (c .width) key)) near met ⌝ }
-    ensures { λ r. ⌜ Leaves (fieldsJudged (now (config .entry)) (nav (now (words .entry)) (now (stamps .entry))) c (held slot (take (c .width) key)) (section prn time status (now (mack .entry))) marks (c .nmack * c .fields) (duesJudged c (held slot (take (c .width) key)) (now (waiting .entry)) n (start 0 (now (sets .entry)) (now (arrivals .entry))))) 0 0 (now (waiting .entry)) (now (area .entry)) (now (waiting .exit)) (now (sets .exit)) (now (arrivals .exit)) (now (area .exit)) (r .kept) × ((length ((fieldsJudged (now (config .entry)) (nav (now (words .entry)) (now (stamps .entry))) c (held slot (take (c .width) key)) (section prn time status (now (mack .entry))) marks (c .nmack * c .fields) (duesJudged c (held slot (take (c .width) key)) (now (waiting .entry)) n (start 0 (now (sets .entry)) (now (arrivals .entry))))) .records) ≡ r .records * 12) × (r .records ≤ 270)) ⌝ }
+    ensures { λ r. ⌜ Leaves
+        (fieldsJudged (now (config .entry)) (nav (now (words .entry)) (now (stamps .entry))) c (held slot (take (c .width) key))
+        (section prn time status (now (mack .entry))) marks (c .nmack * c .fields)
+        (duesJudged c (held slot (take (c .width) key)) (now (waiting .entry)) n (start 0 (now (sets .entry)) (now (arrivals .entry))))) 0 0
+        (now (waiting .entry)) (now (area .entry)) (now (waiting .exit)) (now (sets .exit)) (now (arrivals .exit)) (now (area .exit)) (r .kept)
+        × ((length
+        ((fieldsJudged (now (config .entry)) (nav (now (words .entry)) (now (stamps .entry))) c (held slot (take (c .width) key))
+        (section prn time status (now (mack .entry))) marks (c .nmack * c .fields)
+        (duesJudged c (held slot (take (c .width) key)) (now (waiting .entry)) n (start 0 (now (sets .entry)) (now (arrivals .entry))))) .records)
+        ≡ r .records * 12)
+        × (r .records ≤ 270)) ⌝ }
 {
     let stay = due_tags::judge_due(c, slot, key, near, met, waiting, n, sets, arrivals, area);
     let told = n - stay;
@@ -187,10 +203,19 @@ fn judge_section(
     header: u8,
     mack: &[u8],
 ) -> Mack
-    requires { ⌜ ((length (now config) ≡ configLength) × (length (now words) ≡ wordsLength)) × ((length (now stamps) ≡ stampsLength) × (length (now mack) ≡ 60)) ⌝ }
-    requires { ⌜ ((length (now sets) ≡ setsLength) × (length (now arrivals) ≡ arrivalsLength)) × ((length (now waiting) ≡ waitingLength) × (length (now area) ≡ areaLength)) ⌝ }
-    requires { ⌜ ((length (now chain) ≡ chainLength) × (length (now numbers) ≡ numbersLength)) × ((length (now heldkey) ≡ heldkeyLength) × (inForce (now config) (now chain) ≡ true)) ⌝ }
-    ensures { λ r. ⌜ ((s : State) → s .config ≡ now (config .entry) → s .nav ≡ nav (now (words .entry)) (now (stamps .entry)) → s .chain ≡ now (chain .entry) → s .tesla ≡ tesla (now (numbers .entry)) (now (heldkey .entry)) (now (waiting .entry)) → s .auth ≡ auth (now (sets .entry)) (now (arrivals .entry)) → fieldCame marks 0 ≡ true → sectionUnfit s time header ≡ false → Gives (mackHalf s prn time marks header (now (mack .entry))) (r .code) (r .count) (judging s (tesla (now (numbers .exit)) (now (heldkey .exit)) (now (waiting .exit))) (auth (now (sets .exit)) (now (arrivals .exit)))) (now (area .entry)) (now (area .exit))) × (r .count ≤ 270) ⌝ }
+    requires { ⌜ ((length (now config) ≡ configLength) × (length (now words) ≡ wordsLength))
+        × ((length (now stamps) ≡ stampsLength) × (length (now mack) ≡ 60)) ⌝ }
+    requires { ⌜ ((length (now sets) ≡ setsLength) × (length (now arrivals) ≡ arrivalsLength))
+        × ((length (now waiting) ≡ waitingLength) × (length (now area) ≡ areaLength)) ⌝ }
+    requires { ⌜ ((length (now chain) ≡ chainLength) × (length (now numbers) ≡ numbersLength))
+        × ((length (now heldkey) ≡ heldkeyLength) × (inForce (now config) (now chain) ≡ true)) ⌝ }
+    ensures { λ r. ⌜ ((s : State) → s .config ≡ now (config .entry) → s .nav ≡ nav (now (words .entry)) (now (stamps .entry)) → s .chain ≡ now (chain .entry) →
+        s .tesla ≡ tesla (now (numbers .entry)) (now (heldkey .entry)) (now (waiting .entry)) →
+        s .auth ≡ auth (now (sets .entry)) (now (arrivals .entry)) → fieldCame marks 0 ≡ true → sectionUnfit s time header ≡ false →
+        Gives (mackHalf s prn time marks header (now (mack .entry))) (r .code) (r .count)
+        (judging s (tesla (now (numbers .exit)) (now (heldkey .exit)) (now (waiting .exit))) (auth (now (sets .exit)) (now (arrivals .exit))))
+        (now (area .entry)) (now (area .exit)))
+        × (r .count ≤ 270) ⌝ }
 {
     let c = chain_of(config, chain);
     let slot = regions::held_slot(numbers);
@@ -261,10 +286,18 @@ pub fn mack_half(
     header: u8,
     mack: &[u8],
 ) -> Mack
-    requires { ⌜ ((length (now config) ≡ configLength) × (length (now words) ≡ wordsLength)) × ((length (now stamps) ≡ stampsLength) × (length (now mack) ≡ 60)) ⌝ }
-    requires { ⌜ ((length (now sets) ≡ setsLength) × (length (now arrivals) ≡ arrivalsLength)) × ((length (now waiting) ≡ waitingLength) × (length (now area) ≡ areaLength)) ⌝ }
+    requires { ⌜ ((length (now config) ≡ configLength) × (length (now words) ≡ wordsLength))
+        × ((length (now stamps) ≡ stampsLength) × (length (now mack) ≡ 60)) ⌝ }
+    requires { ⌜ ((length (now sets) ≡ setsLength) × (length (now arrivals) ≡ arrivalsLength))
+        × ((length (now waiting) ≡ waitingLength) × (length (now area) ≡ areaLength)) ⌝ }
     requires { ⌜ (length (now chain) ≡ chainLength) × ((length (now numbers) ≡ numbersLength) × (length (now heldkey) ≡ heldkeyLength)) ⌝ }
-    ensures { λ r. ⌜ ((s : State) → s .config ≡ now (config .entry) → s .nav ≡ nav (now (words .entry)) (now (stamps .entry)) → s .chain ≡ now (chain .entry) → s .tesla ≡ tesla (now (numbers .entry)) (now (heldkey .entry)) (now (waiting .entry)) → s .auth ≡ auth (now (sets .entry)) (now (arrivals .entry)) → Gives (mackHalf s prn time marks header (now (mack .entry))) (r .code) (r .count) (judging s (tesla (now (numbers .exit)) (now (heldkey .exit)) (now (waiting .exit))) (auth (now (sets .exit)) (now (arrivals .exit)))) (now (area .entry)) (now (area .exit))) × (r .count ≤ 270) ⌝ }
+    ensures { λ r. ⌜ ((s : State) → s .config ≡ now (config .entry) → s .nav ≡ nav (now (words .entry)) (now (stamps .entry)) → s .chain ≡ now (chain .entry) →
+        s .tesla ≡ tesla (now (numbers .entry)) (now (heldkey .entry)) (now (waiting .entry)) →
+        s .auth ≡ auth (now (sets .entry)) (now (arrivals .entry)) →
+        Gives (mackHalf s prn time marks header (now (mack .entry))) (r .code) (r .count)
+        (judging s (tesla (now (numbers .exit)) (now (heldkey .exit)) (now (waiting .exit))) (auth (now (sets .exit)) (now (arrivals .exit))))
+        (now (area .entry)) (now (area .exit)))
+        × (r .count ≤ 270) ⌝ }
 {
     if !received::field_came(marks, 0) {
         return Mack { code: 17, count: 0 };

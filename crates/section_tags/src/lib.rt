@@ -82,7 +82,8 @@ fn heard(prn: u8) -> usize
 // A tag without delay that matches the set under its block's key.
 fn prompt_match(c: Chain, key: &[u8; 273], first: bool, t: Tag, set: &[u8]) -> bool
     requires { ⌜ (c .ms ≤ 40) × (length (now set) ≡ copyLength) ⌝ }
-    ensures { λ r. ⌜ ((h : Held) → now (key .entry) ≡ blockKey c h (t .time) (t .block - 1) → 1 ≤ t .block → r ≡ (eqb (delayOf (t .adkd)) 0 && tagMatches c h first t (now (set .entry)))) ⌝ }
+    ensures { λ r. ⌜ ((h : Held) → now (key .entry) ≡ blockKey c h (t .time) (t .block - 1) → 1 ≤ t .block →
+        r ≡ (eqb (delayOf (t .adkd)) 0 && tagMatches c h first t (now (set .entry)))) ⌝ }
 {
     if times::delay_of(t.adkd) != 0 {
         return false;
@@ -104,9 +105,14 @@ fn outcome_of(
     set: &[u8],
     count: usize,
 ) -> u8
-    requires { ⌜ ((length (now config) ≡ configLength) × (length (now words) ≡ wordsLength)) × ((length (now stamps) ≡ stampsLength) × (length (now set) ≡ copyLength)) ⌝ }
+    requires { ⌜ ((length (now config) ≡ configLength) × (length (now words) ≡ wordsLength))
+        × ((length (now stamps) ≡ stampsLength) × (length (now set) ≡ copyLength)) ⌝ }
     requires { ⌜ ((c .ms ≤ 40) × (j < 14)) × ((1 ≤ p) × (p ≤ 36)) ⌝ }
-    ensures { λ r. ⌜ (r ≡ 5 → count < 256) × ((h : Held) → now (key .entry) ≡ blockKey c h (t .time) (t .block - 1) → 1 ≤ t .block → r ≡ outcomeBy (notAllowed (now (config .entry)) j t) (flexible (now (config .entry)) (t .time) j && not fits) (not (usable (nav (now (words .entry)) (now (stamps .entry))) p (t .time))) (eqb (delayOf (t .adkd)) 0 && tagMatches c h (eqb j 0) t (now (set .entry))) (eqb (delayOf (t .adkd)) 0) (ltb count 256)) ⌝ }
+    ensures { λ r. ⌜ (r ≡ 5 → count < 256)
+        × ((h : Held) → now (key .entry) ≡ blockKey c h (t .time) (t .block - 1) → 1 ≤ t .block →
+        r ≡ outcomeBy (notAllowed (now (config .entry)) j t) (flexible (now (config .entry)) (t .time) j && not fits)
+        (not (usable (nav (now (words .entry)) (now (stamps .entry))) p (t .time)))
+        (eqb (delayOf (t .adkd)) 0 && tagMatches c h (eqb j 0) t (now (set .entry))) (eqb (delayOf (t .adkd)) 0) (ltb count 256)) ⌝ }
 {
     let refused = tags::not_allowed(config, j, t);
     let unfit = bools::both(tags::flexible(config, t.time, j), !fits);
@@ -197,9 +203,11 @@ fn settle(
     area: &mut [u8],
     at: usize,
 ) -> usize
-    requires { ⌜ ((length (now sets) ≡ setsLength) × (length (now arrivals) ≡ arrivalsLength)) × ((length (now waiting) ≡ waitingLength) × (length (now area) ≡ areaLength)) ⌝ }
+    requires { ⌜ ((length (now sets) ≡ setsLength) × (length (now arrivals) ≡ arrivalsLength))
+        × ((length (now waiting) ≡ waitingLength) × (length (now area) ≡ areaLength)) ⌝ }
     requires { ⌜ ((length (now set) ≡ copyLength) × (at < 270)) × ((count ≤ 256) × (outcome ≡ 5 → count < 256)) ⌝ }
-    ensures { λ r. ⌜ Leaves (settled outcome t (now (set .entry)) (start count (now (sets .entry)) (now (arrivals .entry)))) count at (now (waiting .entry)) (now (area .entry)) (now (waiting .exit)) (now (sets .exit)) (now (arrivals .exit)) (now (area .exit)) r ⌝ }
+    ensures { λ r. ⌜ Leaves (settled outcome t (now (set .entry)) (start count (now (sets .entry)) (now (arrivals .entry)))) count at
+        (now (waiting .entry)) (now (area .entry)) (now (waiting .exit)) (now (sets .exit)) (now (arrivals .exit)) (now (area .exit)) r ⌝ }
 {
     tag_records::tell(outcome, t, set, sets, arrivals, area, at * 12);
     if outcome == 5 {
@@ -229,10 +237,17 @@ fn own_one(
     area: &mut [u8],
     at: usize,
 ) -> usize
-    requires { ⌜ ((length (now config) ≡ configLength) × (length (now words) ≡ wordsLength)) × ((length (now stamps) ≡ stampsLength) × (length (now mack) ≡ 60)) ⌝ }
-    requires { ⌜ ((length (now sets) ≡ setsLength) × (length (now arrivals) ≡ arrivalsLength)) × ((length (now waiting) ≡ waitingLength) × (length (now area) ≡ areaLength)) ⌝ }
+    requires { ⌜ ((length (now config) ≡ configLength) × (length (now words) ≡ wordsLength))
+        × ((length (now stamps) ≡ stampsLength) × (length (now mack) ≡ 60)) ⌝ }
+    requires { ⌜ ((length (now sets) ≡ setsLength) × (length (now arrivals) ≡ arrivalsLength))
+        × ((length (now waiting) ≡ waitingLength) × (length (now area) ≡ areaLength)) ⌝ }
     requires { ⌜ (Laid c × (j < c .nmack * c .fields)) × ((count ≤ 256) × (at < 270)) ⌝ }
-    ensures { λ r. ⌜ ((h : Held) → now (key .entry) ≡ blockKey c h time (j / c .fields) → fits ≡ macseqFits (now (config .entry)) c h (section prn time status (now (mack .entry))) → Leaves (ownJudged (now (config .entry)) (nav (now (words .entry)) (now (stamps .entry))) c h (section prn time status (now (mack .entry))) j (start count (now (sets .entry)) (now (arrivals .entry)))) count at (now (waiting .entry)) (now (area .entry)) (now (waiting .exit)) (now (sets .exit)) (now (arrivals .exit)) (now (area .exit)) r) ⌝ }
+    ensures { λ r. ⌜ ((h : Held) → now (key .entry) ≡ blockKey c h time (j / c .fields) →
+        fits ≡ macseqFits (now (config .entry)) c h (section prn time status (now (mack .entry))) →
+        Leaves
+        (ownJudged (now (config .entry)) (nav (now (words .entry)) (now (stamps .entry))) c h (section prn time status (now (mack .entry))) j
+        (start count (now (sets .entry)) (now (arrivals .entry)))) count at (now (waiting .entry)) (now (area .entry)) (now (waiting .exit))
+        (now (sets .exit)) (now (arrivals .exit)) (now (area .exit)) r) ⌝ }
 {
     let t = tags::own_tag(c, prn, time, status, mack, j);
     let p = heard(t.prn);
@@ -263,10 +278,18 @@ fn field_one(
     area: &mut [u8],
     at: usize,
 ) -> usize
-    requires { ⌜ ((length (now config) ≡ configLength) × (length (now words) ≡ wordsLength)) × ((length (now stamps) ≡ stampsLength) × (length (now mack) ≡ 60)) ⌝ }
-    requires { ⌜ ((length (now sets) ≡ setsLength) × (length (now arrivals) ≡ arrivalsLength)) × ((length (now waiting) ≡ waitingLength) × (length (now area) ≡ areaLength)) ⌝ }
+    requires { ⌜ ((length (now config) ≡ configLength) × (length (now words) ≡ wordsLength))
+        × ((length (now stamps) ≡ stampsLength) × (length (now mack) ≡ 60)) ⌝ }
+    requires { ⌜ ((length (now sets) ≡ setsLength) × (length (now arrivals) ≡ arrivalsLength))
+        × ((length (now waiting) ≡ waitingLength) × (length (now area) ≡ areaLength)) ⌝ }
     requires { ⌜ ((Laid c × KeysFit c) × (j < c .nmack * c .fields)) × ((count ≤ 256) × (at < 270)) ⌝ }
-    ensures { λ r. ⌜ ((h : Held) → now (key .entry) ≡ blockKey c h time (j / c .fields) → fits ≡ macseqFits (now (config .entry)) c h (section prn time status (now (mack .entry))) → macseq ≡ macseqCame (now (config .entry)) c time marks → Leaves (fieldJudged (now (config .entry)) (nav (now (words .entry)) (now (stamps .entry))) c h (section prn time status (now (mack .entry))) marks j (start count (now (sets .entry)) (now (arrivals .entry)))) count at (now (waiting .entry)) (now (area .entry)) (now (waiting .exit)) (now (sets .exit)) (now (arrivals .exit)) (now (area .exit)) r) ⌝ }
+    ensures { λ r. ⌜ ((h : Held) → now (key .entry) ≡ blockKey c h time (j / c .fields) →
+        fits ≡ macseqFits (now (config .entry)) c h (section prn time status (now (mack .entry))) →
+        macseq ≡ macseqCame (now (config .entry)) c time marks →
+        Leaves
+        (fieldJudged (now (config .entry)) (nav (now (words .entry)) (now (stamps .entry))) c h (section prn time status (now (mack .entry))) marks j
+        (start count (now (sets .entry)) (now (arrivals .entry)))) count at (now (waiting .entry)) (now (area .entry)) (now (waiting .exit))
+        (now (sets .exit)) (now (arrivals .exit)) (now (area .exit)) r) ⌝ }
 {
     if field_lost(config, c, time, mack, marks, macseq, j) {
         let t = tags::lost_tag(c, prn, time, status, mack, marks, j);
@@ -326,10 +349,19 @@ pub fn judge_own(
     area: &mut [u8],
     at: usize,
 ) -> usize
-    requires { ⌜ ((length (now config) ≡ configLength) × (length (now words) ≡ wordsLength)) × ((length (now stamps) ≡ stampsLength) × (length (now mack) ≡ 60)) ⌝ }
-    requires { ⌜ ((length (now sets) ≡ setsLength) × (length (now arrivals) ≡ arrivalsLength)) × ((length (now waiting) ≡ waitingLength) × (length (now area) ≡ areaLength)) ⌝ }
+    requires { ⌜ ((length (now config) ≡ configLength) × (length (now words) ≡ wordsLength))
+        × ((length (now stamps) ≡ stampsLength) × (length (now mack) ≡ 60)) ⌝ }
+    requires { ⌜ ((length (now sets) ≡ setsLength) × (length (now arrivals) ≡ arrivalsLength))
+        × ((length (now waiting) ≡ waitingLength) × (length (now area) ≡ areaLength)) ⌝ }
     requires { ⌜ (Walks c × (Laid c × KeysFit c)) × ((slot < 2 ^ 34) × ((count ≤ 256) × (at + c .nmack * c .fields ≤ 270))) ⌝ }
-    ensures { λ r. ⌜ Leaves (fieldsJudged (now (config .entry)) (nav (now (words .entry)) (now (stamps .entry))) c (held slot (take (c .width) known)) (section prn time status (now (mack .entry))) marks (c .nmack * c .fields) (start count (now (sets .entry)) (now (arrivals .entry)))) count at (now (waiting .entry)) (now (area .entry)) (now (waiting .exit)) (now (sets .exit)) (now (arrivals .exit)) (now (area .exit)) r × Grows (fieldsJudged (now (config .entry)) (nav (now (words .entry)) (now (stamps .entry))) c (held slot (take (c .width) known)) (section prn time status (now (mack .entry))) marks (c .nmack * c .fields) (start count (now (sets .entry)) (now (arrivals .entry)))) count (c .nmack * c .fields) r ⌝ }
+    ensures { λ r. ⌜ Leaves
+        (fieldsJudged (now (config .entry)) (nav (now (words .entry)) (now (stamps .entry))) c (held slot (take (c .width) known))
+        (section prn time status (now (mack .entry))) marks (c .nmack * c .fields) (start count (now (sets .entry)) (now (arrivals .entry)))) count at
+        (now (waiting .entry)) (now (area .entry)) (now (waiting .exit)) (now (sets .exit)) (now (arrivals .exit)) (now (area .exit)) r
+        × Grows
+        (fieldsJudged (now (config .entry)) (nav (now (words .entry)) (now (stamps .entry))) c (held slot (take (c .width) known))
+        (section prn time status (now (mack .entry))) marks (c .nmack * c .fields) (start count (now (sets .entry)) (now (arrivals .entry)))) count
+        (c .nmack * c .fields) r ⌝ }
 {
     let n = (c.nmack * c.fields) as usize;
     let mut key = [0u8; 273];
