@@ -12,9 +12,9 @@ ghost use lib.ListN.{length, take};
 ghost use Rattle.rules.specs.Bits.{filled};
 ghost use Rattle.rules.specs.Calls.{sectionUnfit, mackHalf};
 ghost use Rattle.rules.specs.Chain.{held};
-ghost use Rattle.rules.specs.Kroot.{inForce, chainWith, chainContents};
+ghost use Rattle.rules.specs.Kroot.{inForce};
 ghost use Rattle.rules.specs.Received.{fieldCame, keysReceived, fieldsJudged};
-ghost use Rattle.rules.specs.State.{State, nsOf, configLength, chainLength, numbersLength, heldkeyLength, waitingLength, areaLength, setsLength, stampsLength, wordsLength, arrivalsLength};
+ghost use Rattle.rules.specs.State.{State, configLength, chainLength, numbersLength, heldkeyLength, waitingLength, areaLength, setsLength, stampsLength, wordsLength, arrivalsLength};
 ghost use Rattle.rules.specs.Tags.{duesJudged};
 ghost use Rattle.authentic_sets.specs.Regions.{auth};
 ghost use Rattle.chain.specs.Sound.{Sound, Met};
@@ -24,38 +24,7 @@ ghost use Rattle.tags.specs.Layout.{Laid, section};
 ghost use Rattle.mack_keys.specs.Keys.{Hands};
 ghost use Rattle.mack_half.specs.Half.{tesla, judging, Gives};
 
-// ---- the chain and the held key
-
-// The numbers of the chain in force.
-fn chain_of(config: &[u8], chain: &[u8]) -> Chain
-    requires { ⌜ (length (now config) ≡ configLength) × (length (now chain) ≡ chainLength) ⌝ }
-    ensures { λ r. ⌜ (r ≡ chainWith (nsOf (now (config .entry))) (chainContents (now (chain .entry))))
-        × (inForce (now (config .entry)) (now (chain .entry)) ≡ true → Sound r × Laid r) ⌝ }
-{
-    kroot::chain_with(regions::ns_of(config), &chain[1..45])
-}
-
-// Row 11: no chain, status 0 or 3, other CID, or before sub-frame 0.
-fn section_unfit(config: &[u8], chain: &[u8], time: u32, header: u8) -> bool
-    requires { ⌜ (length (now config) ≡ configLength) × (length (now chain) ≡ chainLength) ⌝ }
-    ensures { λ r. ⌜ ((s : State) → s .config ≡ now (config .entry) → s .chain ≡ now (chain .entry) → r ≡ sectionUnfit s time header)
-        × (r ≡ false → inForce (now (config .entry)) (now (chain .entry)) ≡ true) ⌝ }
-{
-    if !kroot::in_force(config, chain) {
-        return true;
-    }
-    let status = gather::status_of(header);
-    if status < 1 {
-        return true;
-    }
-    if 2 < status {
-        return true;
-    }
-    if kroot::cidkr(&chain[1..45]) != gather::cid_of(header) {
-        return true;
-    }
-    times::seconds_of(time) < kroot::root_seconds(&chain[1..45])
-}
+// ---- the held key
 
 // The held key in its first bytes, zeros after it.
 fn held_key(heldkey: &[u8], width: usize) -> [u8; 32]
@@ -217,7 +186,7 @@ fn judge_section(
         (now (area .entry)) (now (area .exit)))
         × (r .count ≤ 270) ⌝ }
 {
-    let c = chain_of(config, chain);
+    let c = section_checks::chain_of(config, chain);
     let slot = regions::held_slot(numbers);
     let n = regions::waiting_count(numbers);
     let mut key = held_key(heldkey, c.width);
@@ -302,7 +271,7 @@ pub fn mack_half(
     if !received::field_came(marks, 0) {
         return Mack { code: 17, count: 0 };
     }
-    if section_unfit(config, chain, time, header) {
+    if section_checks::section_unfit(config, chain, time, header) {
         return Mack { code: 11, count: 0 };
     }
     judge_section(
