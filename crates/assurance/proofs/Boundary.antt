@@ -9,7 +9,7 @@ use borrow.Fn.Kinds.{Dens, endedOf}
 use denote.Triple.Clauses.{AtExit}
 use denote.Ref.{now}
 use Rattle.regions.specs.Told.{told}
-use Rattle.call_subframe.specs.Told.{subframeTold, subframe}
+use Rattle.regions.specs.Told.{subframeTold, subframe}
 use Rattle.call_reads.specs.Reads.{setTold, offerTold}
 use Rattle.rules.specs.Calls.{startCall, wordCall, subframeCall, verdictCall, setRead, offerRead}
 use Rattle.rules.specs.State.{State, state, setLent, offerLent}

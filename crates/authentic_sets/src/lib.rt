@@ -14,7 +14,8 @@ ghost use Rattle.authentic_sets.specs.Regions.{auth};
 pub fn enter_set(sets: &mut [u8], arrivals: &mut [u32], t: Tag, set: &[u8])
     requires { ⌜ ((length (now sets) ≡ setsLength) × (length (now arrivals) ≡ arrivalsLength)) × (length (now set) ≡ copyLength) ⌝ }
     requires { ⌜ ((1 ≤ t .prn) × (t .prn ≤ 36)) × (t .time < 4294967295) ⌝ }
-    ensures { λ _. ⌜ (now (sets .exit) ≡ setsEntered (now (sets .entry)) (now (arrivals .entry)) t (now (set .entry))) × (now (arrivals .exit) ≡ arrivalsEntered (now (arrivals .entry)) t) ⌝ }
+    ensures { λ _. ⌜ (now (sets .exit) ≡ setsEntered (now (sets .entry)) (now (arrivals .entry)) t (now (set .entry)))
+        × (now (arrivals .exit) ≡ arrivalsEntered (now (arrivals .entry)) t) ⌝ }
 {
     let stamp = t.time + 1;
     let prn = t.prn;

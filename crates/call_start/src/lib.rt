@@ -22,7 +22,11 @@ ghost use Rattle.call_start_parts.specs.Blank.{settings, noWords, noBlocks, noT
 // The number that refuses a start, or 0; `fits` says that every lent length is right. It does not depend on MACLT, root and key.
 pub fn start_refusal(fits: bool, ns: u8, id: u8, kind: u8, marks: &[u8]) -> u32
     requires { ⌜ (fits ≡ true → length (now marks) ≡ 28) ⌝ }
-    ensures { λ r. ⌜ ((s : State) (maclt : ℕ) (root key : List ℕ) → (shaped s && startLengths (record { ns = ns; id = id; type = kind; maclt = maclt; marks = now (marks .entry); root = root; key = key })) ≡ fits → r ≡ firstOf (startChecks s (record { ns = ns; id = id; type = kind; maclt = maclt; marks = now (marks .entry); root = root; key = key }))) × (r ≡ 0 → (fits ≡ true) × ((id < 16) × (kind < 4))) ⌝ }
+    ensures { λ r. ⌜ ((s : State) (maclt : ℕ) (root key : List ℕ) →
+        (shaped s && startLengths (record { ns = ns; id = id; type = kind; maclt = maclt; marks = now (marks .entry); root = root; key = key }))
+        ≡ fits →
+        r ≡ firstOf (startChecks s (record { ns = ns; id = id; type = kind; maclt = maclt; marks = now (marks .entry); root = root; key = key })))
+        × (r ≡ 0 → (fits ≡ true) × ((id < 16) × (kind < 4))) ⌝ }
 {
     if !fits {
         return 1;
@@ -50,10 +54,15 @@ pub fn install_settings(
     marks: &[u8],
     root: &[u8],
 )
-    requires { ⌜ ((length (now config) ≡ configLength) × (length (now clocks) ≡ clocksLength)) × ((length (now words) ≡ wordsLength) × (length (now stamps) ≡ stampsLength)) ⌝ }
-    requires { ⌜ ((length (now blocks) ≡ blocksLength) × (length (now headers) ≡ dsmIds)) × ((length (now present) ≡ dsmIds) × (length (now since) ≡ dsmIds)) ⌝ }
+    requires { ⌜ ((length (now config) ≡ configLength) × (length (now clocks) ≡ clocksLength))
+        × ((length (now words) ≡ wordsLength) × (length (now stamps) ≡ stampsLength)) ⌝ }
+    requires { ⌜ ((length (now blocks) ≡ blocksLength) × (length (now headers) ≡ dsmIds))
+        × ((length (now present) ≡ dsmIds) × (length (now since) ≡ dsmIds)) ⌝ }
     requires { ⌜ (length (now marks) ≡ 28) × (length (now root) ≡ 32) ⌝ }
-    ensures { λ _. ⌜ ((now (config .exit) ≡ settings ns maclt (now (marks .entry)) (now (root .entry))) × (now (clocks .exit) ≡ replicate clocksLength 0)) × ((nav (now (words .exit)) (now (stamps .exit)) ≡ noWords) × (store (now (blocks .exit)) (now (headers .exit)) (now (present .exit)) (now (since .exit)) ≡ noBlocks)) ⌝ }
+    ensures { λ _. ⌜ ((now (config .exit) ≡ settings ns maclt (now (marks .entry)) (now (root .entry)))
+        × (now (clocks .exit) ≡ replicate clocksLength 0))
+        × ((nav (now (words .exit)) (now (stamps .exit)) ≡ noWords)
+        × (store (now (blocks .exit)) (now (headers .exit)) (now (present .exit)) (now (since .exit)) ≡ noBlocks)) ⌝ }
 {
     call_start_parts::set_config(config, ns, maclt, marks, root);
     call_start_parts::clear_signal(clocks, words, stamps);
@@ -78,7 +87,10 @@ pub fn install_key(
     requires { ⌜ (length (now numbers) ≡ numbersLength) × ((length (now heldkey) ≡ heldkeyLength) × (length (now waiting) ≡ waitingLength)) ⌝ }
     requires { ⌜ (length (now sets) ≡ setsLength) × (length (now arrivals) ≡ arrivalsLength) ⌝ }
     requires { ⌜ (length (now pubkey) ≡ 67) × ((id < 16) × (kind < 4)) ⌝ }
-    ensures { λ _. ⌜ ((now (pubkeys .exit) ≡ withKey (replicate pubkeysLength 0) id kind (take (keyLength kind) (now (pubkey .entry)))) × ((now (offer .exit) ≡ noOffer) × (now (chain .exit) ≡ replicate chainLength 0))) × ((tesla (now (numbers .exit)) (now (heldkey .exit)) (now (waiting .exit)) ≡ noTags) × (auth (now (sets .exit)) (now (arrivals .exit)) ≡ noSets)) ⌝ }
+    ensures { λ _. ⌜ ((now (pubkeys .exit) ≡ withKey (replicate pubkeysLength 0) id kind (take (keyLength kind) (now (pubkey .entry))))
+        × ((now (offer .exit) ≡ noOffer) × (now (chain .exit) ≡ replicate chainLength 0)))
+        × ((tesla (now (numbers .exit)) (now (heldkey .exit)) (now (waiting .exit)) ≡ noTags)
+        × (auth (now (sets .exit)) (now (arrivals .exit)) ≡ noSets)) ⌝ }
 {
     call_start_parts::hold_key(pubkeys, id, kind, pubkey);
     call_start_parts::clear_message(offer, chain);

@@ -26,7 +26,9 @@ ghost use Rattle.call_start_parts.specs.Blank.{settings, noWords, noBloc
 // NS, key ID, key type or a mark out of range.
 pub fn start_unfit(ns: u8, id: u8, kind: u8, marks: &[u8]) -> bool
     requires { ⌜ length (now marks) ≡ 28 ⌝ }
-    ensures { λ r. ⌜ ((maclt : ℕ) (root key : List ℕ) → r ≡ startUnfit (record { ns = ns; id = id; type = kind; maclt = maclt; marks = now (marks .entry); root = root; key = key })) × (r ≡ false → (id < 16) × (kind < 4)) ⌝ }
+    ensures { λ r. ⌜ ((maclt : ℕ) (root key : List ℕ) →
+        r ≡ startUnfit (record { ns = ns; id = id; type = kind; maclt = maclt; marks = now (marks .entry); root = root; key = key }))
+        × (r ≡ false → (id < 16) × (kind < 4)) ⌝ }
 {
     if ns < 1 {
         return true;
@@ -46,7 +48,8 @@ pub fn start_unfit(ns: u8, id: u8, kind: u8, marks: &[u8]) -> bool
 // A mark is out of range, or the first of a list is not 0.
 fn marks_unfit(marks: &[u8]) -> bool
     requires { ⌜ length (now marks) ≡ 28 ⌝ }
-    ensures { λ r. ⌜ r ≡ (not (marksValid (now (marks .entry)) 28) || (neb (getD (now (marks .entry)) 0 0) 0 || (neb (getD (now (marks .entry)) 14 0) 0 || false))) ⌝ }
+    ensures { λ r. ⌜ r ≡ (not (marksValid (now (marks .entry)) 28) ||
+        (neb (getD (now (marks .entry)) 0 0) 0 || (neb (getD (now (marks .entry)) 14 0) 0 || false))) ⌝ }
 {
     if !marks_valid(marks) {
         return true;
@@ -107,7 +110,8 @@ pub fn clear_signal(clocks: &mut [u32], words: &mut [u8], stamps: &mut [u32])
 
 // No DSM block is held.
 pub fn clear_blocks(blocks: &mut [u8], headers: &mut [u8], present: &mut [u16], since: &mut [u32])
-    requires { ⌜ ((length (now blocks) ≡ blocksLength) × (length (now headers) ≡ dsmIds)) × ((length (now present) ≡ dsmIds) × (length (now since) ≡ dsmIds)) ⌝ }
+    requires { ⌜ ((length (now blocks) ≡ blocksLength) × (length (now headers) ≡ dsmIds))
+        × ((length (now present) ≡ dsmIds) × (length (now since) ≡ dsmIds)) ⌝ }
     ensures { λ _. ⌜ store (now (blocks .exit)) (now (headers .exit)) (now (present .exit)) (now (since .exit)) ≡ noBlocks ⌝ }
 {
     buffer::fill(blocks, 0, regions::BLOCKS_LENGTH, 0);

@@ -1,24 +1,23 @@
 -- The sub-frame call by its cases: refused in both halves, zero bytes alone, an emergency message, or both halves done.
 -- Assumes nothing.
 use mathlib.Core.Path.{_≡_, refl}
-use mathlib.Core.Bool.{true, false, _&&_, _||_}
+use mathlib.Core.Bool.{true, false, _&&_}
 use mathlib.Core.List.{List}
 use Prim.Native.Nat.{ℕ, zero, suc, _*_, _/_}
 use native.Mathlib.Omega.{arith}
-use lib.Dec.{leb, ltb, eqb}
-use lib.ListN.{length, set, replicate}
+use lib.Dec.{eqb}
+use lib.ListN.{length, set}
 use borrow.Author.Tests.{ne-eqb}
-use Rattle.laws.specs.Lists.{splice, same}
-use Rattle.laws.specs.Refusal.{firstOf, neb}
+use Rattle.laws.specs.Lists.{splice}
+use Rattle.laws.specs.Refusal.{firstOf}
 use Rattle.rules.specs.Calls.{Subframe, SubframeTold, MackDone, subframeChecks, noted, fieldsOf, hkrootReceived, mackHalf, halvesDone, subframeCall}
 use Rattle.rules.specs.Gather.{hkrootOf, mackOf, headerOf}
-use Rattle.rules.specs.Received.{fieldsCame}
-use Rattle.rules.specs.State.{State, shaped, stopped, lastSubframe, lastSubframeOf, prnValid, withClocks, areaLength}
-use Rattle.rules.specs.Times.{stampOf, timeValid}
+use Rattle.rules.specs.State.{State, shaped, withClocks, areaLength}
+use Rattle.rules.specs.Times.{stampOf}
 use Rattle.hkroot_half.specs.Done.{done}
 use Rattle.hkroot_half.specs.declared.Half.{Half}
 use Rattle.mack_half.specs.Half.{Gives}
-use Rattle.call_subframe.specs.Told.{subframeTold}
+use Rattle.regions.specs.Told.{subframeTold}
 
 module _ (s : State) (area : List ℕ) (x : Subframe) where
   abbrev code : ℕ
@@ -62,38 +61,7 @@ module _ (s : State) (area : List ℕ) (x : Subframe) where
           → subframeTold c n count s'' area′ ≡ record { hkroot = c; mack = m .code; count = length (m .records) / 12; state = m .state; area = splice area 0 (m .records) }
       told-by c m n count s'' area′ g = rw (g .code-is, g .state-is, g .area-is, ← (times-twelve (length (m .records)) count (g .count-is)))
 
--- ---- the checks by their cases
-
 -- a wrong length
 pub unshaped : (s : State) (area : List ℕ) (x : Subframe) → (shaped s && (eqb (length area) areaLength && eqb (length (x .bytes)) 75)) ≡ false → subframeTold 1 1 0 s area ≡ subframeCall s area x
 unfolding subframeChecks
 unshaped s area x e = refused s area x 1 (λ z. absurd (omega (arith, z))) (λ z. absurd (omega (arith, z))) (rw e)
-
-module _ (s : State) (area : List ℕ) (x : Subframe) (e : (shaped s && (eqb (length area) areaLength && eqb (length (x .bytes)) 75)) ≡ true) where
-  pub no-prn : prnValid (x .prn) ≡ false → 2 ≡ firstOf (subframeChecks s area x)
-  unfolding subframeChecks
-  no-prn p = rw (e, p)
-
-  module _ (p : prnValid (x .prn) ≡ true) where
-    pub no-time : timeValid (x .time) ≡ false → 2 ≡ firstOf (subframeChecks s area x)
-    unfolding subframeChecks
-    no-time t = rw (e, p, t)
-
-    module _ (t : timeValid (x .time) ≡ true) where
-      pub is-stopped : stopped (s .config) ≡ true → 4 ≡ firstOf (subframeChecks s area x)
-      unfolding subframeChecks
-      is-stopped k = rw (e, p, t, k)
-
-      module _ (k : stopped (s .config) ≡ false) where
-        pub not-later : (ltb (stampOf (x .time)) (lastSubframe (s .clocks)) || leb (stampOf (x .time)) (lastSubframeOf (s .clocks) (x .prn))) ≡ true → 3 ≡ firstOf (subframeChecks s area x)
-        unfolding subframeChecks
-        not-later o = rw (e, p, t, k, o)
-
-        module _ (o : (ltb (stampOf (x .time)) (lastSubframe (s .clocks)) || leb (stampOf (x .time)) (lastSubframeOf (s .clocks) (x .prn))) ≡ false) where
-          pub zeros : (neb (fieldsCame (x .marks) 15) 0 && same (fieldsOf x) (replicate 75 0)) ≡ true → 5 ≡ firstOf (subframeChecks s area x)
-          unfolding subframeChecks
-          zeros z = rw (e, p, t, k, o, z)
-
-          pub passes : (neb (fieldsCame (x .marks) 15) 0 && same (fieldsOf x) (replicate 75 0)) ≡ false → 0 ≡ firstOf (subframeChecks s area x)
-          unfolding subframeChecks
-          passes z = rw (e, p, t, k, o, z)

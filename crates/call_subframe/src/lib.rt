@@ -1,77 +1,21 @@
 // The call that lends the authentication fields of a sub-frame (01, "HKROOT", "MACK"; "Checks go 1, 2, 4, 3, 5"), past the check of lengths.
 //   take_subframe       the call: 2, 4, 3 or 5 for both halves, or the time is noted and both halves are done
-//   subframe_refusal    the number that refuses both halves, or 0
 ghost use mathlib.Core.Path.{_≡_};
-ghost use mathlib.Core.Bool.{true, _&&_, _||_};
+ghost use mathlib.Core.Bool.{true};
 ghost use mathlib.Core.List.{List};
-ghost use Prim.Native.Nat.{ℕ, _≤_, _<_};
-ghost use lib.Dec.{eqb, ltb, leb};
-ghost use lib.ListN.{length, replicate};
-ghost use Rattle.laws.specs.Lists.{same};
-ghost use Rattle.laws.specs.Refusal.{firstOf, neb};
+ghost use Prim.Native.Nat.{ℕ};
+ghost use lib.ListN.{length};
 ghost use Rattle.gather.specs.Store.{Lent};
-ghost use Rattle.rules.specs.Calls.{subframeChecks, halvesDone, subframeCall};
-ghost use Rattle.rules.specs.Received.{fieldsCame, received};
-ghost use Rattle.rules.specs.State.{State, state, shaped, lastSubframe, lastSubframeOf, configLength, clocksLength, areaLength, chainLength, heldkeyLength, numbersLength, offerLength, pubkeysLength, setsLength, stampsLength, waitingLength, wordsLength, arrivalsLength};
-ghost use Rattle.rules.specs.Times.{stampOf};
-ghost use Rattle.call_subframe.specs.Told.{subframeTold, subframe};
+ghost use Rattle.rules.specs.Calls.{halvesDone, subframeCall};
+ghost use Rattle.rules.specs.Received.{received};
+ghost use Rattle.rules.specs.State.{state, shaped, configLength, areaLength, chainLength, heldkeyLength, numbersLength, offerLength, pubkeysLength, setsLength, stampsLength, waitingLength, wordsLength, arrivalsLength};
+ghost use Rattle.regions.specs.Told.{subframeTold, subframe};
 
 // What the call gives: a number for each half, and how many tag records were written.
 pub struct Halves {
     pub hkroot: u32,
     pub mack: u32,
     pub count: u32,
-}
-
-// ---- what refuses both halves
-
-// Row 3: earlier than the last sub-frame, or not later for its PRN.
-fn out_of_order(clocks: &[u32], prn: u8, time: u32) -> bool
-    requires { ⌜ (length (now clocks) ≡ clocksLength) × (prn ≤ 36) ⌝ }
-    ensures { λ r. ⌜ r ≡ (ltb (stampOf time) (lastSubframe (now (clocks .entry))) || leb (stampOf time) (lastSubframeOf (now (clocks .entry)) prn)) ⌝ }
-{
-    let early = regions::later(regions::last_subframe(clocks), time);
-    let again = regions::reached(regions::last_subframe_of(clocks, prn), time);
-    bools::either(early, again)
-}
-
-// Row 5: fields came, and nothing but zero bytes in them.
-fn zero_fields(marks: u16, fields: &[u8]) -> bool
-    ensures { λ r. ⌜ r ≡ (neb (fieldsCame marks 15) 0 && same (now (fields .entry)) (replicate 75 0)) ⌝ }
-{
-    let zeros = [0u8; 75];
-    let zero = buffer::equal(fields, &zeros);
-    bools::both(received::fields_came(marks) != 0, zero)
-}
-
-// The number that refuses a sub-frame whose lengths are right: 2, 4, 3, 5, or 0. `fields` are the fields as they came.
-fn subframe_refusal(
-    config: &[u8],
-    clocks: &[u32],
-    prn: u8,
-    time: u32,
-    marks: u16,
-    fields: &[u8],
-) -> u32
-    requires { ⌜ (length (now config) ≡ configLength) × (length (now clocks) ≡ clocksLength) ⌝ }
-    ensures { λ r. ⌜ ((s : State) (area lent : List ℕ) → s .config ≡ now (config .entry) → s .clocks ≡ now (clocks .entry) → now (fields .entry) ≡ received marks lent 15 → (shaped s && (eqb (length area) areaLength && eqb (length lent) 75)) ≡ true → r ≡ firstOf (subframeChecks s area (subframe prn time marks lent))) × ((r ≡ 0 → ((1 ≤ prn) × (prn ≤ 36)) × (time < 4294967295)) × (r ≡ 5 → ((1 ≤ prn) × (prn ≤ 36)) × (time < 4294967295))) ⌝ }
-{
-    if !regions::prn_valid(prn) {
-        return 2;
-    }
-    if !times::time_valid(time) {
-        return 2;
-    }
-    if regions::stopped(config) {
-        return 4;
-    }
-    if out_of_order(clocks, prn, time) {
-        return 3;
-    }
-    if zero_fields(marks, fields) {
-        return 5;
-    }
-    0
 }
 
 // ---- both halves
@@ -99,11 +43,23 @@ fn both_halves(
     marks: u16,
     fields: &[u8],
 ) -> Halves
-    requires { ⌜ Lent (now blocks) (now headers) (now present) (now since) × ((length (now config) ≡ configLength) × ((length (now pubkeys) ≡ pubkeysLength) × (length (now offer) ≡ offerLength))) ⌝ }
-    requires { ⌜ ((length (now words) ≡ wordsLength) × (length (now stamps) ≡ stampsLength)) × ((length (now chain) ≡ chainLength) × ((length (now numbers) ≡ numbersLength) × (length (now heldkey) ≡ heldkeyLength))) ⌝ }
-    requires { ⌜ ((length (now sets) ≡ setsLength) × (length (now arrivals) ≡ arrivalsLength)) × ((length (now waiting) ≡ waitingLength) × (length (now area) ≡ areaLength)) ⌝ }
+    requires { ⌜ Lent (now blocks) (now headers) (now present) (now since)
+        × ((length (now config) ≡ configLength) × ((length (now pubkeys) ≡ pubkeysLength) × (length (now offer) ≡ offerLength))) ⌝ }
+    requires { ⌜ ((length (now words) ≡ wordsLength) × (length (now stamps) ≡ stampsLength))
+        × ((length (now chain) ≡ chainLength) × ((length (now numbers) ≡ numbersLength) × (length (now heldkey) ≡ heldkeyLength))) ⌝ }
+    requires { ⌜ ((length (now sets) ≡ setsLength) × (length (now arrivals) ≡ arrivalsLength))
+        × ((length (now waiting) ≡ waitingLength) × (length (now area) ≡ areaLength)) ⌝ }
     requires { ⌜ length (now fields) ≡ 75 ⌝ }
-    ensures { λ r. ⌜ ((clocks lent : List ℕ) → now (fields .entry) ≡ received marks lent 15 → subframeTold (r .hkroot) (r .mack) (r .count) (state (now (config .exit)) clocks (now (words .entry)) (now (stamps .entry)) (now (blocks .exit)) (now (headers .exit)) (now (present .exit)) (now (since .exit)) (now (pubkeys .exit)) (now (offer .exit)) (now (chain .entry)) (now (numbers .exit)) (now (heldkey .exit)) (now (waiting .exit)) (now (sets .exit)) (now (arrivals .exit))) (now (area .exit)) ≡ halvesDone (state (now (config .entry)) clocks (now (words .entry)) (now (stamps .entry)) (now (blocks .entry)) (now (headers .entry)) (now (present .entry)) (now (since .entry)) (now (pubkeys .entry)) (now (offer .entry)) (now (chain .entry)) (now (numbers .entry)) (now (heldkey .entry)) (now (waiting .entry)) (now (sets .entry)) (now (arrivals .entry))) (now (area .entry)) (subframe prn time marks lent)) ⌝ }
+    ensures { λ r. ⌜ ((clocks lent : List ℕ) → now (fields .entry) ≡ received marks lent 15 →
+        subframeTold (r .hkroot) (r .mack) (r .count)
+        (state (now (config .exit)) clocks (now (words .entry)) (now (stamps .entry)) (now (blocks .exit)) (now (headers .exit)) (now (present .exit))
+        (now (since .exit)) (now (pubkeys .exit)) (now (offer .exit)) (now (chain .entry)) (now (numbers .exit)) (now (heldkey .exit))
+        (now (waiting .exit)) (now (sets .exit)) (now (arrivals .exit))) (now (area .exit))
+        ≡ halvesDone
+        (state (now (config .entry)) clocks (now (words .entry)) (now (stamps .entry)) (now (blocks .entry)) (now (headers .entry))
+        (now (present .entry)) (now (since .entry)) (now (pubkeys .entry)) (now (offer .entry)) (now (chain .entry)) (now (numbers .entry))
+        (now (heldkey .entry)) (now (waiting .entry)) (now (sets .entry)) (now (arrivals .entry))) (now (area .entry))
+        (subframe prn time marks lent)) ⌝ }
 {
     let hk = gather::hkroot_of(fields);
     let mack = gather::mack_of(fields);
@@ -175,11 +131,23 @@ pub fn take_subframe(
     marks: u16,
     bytes: &[u8],
 ) -> Halves
-    requires { ⌜ (shaped (state (now config) (now clocks) (now words) (now stamps) (now blocks) (now headers) (now present) (now since) (now pubkeys) (now offer) (now chain) (now numbers) (now heldkey) (now waiting) (now sets) (now arrivals)) ≡ true) × ((length (now area) ≡ areaLength) × (length (now bytes) ≡ 75)) ⌝ }
-    ensures { λ r. ⌜ subframeTold (r .hkroot) (r .mack) (r .count) (state (now (config .exit)) (now (clocks .exit)) (now (words .entry)) (now (stamps .entry)) (now (blocks .exit)) (now (headers .exit)) (now (present .exit)) (now (since .exit)) (now (pubkeys .exit)) (now (offer .exit)) (now (chain .entry)) (now (numbers .exit)) (now (heldkey .exit)) (now (waiting .exit)) (now (sets .exit)) (now (arrivals .exit))) (now (area .exit)) ≡ subframeCall (state (now (config .entry)) (now (clocks .entry)) (now (words .entry)) (now (stamps .entry)) (now (blocks .entry)) (now (headers .entry)) (now (present .entry)) (now (since .entry)) (now (pubkeys .entry)) (now (offer .entry)) (now (chain .entry)) (now (numbers .entry)) (now (heldkey .entry)) (now (waiting .entry)) (now (sets .entry)) (now (arrivals .entry))) (now (area .entry)) (subframe prn time marks (now (bytes .entry))) ⌝ }
+    requires { ⌜ (shaped
+        (state (now config) (now clocks) (now words) (now stamps) (now blocks) (now headers) (now present) (now since) (now pubkeys) (now offer)
+        (now chain) (now numbers) (now heldkey) (now waiting) (now sets) (now arrivals))
+        ≡ true)
+        × ((length (now area) ≡ areaLength) × (length (now bytes) ≡ 75)) ⌝ }
+    ensures { λ r. ⌜ subframeTold (r .hkroot) (r .mack) (r .count)
+        (state (now (config .exit)) (now (clocks .exit)) (now (words .entry)) (now (stamps .entry)) (now (blocks .exit)) (now (headers .exit))
+        (now (present .exit)) (now (since .exit)) (now (pubkeys .exit)) (now (offer .exit)) (now (chain .entry)) (now (numbers .exit))
+        (now (heldkey .exit)) (now (waiting .exit)) (now (sets .exit)) (now (arrivals .exit))) (now (area .exit))
+        ≡ subframeCall
+        (state (now (config .entry)) (now (clocks .entry)) (now (words .entry)) (now (stamps .entry)) (now (blocks .entry)) (now (headers .entry))
+        (now (present .entry)) (now (since .entry)) (now (pubkeys .entry)) (now (offer .entry)) (now (chain .entry)) (now (numbers .entry))
+        (now (heldkey .entry)) (now (waiting .entry)) (now (sets .entry)) (now (arrivals .entry))) (now (area .entry))
+        (subframe prn time marks (now (bytes .entry))) ⌝ }
 {
     let fields = received::received(marks, bytes);
-    let code = subframe_refusal(config, clocks, prn, time, marks, &fields);
+    let code = subframe_checks::subframe_refusal(config, clocks, prn, time, marks, &fields);
     if code == 5 {
         regions::note_subframe(clocks, prn, time);
         return Halves {

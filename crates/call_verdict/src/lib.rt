@@ -33,7 +33,10 @@ pub fn judge_verdict(
     message: &[u8],
     signature: &[u8],
 ) -> u32
-    requires { ⌜ (((length (now config) ≡ configLength) × (length (now pubkeys) ≡ pubkeysLength)) × ((length (now offer) ≡ offerLength) × (length (now chain) ≡ chainLength))) × (((length (now numbers) ≡ numbersLength) × (length (now heldkey) ≡ heldkeyLength)) × ((length (now waiting) ≡ waitingLength) × ((length (now message) ≡ 45) × (length (now signature) ≡ 132)))) ⌝ }
+    requires { ⌜ (((length (now config) ≡ configLength) × (length (now pubkeys) ≡ pubkeysLength))
+        × ((length (now offer) ≡ offerLength) × (length (now chain) ≡ chainLength)))
+        × (((length (now numbers) ≡ numbersLength) × (length (now heldkey) ≡ heldkeyLength))
+        × ((length (now waiting) ≡ waitingLength) × ((length (now message) ≡ 45) × (length (now signature) ≡ 132)))) ⌝ }
     ensures { λ r. ⌜ ((s : State) →
         told r (verdictLent s (now (config .entry)) (now (pubkeys .exit)) (now (offer .exit)) (now (chain .exit)) (now (numbers .exit)) (now (heldkey .exit)) (now (waiting .exit)))
         ≡ verdictCall (verdictLent s (now (config .entry)) (now (pubkeys .entry)) (now (offer .entry)) (now (chain .entry)) (now (numbers .entry)) (now (heldkey .entry)) (now (waiting .entry)))
@@ -78,7 +81,9 @@ fn judge_named(
     signature: &[u8],
 ) -> u32
     requires { ⌜ (id < 16) × (length (now config) ≡ configLength) ⌝ }
-    requires { ⌜ ((length (now pubkeys) ≡ pubkeysLength) × ((length (now offer) ≡ offerLength) × (length (now chain) ≡ chainLength))) × (((length (now numbers) ≡ numbersLength) × (length (now heldkey) ≡ heldkeyLength)) × ((length (now waiting) ≡ waitingLength) × (length (now message) ≡ 45))) ⌝ }
+    requires { ⌜ ((length (now pubkeys) ≡ pubkeysLength) × ((length (now offer) ≡ offerLength) × (length (now chain) ≡ chainLength)))
+        × (((length (now numbers) ≡ numbersLength) × (length (now heldkey) ≡ heldkeyLength))
+        × ((length (now waiting) ≡ waitingLength) × (length (now message) ≡ 45))) ⌝ }
     ensures { λ r. ⌜ ((s : State) →
         (r ≡ firstOf (S.vouchChecks (verdictLent s (now (config .entry)) (now (pubkeys .entry)) (now (offer .entry)) (now (chain .entry)) (now (numbers .entry)) (now (heldkey .entry)) (now (waiting .entry)))
         (record { good = good; id = id; message = now (message .entry); signature = now (signature .entry) })))
@@ -135,8 +140,12 @@ fn vouch(
     message: &[u8],
 )
     requires { ⌜ (id < 16) × (length (now config) ≡ configLength) ⌝ }
-    requires { ⌜ ((length (now pubkeys) ≡ pubkeysLength) × ((length (now chain) ≡ chainLength) × (length (now numbers) ≡ numbersLength))) × ((length (now heldkey) ≡ heldkeyLength) × ((length (now waiting) ≡ waitingLength) × (length (now message) ≡ 45))) ⌝ }
-    ensures { λ _. ⌜ ((s : State) (good : ℕ) (signature : List ℕ) → s .config ≡ now (config .entry) → s .pubkeys ≡ now (pubkeys .entry) → s .chain ≡ now (chain .entry) → s .tesla ≡ tesla (now (numbers .entry)) (now (heldkey .entry)) (now (waiting .entry)) → S.trusting s (now (pubkeys .exit)) (now (chain .exit)) (tesla (now (numbers .exit)) (now (heldkey .exit)) (now (waiting .exit))) ≡ S.vouched s (record { good = good; id = id; message = now (message .entry); signature = signature })) ⌝ }
+    requires { ⌜ ((length (now pubkeys) ≡ pubkeysLength) × ((length (now chain) ≡ chainLength) × (length (now numbers) ≡ numbersLength)))
+        × ((length (now heldkey) ≡ heldkeyLength) × ((length (now waiting) ≡ waitingLength) × (length (now message) ≡ 45))) ⌝ }
+    ensures { λ _. ⌜ ((s : State) (good : ℕ) (signature : List ℕ) → s .config ≡ now (config .entry) → s .pubkeys ≡ now (pubkeys .entry) →
+        s .chain ≡ now (chain .entry) → s .tesla ≡ tesla (now (numbers .entry)) (now (heldkey .entry)) (now (waiting .entry)) →
+        S.trusting s (now (pubkeys .exit)) (now (chain .exit)) (tesla (now (numbers .exit)) (now (heldkey .exit)) (now (waiting .exit)))
+        ≡ S.vouched s (record { good = good; id = id; message = now (message .entry); signature = signature })) ⌝ }
 {
     if gather::status_of(message[0]) == 3 {
         chain[0] = 2;
@@ -158,8 +167,13 @@ fn renew(
     waiting: &mut [u8],
     c: &[u8],
 )
-    requires { ⌜ ((length (now config) ≡ configLength) × ((length (now chain) ≡ chainLength) × (length (now numbers) ≡ numbersLength))) × ((length (now heldkey) ≡ heldkeyLength) × ((length (now waiting) ≡ waitingLength) × (length (now c) ≡ contentsLength))) ⌝ }
-    ensures { λ _. ⌜ ((s : State) → s .config ≡ now (config .entry) → s .chain ≡ now (chain .entry) → s .tesla ≡ tesla (now (numbers .entry)) (now (heldkey .entry)) (now (waiting .entry)) → (now (chain .exit) ≡ cond (S.sameContents s (now (c .entry))) (s .chain) (S.forced (now (c .entry)))) × (tesla (now (numbers .exit)) (now (heldkey .exit)) (now (waiting .exit)) ≡ cond (S.sameContents s (now (c .entry))) (s .tesla) (S.rootHeld s (now (c .entry))))) ⌝ }
+    requires { ⌜ ((length (now config) ≡ configLength) × ((length (now chain) ≡ chainLength) × (length (now numbers) ≡ numbersLength)))
+        × ((length (now heldkey) ≡ heldkeyLength) × ((length (now waiting) ≡ waitingLength) × (length (now c) ≡ contentsLength))) ⌝ }
+    ensures { λ _. ⌜ ((s : State) → s .config ≡ now (config .entry) → s .chain ≡ now (chain .entry) →
+        s .tesla ≡ tesla (now (numbers .entry)) (now (heldkey .entry)) (now (waiting .entry)) →
+        (now (chain .exit) ≡ cond (S.sameContents s (now (c .entry))) (s .chain) (S.forced (now (c .entry))))
+        × (tesla (now (numbers .exit)) (now (heldkey .exit)) (now (waiting .exit))
+        ≡ cond (S.sameContents s (now (c .entry))) (s .tesla) (S.rootHeld s (now (c .entry))))) ⌝ }
 {
     if call_verdict_checks::same_contents(config, chain, c) {
         return;
@@ -186,8 +200,11 @@ fn hold_root(
     waiting: &mut [u8],
     c: &[u8],
 )
-    requires { ⌜ ((length (now config) ≡ configLength) × ((length (now chain) ≡ chainLength) × (length (now numbers) ≡ numbersLength))) × ((length (now heldkey) ≡ heldkeyLength) × ((length (now waiting) ≡ waitingLength) × (length (now c) ≡ contentsLength))) ⌝ }
-    ensures { λ _. ⌜ ((s : State) → s .config ≡ now (config .entry) → s .chain ≡ now (chain .entry) → s .tesla ≡ tesla (now (numbers .entry)) (now (heldkey .entry)) (now (waiting .entry)) → tesla (now (numbers .exit)) (now (heldkey .exit)) (now (waiting .exit)) ≡ S.rootHeld s (now (c .entry))) ⌝ }
+    requires { ⌜ ((length (now config) ≡ configLength) × ((length (now chain) ≡ chainLength) × (length (now numbers) ≡ numbersLength)))
+        × ((length (now heldkey) ≡ heldkeyLength) × ((length (now waiting) ≡ waitingLength) × (length (now c) ≡ contentsLength))) ⌝ }
+    ensures { λ _. ⌜ ((s : State) → s .config ≡ now (config .entry) → s .chain ≡ now (chain .entry) →
+        s .tesla ≡ tesla (now (numbers .entry)) (now (heldkey .entry)) (now (waiting .entry)) →
+        tesla (now (numbers .exit)) (now (heldkey .exit)) (now (waiting .exit)) ≡ S.rootHeld s (now (c .entry))) ⌝ }
 {
     let n = regions::waiting_count(numbers);
     let kept = keep_tags(config, chain, waiting, n, c);
@@ -206,8 +223,12 @@ fn put_numbers(numbers: &mut [u64], kept: usize)
 
 // The tags that stay at the new contents close up, in order. Gives their number.
 fn keep_tags(config: &[u8], chain: &[u8], waiting: &mut [u8], n: usize, c: &[u8]) -> usize
-    requires { ⌜ ((length (now config) ≡ configLength) × ((length (now chain) ≡ chainLength) × (length (now waiting) ≡ waitingLength))) × ((n ≤ 256) × (length (now c) ≡ contentsLength)) ⌝ }
-    ensures { λ r. ⌜ ((s : State) → s .config ≡ now (config .entry) → s .chain ≡ now (chain .entry) → s .tesla .waiting ≡ now (waiting .entry) → waitingCount (s .tesla .numbers) ≡ n → (now (waiting .exit) ≡ splice (now (waiting .entry)) 0 (S.stayingAt s (now (c .entry)))) × (length (S.stayingAt s (now (c .entry))) ≡ r * entryLength)) ⌝ }
+    requires { ⌜ ((length (now config) ≡ configLength) × ((length (now chain) ≡ chainLength) × (length (now waiting) ≡ waitingLength)))
+        × ((n ≤ 256) × (length (now c) ≡ contentsLength)) ⌝ }
+    ensures { λ r. ⌜ ((s : State) → s .config ≡ now (config .entry) → s .chain ≡ now (chain .entry) → s .tesla .waiting ≡ now (waiting .entry) →
+        waitingCount (s .tesla .numbers) ≡ n →
+        (now (waiting .exit) ≡ splice (now (waiting .entry)) 0 (S.stayingAt s (now (c .entry))))
+        × (length (S.stayingAt s (now (c .entry))) ≡ r * entryLength)) ⌝ }
 {
     if !kroot::in_force(config, chain) {
         return 0;

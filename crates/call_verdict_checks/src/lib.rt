@@ -76,8 +76,10 @@ pub fn vouch_refusal(
     message: &[u8],
     signature: &[u8],
 ) -> u32
-    requires { ⌜ ((length (now config) ≡ configLength) × (length (now chain) ≡ chainLength)) × ((length (now offer) ≡ offerLength) × (length (now message) ≡ 45)) ⌝ }
-    ensures { λ r. ⌜ ((s : State) → s .config ≡ now (config .entry) → s .chain ≡ now (chain .entry) → s .offer ≡ now (offer .entry) → r ≡ firstOf (S.vouchChecks s (record { good = good; id = id; message = now (message .entry); signature = now (signature .entry) }))) ⌝ }
+    requires { ⌜ ((length (now config) ≡ configLength) × (length (now chain) ≡ chainLength))
+        × ((length (now offer) ≡ offerLength) × (length (now message) ≡ 45)) ⌝ }
+    ensures { λ r. ⌜ ((s : State) → s .config ≡ now (config .entry) → s .chain ≡ now (chain .entry) → s .offer ≡ now (offer .entry) →
+        r ≡ firstOf (S.vouchChecks s (record { good = good; id = id; message = now (message .entry); signature = now (signature .entry) }))) ⌝ }
 {
     if !kroot::names_offer(offer, id, message, signature) {
         return 14;
@@ -97,7 +99,8 @@ pub fn vouch_refusal(
 // A verdict that would put a root in force (status 1 or 2), whose root is unfit.
 fn new_root_unfit(config: &[u8], chain: &[u8], header: u8, c: &[u8]) -> bool
     requires { ⌜ (length (now config) ≡ configLength) × ((length (now chain) ≡ chainLength) × (44 ≤ length (now c))) ⌝ }
-    ensures { λ r. ⌜ ((s : State) → s .config ≡ now (config .entry) → s .chain ≡ now (chain .entry) → r ≡ (within 1 2 (statusOf header) && S.rootUnfit s (now (c .entry)))) ⌝ }
+    ensures { λ r. ⌜ ((s : State) → s .config ≡ now (config .entry) → s .chain ≡ now (chain .entry) →
+        r ≡ (within 1 2 (statusOf header) && S.rootUnfit s (now (c .entry)))) ⌝ }
 {
     let status = gather::status_of(header);
     if status == 0 {

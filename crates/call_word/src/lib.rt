@@ -22,7 +22,8 @@ pub fn take_word(
     time: u32,
     bytes: &[u8],
 ) -> u32
-    requires { ⌜ ((length (now config) ≡ configLength) × (length (now clocks) ≡ clocksLength)) × ((length (now words) ≡ wordsLength) × ((length (now stamps) ≡ stampsLength) × (length (now bytes) ≡ 16))) ⌝ }
+    requires { ⌜ ((length (now config) ≡ configLength) × (length (now clocks) ≡ clocksLength))
+        × ((length (now words) ≡ wordsLength) × ((length (now stamps) ≡ stampsLength) × (length (now bytes) ≡ 16))) ⌝ }
     ensures { λ r. ⌜ ((s : State) →
         told r (wordLent s (now (config .entry)) (now (clocks .exit)) (now (words .exit)) (now (stamps .exit)))
         ≡ wordCall (wordLent s (now (config .entry)) (now (clocks .entry)) (now (words .entry)) (now (stamps .entry)))
@@ -67,7 +68,8 @@ fn word_refusal(config: &[u8], clocks: &[u32], prn: u8, time: u32, bytes: &[u8])
 // PRN or time out of range, or a word 4 whose SVID is not the PRN.
 fn word_unfit(prn: u8, time: u32, bytes: &[u8]) -> bool
     requires { ⌜ length (now bytes) ≡ 16 ⌝ }
-    ensures { λ r. ⌜ (r ≡ wordUnfit (record { prn = prn; time = time; bytes = now (bytes .entry) })) × (r ≡ false → ((1 ≤ prn) × (prn ≤ 36)) × (time < 4294967295)) ⌝ }
+    ensures { λ r. ⌜ (r ≡ wordUnfit (record { prn = prn; time = time; bytes = now (bytes .entry) }))
+        × (r ≡ false → ((1 ≤ prn) × (prn ≤ 36)) × (time < 4294967295)) ⌝ }
 {
     if !regions::prn_valid(prn) {
         return true;

@@ -51,7 +51,9 @@ fn keep(key: &[u8], kept: &mut [u8])
 // K1, K2 and the number of rounds, from the round keys before them.
 fn put_subkeys(rounds: usize, kept: &mut [u8])
     requires { ⌜ ((1 ≤ rounds) × (rounds ≤ 14)) × (length (now kept) ≡ 273) ⌝ }
-    ensures { λ _. ⌜ now (kept .exit) ≡ splice (now (kept .entry)) 240 (S.K1 (Aes.cipher rounds (part (now (kept .entry)) 0 240)) ++ (S.K2 (Aes.cipher rounds (part (now (kept .entry)) 0 240)) ++ (rounds ∷ []))) ⌝ }
+    ensures { λ _. ⌜ now (kept .exit) ≡ splice (now (kept .entry)) 240
+        (S.K1 (Aes.cipher rounds (part (now (kept .entry)) 0 240)) ++
+        (S.K2 (Aes.cipher rounds (part (now (kept .entry)) 0 240)) ++ (rounds ∷ []))) ⌝ }
 {
     let zeros = [0u8; 16];
     let k1 = doubled(aes::cipher(rounds, &kept[..240], zeros));
@@ -64,7 +66,8 @@ fn put_subkeys(rounds: usize, kept: &mut [u8])
 // The blocks of the message m, chained.
 fn chained(rounds: usize, kept: &[u8], m: &[u8]) -> [u8; 16]
     requires { ⌜ ((1 ≤ rounds) × (rounds ≤ 14)) × (length (now kept) ≡ 273) ⌝ }
-    ensures { λ r. ⌜ r ≡ S.mac (Aes.cipher rounds (part (now (kept .entry)) 0 240)) (part (now (kept .entry)) 240 16) (part (now (kept .entry)) 256 16) (now (m .entry)) ⌝ }
+    ensures { λ r. ⌜ r ≡ S.mac (Aes.cipher rounds (part (now (kept .entry)) 0 240)) (part (now (kept .entry)) 240 16)
+        (part (now (kept .entry)) 256 16) (now (m .entry)) ⌝ }
 {
     let n = blocks(m.len());
     let mut c = [0u8; 16];

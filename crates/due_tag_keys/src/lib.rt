@@ -49,7 +49,8 @@ fn higher(best: u64, slot: u64, below: u64) -> u64
 // The highest slot of the first n entries that is below the bound, or 0.
 fn next_below(c: Chain, waiting: &[u8], n: usize, below: u64) -> u64
     requires { ⌜ (Walks c × (1 ≤ below)) × ((length (now waiting) ≡ waitingLength) × (n ≤ 256)) ⌝ }
-    ensures { λ r. ⌜ (r < below) × ((k : ℕ) → k < n → entrySlot c (entryAt (now (waiting .entry)) k) < below → entrySlot c (entryAt (now (waiting .entry)) k) ≤ r) ⌝ }
+    ensures { λ r. ⌜ (r < below)
+        × ((k : ℕ) → k < n → entrySlot c (entryAt (now (waiting .entry)) k) < below → entrySlot c (entryAt (now (waiting .entry)) k) ≤ r) ⌝ }
 {
     let mut best: u64 = 0;
     let mut k: usize = 0;
@@ -64,7 +65,9 @@ fn next_below(c: Chain, waiting: &[u8], n: usize, below: u64) -> u64
 // all choices it is said that none is above `last`, and of this one that on a long way no tag that falls due has its slot above it.
 pub fn slot_to_keep(c: Chain, slot: u64, last: u64, waiting: &[u8], n: usize) -> u64
     requires { ⌜ (Walks c × ((slot < 2 ^ 34) × (last < 2 ^ 34))) × ((length (now waiting) ≡ waitingLength) × (n ≤ 256)) ⌝ }
-    ensures { λ r. ⌜ (r ≤ last) × (slot + 256 < last → (k : ℕ) → k < n → entrySlot c (entryAt (now (waiting .entry)) k) ≤ last → entrySlot c (entryAt (now (waiting .entry)) k) ≤ r) ⌝ }
+    ensures { λ r. ⌜ (r ≤ last)
+        × (slot + 256 < last → (k : ℕ) → k < n → entrySlot c (entryAt (now (waiting .entry)) k) ≤ last →
+        entrySlot c (entryAt (now (waiting .entry)) k) ≤ r) ⌝ }
 {
     if last <= slot + SHORT_WAY {
         return 0;
@@ -77,7 +80,8 @@ pub fn slot_to_keep(c: Chain, slot: u64, last: u64, waiting: &[u8], n: usize) ->
 // The outcome of entry k's tag under the key of its slot.
 fn judge_entry(c: Chain, key: &[u8; 273], waiting: &[u8], k: usize) -> u8
     requires { ⌜ (c .ms ≤ 40) × (k * entryLength + entryLength ≤ length (now waiting)) ⌝ }
-    ensures { λ r. ⌜ ((h : Held) → now (key .entry) ≡ keptOf (c .mf) (keyOfSlot c h (entrySlot c (entryAt (now (waiting .entry)) k))) → r ≡ matchOutcome c h (entryAt (now (waiting .entry)) k)) ⌝ }
+    ensures { λ r. ⌜ ((h : Held) → now (key .entry) ≡ keptOf (c .mf) (keyOfSlot c h (entrySlot c (entryAt (now (waiting .entry)) k))) →
+        r ≡ matchOutcome c h (entryAt (now (waiting .entry)) k)) ⌝ }
 {
     let t = waiting_tags::entry_tag(waiting, k);
     let mut set = [0u8; regions::COPY_LENGTH];
@@ -89,7 +93,8 @@ fn judge_entry(c: Chain, key: &[u8; 273], waiting: &[u8], k: usize) -> u8
 // The outcome of entry k once the tags of slot m are judged: where its slot is another, the one it had.
 fn outcome_at(c: Chain, key: &[u8; 273], m: u64, waiting: &[u8], k: usize, old: u8) -> u8
     requires { ⌜ (Walks c × (c .ms ≤ 40)) × (k * entryLength + entryLength ≤ length (now waiting)) ⌝ }
-    ensures { λ r. ⌜ ((h : Held) → now (key .entry) ≡ keptOf (c .mf) (keyOfSlot c h m) → r ≡ cond (eqb (entrySlot c (entryAt (now (waiting .entry)) k)) m) (matchOutcome c h (entryAt (now (waiting .entry)) k)) old) ⌝ }
+    ensures { λ r. ⌜ ((h : Held) → now (key .entry) ≡ keptOf (c .mf) (keyOfSlot c h m) →
+        r ≡ cond (eqb (entrySlot c (entryAt (now (waiting .entry)) k)) m) (matchOutcome c h (entryAt (now (waiting .entry)) k)) old) ⌝ }
 {
     if entry_slot(c, waiting, k) != m {
         return old;
@@ -101,7 +106,9 @@ fn outcome_at(c: Chain, key: &[u8; 273], m: u64, waiting: &[u8], k: usize, old: 
 fn judge_slot(c: Chain, key: &[u8; 273], m: u64, waiting: &[u8], n: usize, outcomes: &mut [u8; 256])
     requires { ⌜ (Walks c × (c .ms ≤ 40)) × ((length (now waiting) ≡ waitingLength) × (n ≤ 256)) ⌝ }
     requires { ⌜ length (now outcomes) ≡ 256 ⌝ }
-    ensures { λ _. ⌜ (length (now (outcomes .exit)) ≡ 256) × ((h : Held) → now (key .entry) ≡ keptOf (c .mf) (keyOfSlot c h m) → JudgedAt c h (now (waiting .entry)) n m (now (outcomes .entry)) (now (outcomes .exit))) ⌝ }
+    ensures { λ _. ⌜ (length (now (outcomes .exit)) ≡ 256)
+        × ((h : Held) → now (key .entry) ≡ keptOf (c .mf) (keyOfSlot c h m) →
+        JudgedAt c h (now (waiting .entry)) n m (now (outcomes .entry)) (now (outcomes .exit))) ⌝ }
 {
     let mut k: usize = 0;
     while k < n {
@@ -132,7 +139,10 @@ fn judge_down(
 )
     requires { ⌜ (Walks c × (c .ms ≤ 40)) × (((length (now waiting) ≡ waitingLength) × (n ≤ 256)) × ((m ≤ at) × (at ≤ 2 ^ 34))) ⌝ }
     requires { ⌜ (length (now key) ≡ 32) × (length (now outcomes) ≡ 256) ⌝ }
-    ensures { λ _. ⌜ ((length (now (key .exit)) ≡ 32) × (length (now (outcomes .exit)) ≡ 256)) × ((h : Held) → at ≤ h .slot → take (c .width) (now (key .entry)) ≡ keyOfSlot c h at → (take (c .width) (now (key .exit)) ≡ keyOfSlot c h m) × JudgedAt c h (now (waiting .entry)) n m (now (outcomes .entry)) (now (outcomes .exit))) ⌝ }
+    ensures { λ _. ⌜ ((length (now (key .exit)) ≡ 32) × (length (now (outcomes .exit)) ≡ 256))
+        × ((h : Held) → at ≤ h .slot → take (c .width) (now (key .entry)) ≡ keyOfSlot c h at →
+        (take (c .width) (now (key .exit)) ≡ keyOfSlot c h m)
+        × JudgedAt c h (now (waiting .entry)) n m (now (outcomes .entry)) (now (outcomes .exit))) ⌝ }
 {
     chain::key_of_slot(c, at, m, key);
     let mut kept = [0u8; 273];
@@ -144,7 +154,8 @@ fn judge_down(
 // `key`, which holds the held one; its slot is given.
 fn begin(slot: u64, near: u64, met: [u8; 32], m: u64, key: &mut [u8; 32]) -> u64
     requires { ⌜ (m ≤ slot) × (length (now key) ≡ 32) ⌝ }
-    ensures { λ r. ⌜ ((m ≤ r) × (length (now (key .exit)) ≡ 32)) × ((c : Chain) (h : Held) → Met c h slot (now (key .entry)) → Met c h near met → Met c h r (now (key .exit))) ⌝ }
+    ensures { λ r. ⌜ ((m ≤ r) × (length (now (key .exit)) ≡ 32))
+        × ((c : Chain) (h : Held) → Met c h slot (now (key .entry)) → Met c h near met → Met c h r (now (key .exit))) ⌝ }
 {
     if near < m {
         return slot;

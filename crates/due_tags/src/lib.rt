@@ -25,8 +25,11 @@ fn tell_entry(
     area: &mut [u8],
     at: usize,
 )
-    requires { ⌜ ((length (now sets) ≡ setsLength) × (length (now arrivals) ≡ arrivalsLength)) × ((k * entryLength + entryLength ≤ length (now waiting)) × (at + 12 ≤ length (now area))) ⌝ }
-    ensures { λ _. ⌜ Tells (told outcome (entryTag (entryAt (now (waiting .entry)) k)) (entrySet (entryAt (now (waiting .entry)) k)) (start 0 (now (sets .entry)) (now (arrivals .entry)))) at (now (area .entry)) (now (sets .exit)) (now (arrivals .exit)) (now (area .exit)) ⌝ }
+    requires { ⌜ ((length (now sets) ≡ setsLength) × (length (now arrivals) ≡ arrivalsLength))
+        × ((k * entryLength + entryLength ≤ length (now waiting)) × (at + 12 ≤ length (now area))) ⌝ }
+    ensures { λ _. ⌜ Tells
+        (told outcome (entryTag (entryAt (now (waiting .entry)) k)) (entrySet (entryAt (now (waiting .entry)) k))
+        (start 0 (now (sets .entry)) (now (arrivals .entry)))) at (now (area .entry)) (now (sets .exit)) (now (arrivals .exit)) (now (area .exit)) ⌝ }
 {
     let t = waiting_tags::entry_tag(waiting, k);
     let mut set = [0u8; regions::COPY_LENGTH];
@@ -46,9 +49,11 @@ fn sweep_one(
     arrivals: &mut [u32],
     area: &mut [u8],
 ) -> usize
-    requires { ⌜ ((length (now sets) ≡ setsLength) × (length (now arrivals) ≡ arrivalsLength)) × ((length (now waiting) ≡ waitingLength) × (length (now area) ≡ areaLength)) ⌝ }
+    requires { ⌜ ((length (now sets) ≡ setsLength) × (length (now arrivals) ≡ arrivalsLength))
+        × ((length (now waiting) ≡ waitingLength) × (length (now area) ≡ areaLength)) ⌝ }
     requires { ⌜ (kept ≤ k) × (k < 256) ⌝ }
-    ensures { λ r. ⌜ Leaves (sweptOne outcome (entryAt (now (waiting .entry)) k) (start kept (now (sets .entry)) (now (arrivals .entry)))) kept (k - kept) (now (waiting .entry)) (now (area .entry)) (now (waiting .exit)) (now (sets .exit)) (now (arrivals .exit)) (now (area .exit)) r ⌝ }
+    ensures { λ r. ⌜ Leaves (sweptOne outcome (entryAt (now (waiting .entry)) k) (start kept (now (sets .entry)) (now (arrivals .entry)))) kept
+        (k - kept) (now (waiting .entry)) (now (area .entry)) (now (waiting .exit)) (now (sets .exit)) (now (arrivals .exit)) (now (area .exit)) r ⌝ }
 {
     if outcome == 0 {
         waiting_tags::move_entry(waiting, k, kept);
@@ -67,9 +72,12 @@ fn sweep(
     arrivals: &mut [u32],
     area: &mut [u8],
 ) -> usize
-    requires { ⌜ ((length (now sets) ≡ setsLength) × (length (now arrivals) ≡ arrivalsLength)) × ((length (now waiting) ≡ waitingLength) × (length (now area) ≡ areaLength)) ⌝ }
+    requires { ⌜ ((length (now sets) ≡ setsLength) × (length (now arrivals) ≡ arrivalsLength))
+        × ((length (now waiting) ≡ waitingLength) × (length (now area) ≡ areaLength)) ⌝ }
     requires { ⌜ (length (now outcomes) ≡ 256) × (n ≤ 256) ⌝ }
-    ensures { λ r. ⌜ Leaves (swept (now (outcomes .entry)) (now (waiting .entry)) n (start 0 (now (sets .entry)) (now (arrivals .entry)))) 0 0 (now (waiting .entry)) (now (area .entry)) (now (waiting .exit)) (now (sets .exit)) (now (arrivals .exit)) (now (area .exit)) r × Counts (swept (now (outcomes .entry)) (now (waiting .entry)) n (start 0 (now (sets .entry)) (now (arrivals .entry)))) n r ⌝ }
+    ensures { λ r. ⌜ Leaves (swept (now (outcomes .entry)) (now (waiting .entry)) n (start 0 (now (sets .entry)) (now (arrivals .entry)))) 0 0
+        (now (waiting .entry)) (now (area .entry)) (now (waiting .exit)) (now (sets .exit)) (now (arrivals .exit)) (now (area .exit)) r
+        × Counts (swept (now (outcomes .entry)) (now (waiting .entry)) n (start 0 (now (sets .entry)) (now (arrivals .entry)))) n r ⌝ }
 {
     let mut kept: usize = 0;
     let mut k: usize = 0;
@@ -95,9 +103,14 @@ pub fn judge_due(
     arrivals: &mut [u32],
     area: &mut [u8],
 ) -> usize
-    requires { ⌜ ((length (now sets) ≡ setsLength) × (length (now arrivals) ≡ arrivalsLength)) × ((length (now waiting) ≡ waitingLength) × (length (now area) ≡ areaLength)) ⌝ }
+    requires { ⌜ ((length (now sets) ≡ setsLength) × (length (now arrivals) ≡ arrivalsLength))
+        × ((length (now waiting) ≡ waitingLength) × (length (now area) ≡ areaLength)) ⌝ }
     requires { ⌜ (Sound c × ((slot < 2 ^ 34) × (n ≤ 256))) × Met c (held slot (take (c .width) known)) near met ⌝ }
-    ensures { λ r. ⌜ Leaves (duesJudged c (held slot (take (c .width) known)) (now (waiting .entry)) n (start 0 (now (sets .entry)) (now (arrivals .entry)))) 0 0 (now (waiting .entry)) (now (area .entry)) (now (waiting .exit)) (now (sets .exit)) (now (arrivals .exit)) (now (area .exit)) r × Counts (duesJudged c (held slot (take (c .width) known)) (now (waiting .entry)) n (start 0 (now (sets .entry)) (now (arrivals .entry)))) n r ⌝ }
+    ensures { λ r. ⌜ Leaves
+        (duesJudged c (held slot (take (c .width) known)) (now (waiting .entry)) n (start 0 (now (sets .entry)) (now (arrivals .entry)))) 0 0
+        (now (waiting .entry)) (now (area .entry)) (now (waiting .exit)) (now (sets .exit)) (now (arrivals .exit)) (now (area .exit)) r
+        × Counts (duesJudged c (held slot (take (c .width) known)) (now (waiting .entry)) n (start 0 (now (sets .entry)) (now (arrivals .entry)))) n
+        r ⌝ }
 {
     let outcomes = due_tag_keys::outcomes(c, slot, known, near, met, waiting, n);
     sweep(&outcomes, waiting, n, sets, arrivals, area)

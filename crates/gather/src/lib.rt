@@ -191,7 +191,8 @@ fn drops_blocks(
     hk: &[u8; 15],
 ) -> bool
     requires { ⌜ Lent (now blocks) (now headers) (now present) (now since) × (id < 16) ⌝ }
-    ensures { λ r. ⌜ r ≡ Rule.dropsBlocks (store (now (blocks .entry)) (now (headers .entry)) (now (present .entry)) (now (since .entry))) t id (now (hk .entry)) ⌝ }
+    ensures { λ r. ⌜ r ≡ Rule.dropsBlocks (store (now (blocks .entry)) (now (headers .entry)) (now (present .entry)) (now (since .entry))) t id
+        (now (hk .entry)) ⌝ }
 {
     let m = present[id];
     let k = block_id_of(hk);
@@ -220,7 +221,8 @@ fn kept_marks(
     hk: &[u8; 15],
 ) -> u16
     requires { ⌜ Lent (now blocks) (now headers) (now present) (now since) × (id < 16) ⌝ }
-    ensures { λ r. ⌜ r ≡ Rule.keptMarks (store (now (blocks .entry)) (now (headers .entry)) (now (present .entry)) (now (since .entry))) t id (now (hk .entry)) ⌝ }
+    ensures { λ r. ⌜ r ≡ Rule.keptMarks (store (now (blocks .entry)) (now (headers .entry)) (now (present .entry)) (now (since .entry))) t id
+        (now (hk .entry)) ⌝ }
 {
     if drops_blocks(blocks, headers, present, since, t, id, hk) {
         return 0;
@@ -261,8 +263,10 @@ fn put_block(
     kept: u16,
     hk: &[u8; 15],
 )
-    requires { ⌜ (Lent (now blocks) (now headers) (now present) (now since) × (id < 16)) × (kept ≡ Rule.keptMarks (store (now blocks) (now headers) (now present) (now since)) t id (now hk)) ⌝ }
-    ensures { λ _. ⌜ store (now (blocks .exit)) (now (headers .exit)) (now (present .exit)) (now (since .exit)) ≡ Rule.withBlock (store (now (blocks .entry)) (now (headers .entry)) (now (present .entry)) (now (since .entry))) t id (now (hk .entry)) ⌝ }
+    requires { ⌜ (Lent (now blocks) (now headers) (now present) (now since) × (id < 16))
+        × (kept ≡ Rule.keptMarks (store (now blocks) (now headers) (now present) (now since)) t id (now hk)) ⌝ }
+    ensures { λ _. ⌜ store (now (blocks .exit)) (now (headers .exit)) (now (present .exit)) (now (since .exit))
+        ≡ Rule.withBlock (store (now (blocks .entry)) (now (headers .entry)) (now (present .entry)) (now (since .entry))) t id (now (hk .entry)) ⌝ }
 {
     let k = block_id_of(hk);
     let header = header_of(hk);
@@ -277,7 +281,10 @@ fn put_block(
 // A complete DSM is taken out: as many blocks are marked as its block 0 names.
 fn take_out(blocks: &[u8], present: &mut [u16], id: usize) -> Gathered
     requires { ⌜ ((length (now blocks) ≡ blocksLength) × (length (now present) ≡ dsmIds)) × (id < 16) ⌝ }
-    ensures { λ r. ⌜ ((headers since : List ℕ) → told r (store (now (blocks .entry)) headers (now (present .exit)) since) id ≡ Rule.stored (store (now (blocks .entry)) headers (now (present .entry)) since) id) × Sized r ⌝ }
+    ensures { λ r. ⌜ ((headers since : List ℕ) →
+        told r (store (now (blocks .entry)) headers (now (present .exit)) since) id
+        ≡ Rule.stored (store (now (blocks .entry)) headers (now (present .entry)) since) id)
+        × Sized r ⌝ }
 {
     let m = present[id];
     if !marked(m, 0) {
@@ -302,8 +309,12 @@ fn store_block(
     kept: u16,
     hk: &[u8; 15],
 ) -> Gathered
-    requires { ⌜ (Lent (now blocks) (now headers) (now present) (now since) × (id < 16)) × (kept ≡ Rule.keptMarks (store (now blocks) (now headers) (now present) (now since)) t id (now hk)) ⌝ }
-    ensures { λ r. ⌜ (told r (store (now (blocks .exit)) (now (headers .exit)) (now (present .exit)) (now (since .exit))) id ≡ Rule.stored (Rule.withBlock (store (now (blocks .entry)) (now (headers .entry)) (now (present .entry)) (now (since .entry))) t id (now (hk .entry))) id) × Sized r ⌝ }
+    requires { ⌜ (Lent (now blocks) (now headers) (now present) (now since) × (id < 16))
+        × (kept ≡ Rule.keptMarks (store (now blocks) (now headers) (now present) (now since)) t id (now hk)) ⌝ }
+    ensures { λ r. ⌜ (told r (store (now (blocks .exit)) (now (headers .exit)) (now (present .exit)) (now (since .exit))) id
+        ≡ Rule.stored
+        (Rule.withBlock (store (now (blocks .entry)) (now (headers .entry)) (now (present .entry)) (now (since .entry))) t id (now (hk .entry))) id)
+        × Sized r ⌝ }
 {
     put_block(blocks, headers, present, since, t, id, kept, hk);
     take_out(blocks, present, id)
@@ -319,7 +330,10 @@ pub fn gather(
     hk: &[u8; 15],
 ) -> Gathered
     requires { ⌜ Lent (now blocks) (now headers) (now present) (now since) ⌝ }
-    ensures { λ r. ⌜ (told r (store (now (blocks .exit)) (now (headers .exit)) (now (present .exit)) (now (since .exit))) (Rule.dsmIdOf (now (hk .entry))) ≡ Rule.gathered (store (now (blocks .entry)) (now (headers .entry)) (now (present .entry)) (now (since .entry))) t (now (hk .entry))) × Sized r ⌝ }
+    ensures { λ r. ⌜ (told r (store (now (blocks .exit)) (now (headers .exit)) (now (present .exit)) (now (since .exit)))
+        (Rule.dsmIdOf (now (hk .entry)))
+        ≡ Rule.gathered (store (now (blocks .entry)) (now (headers .entry)) (now (present .entry)) (now (since .entry))) t (now (hk .entry)))
+        × Sized r ⌝ }
 {
     if reserved_count(hk) {
         return Gathered::Refused;

@@ -36,8 +36,15 @@ pub fn hkroot_received(
     marks: u16,
     hk: &[u8; 15],
 ) -> Half
-    requires { ⌜ Lent (now blocks) (now headers) (now present) (now since) × ((length (now config) ≡ configLength) × ((length (now pubkeys) ≡ pubkeysLength) × (length (now offer) ≡ offerLength))) ⌝ }
-    ensures { λ r. ⌜ ((s : State) → s .config ≡ now (config .entry) → s .store ≡ store (now (blocks .entry)) (now (headers .entry)) (now (present .entry)) (now (since .entry)) → s .pubkeys ≡ now (pubkeys .entry) → s .offer ≡ now (offer .entry) → done r (gathering s (now (config .exit)) (store (now (blocks .exit)) (now (headers .exit)) (now (present .exit)) (now (since .exit))) (now (pubkeys .exit)) (now (offer .exit))) ≡ hkrootReceived s t marks (now (hk .entry))) ⌝ }
+    requires { ⌜ Lent (now blocks) (now headers) (now present) (now since)
+        × ((length (now config) ≡ configLength) × ((length (now pubkeys) ≡ pubkeysLength) × (length (now offer) ≡ offerLength))) ⌝ }
+    ensures { λ r. ⌜ ((s : State) → s .config ≡ now (config .entry) →
+        s .store ≡ store (now (blocks .entry)) (now (headers .entry)) (now (present .entry)) (now (since .entry)) →
+        s .pubkeys ≡ now (pubkeys .entry) → s .offer ≡ now (offer .entry) →
+        done r
+        (gathering s (now (config .exit)) (store (now (blocks .exit)) (now (headers .exit)) (now (present .exit)) (now (since .exit)))
+        (now (pubkeys .exit)) (now (offer .exit)))
+        ≡ hkrootReceived s t marks (now (hk .entry))) ⌝ }
 {
     if received::fields_came(marks) != 15 {
         return Half {
@@ -70,8 +77,15 @@ fn hkroot_half(
     t: u32,
     hk: &[u8; 15],
 ) -> Half
-    requires { ⌜ Lent (now blocks) (now headers) (now present) (now since) × ((length (now config) ≡ configLength) × ((length (now pubkeys) ≡ pubkeysLength) × (length (now offer) ≡ offerLength))) ⌝ }
-    ensures { λ r. ⌜ ((s : State) → s .config ≡ now (config .entry) → s .store ≡ store (now (blocks .entry)) (now (headers .entry)) (now (present .entry)) (now (since .entry)) → s .pubkeys ≡ now (pubkeys .entry) → s .offer ≡ now (offer .entry) → done r (gathering s (now (config .exit)) (store (now (blocks .exit)) (now (headers .exit)) (now (present .exit)) (now (since .exit))) (now (pubkeys .exit)) (now (offer .exit))) ≡ hkrootHalf s t (now (hk .entry))) ⌝ }
+    requires { ⌜ Lent (now blocks) (now headers) (now present) (now since)
+        × ((length (now config) ≡ configLength) × ((length (now pubkeys) ≡ pubkeysLength) × (length (now offer) ≡ offerLength))) ⌝ }
+    ensures { λ r. ⌜ ((s : State) → s .config ≡ now (config .entry) →
+        s .store ≡ store (now (blocks .entry)) (now (headers .entry)) (now (present .entry)) (now (since .entry)) →
+        s .pubkeys ≡ now (pubkeys .entry) → s .offer ≡ now (offer .entry) →
+        done r
+        (gathering s (now (config .exit)) (store (now (blocks .exit)) (now (headers .exit)) (now (present .exit)) (now (since .exit)))
+        (now (pubkeys .exit)) (now (offer .exit)))
+        ≡ hkrootHalf s t (now (hk .entry))) ⌝ }
 {
     match gather::gather(blocks, headers, present, since, t, hk) {
         Gathered::Stored => Half {
@@ -95,8 +109,14 @@ fn complete(
     hk: &[u8; 15],
     n: usize,
 ) -> Half
-    requires { ⌜ ((length (now config) ≡ configLength) × (length (now blocks) ≡ blocksLength)) × (((length (now pubkeys) ≡ pubkeysLength) × (length (now offer) ≡ offerLength)) × ((91 ≤ n) × (n ≤ 208))) ⌝ }
-    ensures { λ r. ⌜ ((s : State) (left : Store) → s .config ≡ now (config .entry) → s .pubkeys ≡ now (pubkeys .entry) → s .offer ≡ now (offer .entry) → done r (gathering s (now (config .exit)) left (now (pubkeys .exit)) (now (offer .exit))) ≡ cond (leb (dsmIdOf (now (hk .entry))) 11) (krootDone s left (headerOf (now (hk .entry))) (part (now (blocks .entry)) (dsmIdOf (now (hk .entry)) * 208) n)) (pkrDone s left (part (now (blocks .entry)) (dsmIdOf (now (hk .entry)) * 208) n))) × (dsmIdOf (now (hk .entry)) < 16) ⌝ }
+    requires { ⌜ ((length (now config) ≡ configLength) × (length (now blocks) ≡ blocksLength))
+        × (((length (now pubkeys) ≡ pubkeysLength) × (length (now offer) ≡ offerLength)) × ((91 ≤ n) × (n ≤ 208))) ⌝ }
+    ensures { λ r. ⌜ ((s : State) (left : Store) → s .config ≡ now (config .entry) → s .pubkeys ≡ now (pubkeys .entry) → s .offer ≡ now (offer .entry) →
+        done r (gathering s (now (config .exit)) left (now (pubkeys .exit)) (now (offer .exit)))
+        ≡ cond (leb (dsmIdOf (now (hk .entry))) 11)
+        (krootDone s left (headerOf (now (hk .entry))) (part (now (blocks .entry)) (dsmIdOf (now (hk .entry)) * 208) n))
+        (pkrDone s left (part (now (blocks .entry)) (dsmIdOf (now (hk .entry)) * 208) n)))
+        × (dsmIdOf (now (hk .entry)) < 16) ⌝ }
 {
     let id = gather::dsm_id_of(hk);
     let at = id * 208;
@@ -119,7 +139,11 @@ fn complete(
 // A complete DSM-PKR. Proved with type 4 (an emergency message), it stops the core.
 fn renewed(config: &mut [u8], pubkeys: &mut [u8], d: &[u8]) -> Half
     requires { ⌜ ((length (now config) ≡ configLength) × (length (now pubkeys) ≡ pubkeysLength)) × ((91 ≤ length (now d)) × (length (now d) ≤ 208)) ⌝ }
-    ensures { λ r. ⌜ ((r .code ≡ (pkrJudged (now (pubkeys .entry)) (treeRoot (now (config .entry))) (now (d .entry))) .code) × (r .stops ≡ (pkrJudged (now (pubkeys .entry)) (treeRoot (now (config .entry))) (now (d .entry))) .stops)) × ((now (pubkeys .exit) ≡ (pkrJudged (now (pubkeys .entry)) (treeRoot (now (config .entry))) (now (d .entry))) .pubkeys) × (now (config .exit) ≡ cond ((pkrJudged (now (pubkeys .entry)) (treeRoot (now (config .entry))) (now (d .entry))) .stops) (set (now (config .entry)) stoppedAt 1) (now (config .entry)))) ⌝ }
+    ensures { λ r. ⌜ ((r .code ≡ (pkrJudged (now (pubkeys .entry)) (treeRoot (now (config .entry))) (now (d .entry))) .code)
+        × (r .stops ≡ (pkrJudged (now (pubkeys .entry)) (treeRoot (now (config .entry))) (now (d .entry))) .stops))
+        × ((now (pubkeys .exit) ≡ (pkrJudged (now (pubkeys .entry)) (treeRoot (now (config .entry))) (now (d .entry))) .pubkeys)
+        × (now (config .exit) ≡ cond ((pkrJudged (now (pubkeys .entry)) (treeRoot (now (config .entry))) (now (d .entry))) .stops)
+        (set (now (config .entry)) stoppedAt 1) (now (config .entry)))) ⌝ }
 {
     let r = pkr::pkr_judge(pubkeys, &config[30..62], d);
     if r.stops {

@@ -22,8 +22,10 @@ use rules::Chain;
 
 // Its number (7, 8, 6 or 0); with 0 it waits for a verdict, in place of one that waited.
 pub fn kroot_judge(pubkeys: &[u8], config: &[u8], offer: &mut [u8], header: u8, d: &[u8]) -> u32
-    requires { ⌜ ((length (now pubkeys) ≡ pubkeysLength) × (length (now config) ≡ configLength)) × ((length (now offer) ≡ offerLength) × (91 ≤ length (now d))) ⌝ }
-    ensures { λ r. ⌜ (r ≡ (S.krootJudged (now (pubkeys .entry)) (now (config .entry)) (now (offer .entry)) header (now (d .entry))) .code) × (now (offer .exit) ≡ (S.krootJudged (now (pubkeys .entry)) (now (config .entry)) (now (offer .entry)) header (now (d .entry))) .offer) ⌝ }
+    requires { ⌜ ((length (now pubkeys) ≡ pubkeysLength) × (length (now config) ≡ configLength))
+        × ((length (now offer) ≡ offerLength) × (91 ≤ length (now d))) ⌝ }
+    ensures { λ r. ⌜ (r ≡ (S.krootJudged (now (pubkeys .entry)) (now (config .entry)) (now (offer .entry)) header (now (d .entry))) .code)
+        × (now (offer .exit) ≡ (S.krootJudged (now (pubkeys .entry)) (now (config .entry)) (now (offer .entry)) header (now (d .entry))) .offer) ⌝ }
 {
     let id = pkid(d);
     if !public_keys::key_held(pubkeys, id) {
@@ -44,7 +46,8 @@ pub fn kroot_judge(pubkeys: &[u8], config: &[u8], offer: &mut [u8], header: u8, 
 // The message that waits: 1, key ID, message in 45 bytes, signature in 132.
 fn store_offer(offer: &mut [u8], id: u8, header: u8, d: &[u8], width: usize, signed: usize)
     requires { ⌜ ((length (now offer) ≡ offerLength) × (width ≤ 32)) × ((signed ≤ 132) × (13 + width + signed ≤ length (now d))) ⌝ }
-    ensures { λ _. ⌜ now (offer .exit) ≡ S.offered id (filled 45 (header ∷ part (now (d .entry)) 1 (12 + width))) (filled 132 (part (now (d .entry)) (13 + width) signed)) ⌝ }
+    ensures { λ _. ⌜ now (offer .exit) ≡ S.offered id (filled 45 (header ∷ part (now (d .entry)) 1 (12 + width)))
+        (filled 132 (part (now (d .entry)) (13 + width) signed)) ⌝ }
 {
     offer[0] = 1;
     offer[1] = id;
@@ -124,7 +127,8 @@ pub fn chain_with(ns: u64, c: &[u8]) -> Chain
 // Whether a verdict names what waits: key ID, message and signature.
 pub fn names_offer(offer: &[u8], id: u8, message: &[u8], signature: &[u8]) -> bool
     requires { ⌜ length (now offer) ≡ offerLength ⌝ }
-    ensures { λ r. ⌜ ((good : ℕ) → r ≡ namesOffer (now (offer .entry)) (record { good = good; id = id; message = now (message .entry); signature = now (signature .entry) })) ⌝ }
+    ensures { λ r. ⌜ ((good : ℕ) →
+        r ≡ namesOffer (now (offer .entry)) (record { good = good; id = id; message = now (message .entry); signature = now (signature .entry) })) ⌝ }
 {
     if offer[0] != 1 {
         return false;

@@ -12,9 +12,9 @@ ghost use lib.ListN.{length, take};
 ghost use Rattle.rules.specs.Bits.{filled};
 ghost use Rattle.rules.specs.Calls.{sectionUnfit, mackHalf};
 ghost use Rattle.rules.specs.Chain.{held};
-ghost use Rattle.rules.specs.Kroot.{inForce, chainWith, chainContents};
+ghost use Rattle.rules.specs.Kroot.{inForce};
 ghost use Rattle.rules.specs.Received.{fieldCame, keysReceived, fieldsJudged};
-ghost use Rattle.rules.specs.State.{State, nsOf, configLength, chainLength, numbersLength, heldkeyLength, waitingLength, areaLength, setsLength, stampsLength, wordsLength, arrivalsLength};
+ghost use Rattle.rules.specs.State.{State, configLength, chainLength, numbersLength, heldkeyLength, waitingLength, areaLength, setsLength, stampsLength, wordsLength, arrivalsLength};
 ghost use Rattle.rules.specs.Tags.{duesJudged};
 ghost use Rattle.authentic_sets.specs.Regions.{auth};
 ghost use Rattle.chain.specs.Sound.{Sound, Met};
@@ -24,36 +24,7 @@ ghost use Rattle.tags.specs.Layout.{Laid, section};
 ghost use Rattle.mack_keys.specs.Keys.{Hands};
 ghost use Rattle.mack_half.specs.Half.{tesla, judging, Gives};
 
-// ---- the chain and the held key
-
-// The numbers of the chain in force.
-fn chain_of(config: &[u8], chain: &[u8]) -> Chain
-    requires { ⌜ (length (now config) ≡ configLength) × (length (now chain) ≡ chainLength) ⌝ }
-    ensures { λ r. ⌜ (r ≡ chainWith (nsOf (now (config .entry))) (chainContents (now (chain .entry)))) × (inForce (now (config .entry)) (now (chain .entry)) ≡ true → Sound r × Laid r) ⌝ }
-{
-    kroot::chain_with(regions::ns_of(config), &chain[1..45])
-}
-
-// Row 11: no chain, status 0 or 3, other CID, or before sub-frame 0.
-fn section_unfit(config: &[u8], chain: &[u8], time: u32, header: u8) -> bool
-    requires { ⌜ (length (now config) ≡ configLength) × (length (now chain) ≡ chainLength) ⌝ }
-    ensures { λ r. ⌜ ((s : State) → s .config ≡ now (config .entry) → s .chain ≡ now (chain .entry) → r ≡ sectionUnfit s time header) × (r ≡ false → inForce (now (config .entry)) (now (chain .entry)) ≡ true) ⌝ }
-{
-    if !kroot::in_force(config, chain) {
-        return true;
-    }
-    let status = gather::status_of(header);
-    if status < 1 {
-        return true;
-    }
-    if 2 < status {
-        return true;
-    }
-    if kroot::cidkr(&chain[1..45]) != gather::cid_of(header) {
-        return true;
-    }
-    times::seconds_of(time) < kroot::root_seconds(&chain[1..45])
-}
+// ---- the held key
 
 // The held key in its first bytes, zeros after it.
 fn held_key(heldkey: &[u8], width: usize) -> [u8; 32]
@@ -91,7 +62,9 @@ fn prove_keys(
 ) -> Keys
     requires { ⌜ Sound c × ((length (now mack) ≡ 60) × ((slot < 2 ^ 34) × (length (now key) ≡ 32))) ⌝ }
     requires { ⌜ (length (now waiting) ≡ waitingLength) × (n ≤ 256) ⌝ }
-    ensures { λ r. ⌜ Hands (keysReceived c time prn (now (mack .entry)) marks (held slot (take (c .width) (now (key .entry)))) (c .nmack)) (r .code) (r .slot) (now (key .entry)) (now (key .exit)) × ((r .slot < 2 ^ 34) × Met c (held (r .slot) (take (c .width) (now (key .exit)))) (r .met) (now (met .exit))) ⌝ }
+    ensures { λ r. ⌜ Hands (keysReceived c time prn (now (mack .entry)) marks (held slot (take (c .width) (now (key .entry)))) (c .nmack)) (r .code)
+        (r .slot) (now (key .entry)) (now (key .exit))
+        × ((r .slot < 2 ^ 34) × Met c (held (r .slot) (take (c .width) (now (key .exit)))) (r .met) (now (met .exit))) ⌝ }
 {
     let last = chain::sent_slot(c, time, c.nmack, prn);
     let via = due_tag_keys::slot_to_keep(c, slot, last, waiting, n);
@@ -128,10 +101,22 @@ fn judge_tags(
     arrivals: &mut [u32],
     area: &mut [u8],
 ) -> Judged
-    requires { ⌜ ((length (now config) ≡ configLength) × (length (now words) ≡ wordsLength)) × ((length (now stamps) ≡ stampsLength) × (length (now mack) ≡ 60)) ⌝ }
-    requires { ⌜ ((length (now sets) ≡ setsLength) × (length (now arrivals) ≡ arrivalsLength)) × ((length (now waiting) ≡ waitingLength) × (length (now area) ≡ areaLength)) ⌝ }
+    requires { ⌜ ((length (now config) ≡ configLength) × (length (now words) ≡ wordsLength))
+        × ((length (now stamps) ≡ stampsLength) × (length (now mack) ≡ 60)) ⌝ }
+    requires { ⌜ ((length (now sets) ≡ setsLength) × (length (now arrivals) ≡ arrivalsLength))
+        × ((length (now waiting) ≡ waitingLength) × (length (now area) ≡ areaLength)) ⌝ }
     requires { ⌜ ((Sound c × Laid c) × ((slot < 2 ^ 34) × (n ≤ 256))) × Met c (held slot (take (c .width) key)) near met ⌝ }
-    ensures { λ r. ⌜ Leaves (fieldsJudged (now (config .entry)) (nav (now (words .entry)) (now (stamps .entry))) c (held slot (take (c .width) key)) (section prn time status (now (mack .entry))) marks (c .nmack * c .fields) (duesJudged c (held slot (take (c .width) key)) (now (waiting .entry)) n (start 0 (now (sets .entry)) (now (arrivals .entry))))) 0 0 (now (waiting .entry)) (now (area .entry)) (now (waiting .exit)) (now (sets .exit)) (now (arrivals .exit)) (now (area .exit)) (r .kept) × ((length ((fieldsJudged (now (config .entry)) (nav (now (words .entry)) (now (stamps .entry))) c (held slot (take (c .width) key)) (section prn time status (now (mack .entry))) marks (c .nmack * c .fields) (duesJudged c (held slot (take (c .width) key)) (now (waiting .entry)) n (start 0 (now (sets .entry)) (now (arrivals .entry))))) .records) ≡ r .records * 12) × (r .records ≤ 270)) ⌝ }
+    ensures { λ r. ⌜ Leaves
+        (fieldsJudged (now (config .entry)) (nav (now (words .entry)) (now (stamps .entry))) c (held slot (take (c .width) key))
+        (section prn time status (now (mack .entry))) marks (c .nmack * c .fields)
+        (duesJudged c (held slot (take (c .width) key)) (now (waiting .entry)) n (start 0 (now (sets .entry)) (now (arrivals .entry))))) 0 0
+        (now (waiting .entry)) (now (area .entry)) (now (waiting .exit)) (now (sets .exit)) (now (arrivals .exit)) (now (area .exit)) (r .kept)
+        × ((length
+        ((fieldsJudged (now (config .entry)) (nav (now (words .entry)) (now (stamps .entry))) c (held slot (take (c .width) key))
+        (section prn time status (now (mack .entry))) marks (c .nmack * c .fields)
+        (duesJudged c (held slot (take (c .width) key)) (now (waiting .entry)) n (start 0 (now (sets .entry)) (now (arrivals .entry))))) .records)
+        ≡ r .records * 12)
+        × (r .records ≤ 270)) ⌝ }
 {
     let stay = due_tags::judge_due(c, slot, key, near, met, waiting, n, sets, arrivals, area);
     let told = n - stay;
@@ -187,12 +172,21 @@ fn judge_section(
     header: u8,
     mack: &[u8],
 ) -> Mack
-    requires { ⌜ ((length (now config) ≡ configLength) × (length (now words) ≡ wordsLength)) × ((length (now stamps) ≡ stampsLength) × (length (now mack) ≡ 60)) ⌝ }
-    requires { ⌜ ((length (now sets) ≡ setsLength) × (length (now arrivals) ≡ arrivalsLength)) × ((length (now waiting) ≡ waitingLength) × (length (now area) ≡ areaLength)) ⌝ }
-    requires { ⌜ ((length (now chain) ≡ chainLength) × (length (now numbers) ≡ numbersLength)) × ((length (now heldkey) ≡ heldkeyLength) × (inForce (now config) (now chain) ≡ true)) ⌝ }
-    ensures { λ r. ⌜ ((s : State) → s .config ≡ now (config .entry) → s .nav ≡ nav (now (words .entry)) (now (stamps .entry)) → s .chain ≡ now (chain .entry) → s .tesla ≡ tesla (now (numbers .entry)) (now (heldkey .entry)) (now (waiting .entry)) → s .auth ≡ auth (now (sets .entry)) (now (arrivals .entry)) → fieldCame marks 0 ≡ true → sectionUnfit s time header ≡ false → Gives (mackHalf s prn time marks header (now (mack .entry))) (r .code) (r .count) (judging s (tesla (now (numbers .exit)) (now (heldkey .exit)) (now (waiting .exit))) (auth (now (sets .exit)) (now (arrivals .exit)))) (now (area .entry)) (now (area .exit))) × (r .count ≤ 270) ⌝ }
+    requires { ⌜ ((length (now config) ≡ configLength) × (length (now words) ≡ wordsLength))
+        × ((length (now stamps) ≡ stampsLength) × (length (now mack) ≡ 60)) ⌝ }
+    requires { ⌜ ((length (now sets) ≡ setsLength) × (length (now arrivals) ≡ arrivalsLength))
+        × ((length (now waiting) ≡ waitingLength) × (length (now area) ≡ areaLength)) ⌝ }
+    requires { ⌜ ((length (now chain) ≡ chainLength) × (length (now numbers) ≡ numbersLength))
+        × ((length (now heldkey) ≡ heldkeyLength) × (inForce (now config) (now chain) ≡ true)) ⌝ }
+    ensures { λ r. ⌜ ((s : State) → s .config ≡ now (config .entry) → s .nav ≡ nav (now (words .entry)) (now (stamps .entry)) → s .chain ≡ now (chain .entry) →
+        s .tesla ≡ tesla (now (numbers .entry)) (now (heldkey .entry)) (now (waiting .entry)) →
+        s .auth ≡ auth (now (sets .entry)) (now (arrivals .entry)) → fieldCame marks 0 ≡ true → sectionUnfit s time header ≡ false →
+        Gives (mackHalf s prn time marks header (now (mack .entry))) (r .code) (r .count)
+        (judging s (tesla (now (numbers .exit)) (now (heldkey .exit)) (now (waiting .exit))) (auth (now (sets .exit)) (now (arrivals .exit))))
+        (now (area .entry)) (now (area .exit)))
+        × (r .count ≤ 270) ⌝ }
 {
-    let c = chain_of(config, chain);
+    let c = section_checks::chain_of(config, chain);
     let slot = regions::held_slot(numbers);
     let n = regions::waiting_count(numbers);
     let mut key = held_key(heldkey, c.width);
@@ -261,15 +255,23 @@ pub fn mack_half(
     header: u8,
     mack: &[u8],
 ) -> Mack
-    requires { ⌜ ((length (now config) ≡ configLength) × (length (now words) ≡ wordsLength)) × ((length (now stamps) ≡ stampsLength) × (length (now mack) ≡ 60)) ⌝ }
-    requires { ⌜ ((length (now sets) ≡ setsLength) × (length (now arrivals) ≡ arrivalsLength)) × ((length (now waiting) ≡ waitingLength) × (length (now area) ≡ areaLength)) ⌝ }
+    requires { ⌜ ((length (now config) ≡ configLength) × (length (now words) ≡ wordsLength))
+        × ((length (now stamps) ≡ stampsLength) × (length (now mack) ≡ 60)) ⌝ }
+    requires { ⌜ ((length (now sets) ≡ setsLength) × (length (now arrivals) ≡ arrivalsLength))
+        × ((length (now waiting) ≡ waitingLength) × (length (now area) ≡ areaLength)) ⌝ }
     requires { ⌜ (length (now chain) ≡ chainLength) × ((length (now numbers) ≡ numbersLength) × (length (now heldkey) ≡ heldkeyLength)) ⌝ }
-    ensures { λ r. ⌜ ((s : State) → s .config ≡ now (config .entry) → s .nav ≡ nav (now (words .entry)) (now (stamps .entry)) → s .chain ≡ now (chain .entry) → s .tesla ≡ tesla (now (numbers .entry)) (now (heldkey .entry)) (now (waiting .entry)) → s .auth ≡ auth (now (sets .entry)) (now (arrivals .entry)) → Gives (mackHalf s prn time marks header (now (mack .entry))) (r .code) (r .count) (judging s (tesla (now (numbers .exit)) (now (heldkey .exit)) (now (waiting .exit))) (auth (now (sets .exit)) (now (arrivals .exit)))) (now (area .entry)) (now (area .exit))) × (r .count ≤ 270) ⌝ }
+    ensures { λ r. ⌜ ((s : State) → s .config ≡ now (config .entry) → s .nav ≡ nav (now (words .entry)) (now (stamps .entry)) → s .chain ≡ now (chain .entry) →
+        s .tesla ≡ tesla (now (numbers .entry)) (now (heldkey .entry)) (now (waiting .entry)) →
+        s .auth ≡ auth (now (sets .entry)) (now (arrivals .entry)) →
+        Gives (mackHalf s prn time marks header (now (mack .entry))) (r .code) (r .count)
+        (judging s (tesla (now (numbers .exit)) (now (heldkey .exit)) (now (waiting .exit))) (auth (now (sets .exit)) (now (arrivals .exit))))
+        (now (area .entry)) (now (area .exit)))
+        × (r .count ≤ 270) ⌝ }
 {
     if !received::field_came(marks, 0) {
         return Mack { code: 17, count: 0 };
     }
-    if section_unfit(config, chain, time, header) {
+    if section_checks::section_unfit(config, chain, time, header) {
         return Mack { code: 11, count: 0 };
     }
     judge_section(

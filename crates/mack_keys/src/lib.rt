@@ -41,7 +41,9 @@ pub fn keys_proved(
     met: &mut [u8; 32],
 ) -> Keys
     requires { ⌜ Sound c × ((length (now m) ≡ 60) × ((slot < 2 ^ 34) × (length (now key) ≡ 32))) ⌝ }
-    ensures { λ r. ⌜ Hands (keysReceived c g prn (now (m .entry)) marks (held slot (take (c .width) (now (key .entry)))) (c .nmack)) (r .code) (r .slot) (now (key .entry)) (now (key .exit)) × ((r .slot < 2 ^ 34) × Met c (held (r .slot) (take (c .width) (now (key .exit)))) (r .met) (now (met .exit))) ⌝ }
+    ensures { λ r. ⌜ Hands (keysReceived c g prn (now (m .entry)) marks (held slot (take (c .width) (now (key .entry)))) (c .nmack)) (r .code)
+        (r .slot) (now (key .entry)) (now (key .exit))
+        × ((r .slot < 2 ^ 34) × Met c (held (r .slot) (take (c .width) (now (key .exit)))) (r .met) (now (met .exit))) ⌝ }
 {
     let nmack = c.nmack;
     let known = *key;
@@ -95,7 +97,14 @@ fn next_block(
     met: &mut [u8; 32],
 ) -> Keys
     requires { ⌜ Sound c × ((first < 2 ^ 34) × ((p .slot < 2 ^ 34) × ((1 ≤ b) × (b ≤ c .nmack)))) ⌝ }
-    ensures { λ r. ⌜ ((m : List ℕ) → sent ≡ splice (replicate 32 0) 0 (S.blockKey c m b) → spare ≡ S.spareBits c m b → Hands (unless (p .code) (blockReceived c g prn first m marks (held (p .slot) (take (c .width) (now (key .entry)))) b) (record { code = p .code; held = held (p .slot) (take (c .width) (now (key .entry))) })) (r .code) (r .slot) (now (key .entry)) (now (key .exit))) × ((r .slot < 2 ^ 34) × (Met c (held (p .slot) (take (c .width) (now (key .entry)))) (p .met) (now (met .entry)) → Met c (held (r .slot) (take (c .width) (now (key .exit)))) (r .met) (now (met .exit)))) ⌝ }
+    ensures { λ r. ⌜ ((m : List ℕ) → sent ≡ splice (replicate 32 0) 0 (S.blockKey c m b) → spare ≡ S.spareBits c m b →
+        Hands
+        (unless (p .code) (blockReceived c g prn first m marks (held (p .slot) (take (c .width) (now (key .entry)))) b)
+        (record { code = p .code; held = held (p .slot) (take (c .width) (now (key .entry))) })) (r .code) (r .slot) (now (key .entry))
+        (now (key .exit)))
+        × ((r .slot < 2 ^ 34)
+        × (Met c (held (p .slot) (take (c .width) (now (key .entry)))) (p .met) (now (met .entry)) →
+        Met c (held (r .slot) (take (c .width) (now (key .exit)))) (r .met) (now (met .exit)))) ⌝ }
 {
     if p.code != 0 {
         return p;
@@ -124,7 +133,12 @@ fn block_proved(
     met: &mut [u8; 32],
 ) -> Keys
     requires { ⌜ Sound c × ((first < 2 ^ 34) × ((p .slot < 2 ^ 34) × ((1 ≤ b) × (b ≤ c .nmack)))) ⌝ }
-    ensures { λ r. ⌜ ((m : List ℕ) → sent ≡ splice (replicate 32 0) 0 (S.blockKey c m b) → spare ≡ S.spareBits c m b → Hands (S.blockProved c g prn first m (held (p .slot) (take (c .width) (now (key .entry)))) b) (r .code) (r .slot) (now (key .entry)) (now (key .exit))) × ((r .slot < 2 ^ 34) × (Met c (held (p .slot) (take (c .width) (now (key .entry)))) (p .met) (now (met .entry)) → Met c (held (r .slot) (take (c .width) (now (key .exit)))) (r .met) (now (met .exit)))) ⌝ }
+    ensures { λ r. ⌜ ((m : List ℕ) → sent ≡ splice (replicate 32 0) 0 (S.blockKey c m b) → spare ≡ S.spareBits c m b →
+        Hands (S.blockProved c g prn first m (held (p .slot) (take (c .width) (now (key .entry)))) b) (r .code) (r .slot) (now (key .entry))
+        (now (key .exit)))
+        × ((r .slot < 2 ^ 34)
+        × (Met c (held (p .slot) (take (c .width) (now (key .entry)))) (p .met) (now (met .entry)) →
+        Met c (held (r .slot) (take (c .width) (now (key .exit)))) (r .met) (now (met .exit)))) ⌝ }
 {
     let high = p.slot;
     let slot = chain::sent_slot(c, g, b, prn);

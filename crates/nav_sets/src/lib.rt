@@ -107,7 +107,8 @@ pub fn pair(x: u64, from: u64, n: u64, y: u64, to: u64) -> u64
 fn put_word(w: &[u8], at: usize, first: u64, from: u64, n: u64, out: &mut [u8], to: usize) -> u64
     requires { ⌜ (at + 24 ≤ length (now w)) × (to + 16 ≤ length (now out)) ⌝ }
     requires { ⌜ ((6 ≤ n) × (1 ≤ from)) × ((from + n ≤ 64) × (first ≡ bits (now w) (8 * at) 64)) ⌝ }
-    ensures { λ r. ⌜ (now (out .exit) ≡ splice (now (out .entry)) to (pieceOf (now (w .entry)) (8 * at) from n)) × (r ≡ bits (now (w .entry)) (8 * (at + 16)) 64) ⌝ }
+    ensures { λ r. ⌜ (now (out .exit) ≡ splice (now (out .entry)) to (pieceOf (now (w .entry)) (8 * at) from n))
+        × (r ≡ bits (now (w .entry)) (8 * (at + 16)) 64) ⌝ }
 {
     let second = get_u64(w, at + 8);
     let next = get_u64(w, at + 16);
@@ -129,7 +130,9 @@ fn put_last(w: &[u8], first: u64, out: &mut [u8], to: usize)
 // those that the word leaves out at its end: two, two, none, two.
 pub fn gather(w: &[u8], out: &mut [u8], to: usize)
     requires { ⌜ (length (now w) ≡ 80) × (to + 69 ≤ length (now out)) ⌝ }
-    ensures { λ _. ⌜ now (out .exit) ≡ splice (now (out .entry)) to (setBytes (part (now (w .entry)) 0 16) (part (now (w .entry)) 16 16) (part (now (w .entry)) 32 16) (part (now (w .entry)) 48 16) (part (now (w .entry)) 64 16)) ⌝ }
+    ensures { λ _. ⌜ now (out .exit) ≡ splice (now (out .entry)) to
+        (setBytes (part (now (w .entry)) 0 16) (part (now (w .entry)) 16 16) (part (now (w .entry)) 32 16) (part (now (w .entry)) 48 16)
+        (part (now (w .entry)) 64 16)) ⌝ }
 {
     let one = get_u64(w, 0);
     let two = put_word(w, 0, one, 6, 56, out, to);

@@ -49,7 +49,8 @@ pub fn store_word(
 )
     requires { ⌜ ((length (now words) ≡ wordsLength) × (length (now stamps) ≡ stampsLength)) × (length (now w) ≡ 16) ⌝ }
     requires { ⌜ ((1 ≤ prn) × (prn ≤ 36)) × ((1 ≤ kind) × (kind ≤ 5)) ⌝ }
-    ensures { λ _. ⌜ nav (now (words .exit)) (now (stamps .exit)) ≡ wordStored (nav (now (words .entry)) (now (stamps .entry))) prn kind (now (w .entry)) stamp ⌝ }
+    ensures { λ _. ⌜ nav (now (words .exit)) (now (stamps .exit))
+        ≡ wordStored (nav (now (words .entry)) (now (stamps .entry))) prn kind (now (w .entry)) stamp ⌝ }
 {
     let place = word_place(prn, kind);
     buffer::copy_at(words, place * 16, w);
@@ -70,7 +71,9 @@ fn word_issue(words: &[u8], prn: usize, kind: usize) -> u64
 // Words 1 to 4 have one IODnav.
 fn one_issue(words: &[u8], prn: usize) -> bool
     requires { ⌜ (length (now words) ≡ wordsLength) × ((1 ≤ prn) × (prn ≤ 36)) ⌝ }
-    ensures { λ r. ⌜ ((stamps : List ℕ) → r ≡ oneIssue (wordCame (nav (now (words .entry)) stamps) prn 1) (wordCame (nav (now (words .entry)) stamps) prn 2) (wordCame (nav (now (words .entry)) stamps) prn 3) (wordCame (nav (now (words .entry)) stamps) prn 4)) ⌝ }
+    ensures { λ r. ⌜ ((stamps : List ℕ) →
+        r ≡ oneIssue (wordCame (nav (now (words .entry)) stamps) prn 1) (wordCame (nav (now (words .entry)) stamps) prn 2)
+        (wordCame (nav (now (words .entry)) stamps) prn 3) (wordCame (nav (now (words .entry)) stamps) prn 4)) ⌝ }
 {
     let issue = word_issue(words, prn, 1);
     let two = word_issue(words, prn, 2) == issue;

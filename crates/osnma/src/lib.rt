@@ -6,7 +6,7 @@
 // lengths (row 1 of 01's table) and hands on what it was lent.
 ghost use mathlib.Core.Path.{_≡_};
 ghost use Rattle.regions.specs.Told.{told};
-ghost use Rattle.call_subframe.specs.Told.{subframeTold, subframe};
+ghost use Rattle.regions.specs.Told.{subframeTold, subframe};
 ghost use Rattle.call_reads.specs.Reads.{setTold, offerTold};
 ghost use Rattle.rules.specs.Calls.{startCall, wordCall, subframeCall, verdictCall, setRead, offerRead};
 ghost use Rattle.rules.specs.State.{State, state, wordLent, verdictLent, setLent, offerLent};

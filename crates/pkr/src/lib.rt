@@ -19,7 +19,9 @@ pub struct Renewal {
 // The number (6, 10, 9 or 0) of a complete DSM-PKR; with 0 a new key is added to those held.
 pub fn pkr_judge(pubkeys: &mut [u8], root: &[u8], d: &[u8]) -> Renewal
     requires { ⌜ (length (now pubkeys) ≡ pubkeysLength) × ((91 ≤ length (now d)) × (length (now d) ≤ 208)) ⌝ }
-    ensures { λ r. ⌜ (r .code ≡ (S.pkrJudged (now (pubkeys .entry)) (now (root .entry)) (now (d .entry))) .code) × ((r .stops ≡ (S.pkrJudged (now (pubkeys .entry)) (now (root .entry)) (now (d .entry))) .stops) × (now (pubkeys .exit) ≡ (S.pkrJudged (now (pubkeys .entry)) (now (root .entry)) (now (d .entry))) .pubkeys)) ⌝ }
+    ensures { λ r. ⌜ (r .code ≡ (S.pkrJudged (now (pubkeys .entry)) (now (root .entry)) (now (d .entry))) .code)
+        × ((r .stops ≡ (S.pkrJudged (now (pubkeys .entry)) (now (root .entry)) (now (d .entry))) .stops)
+        × (now (pubkeys .exit) ≡ (S.pkrJudged (now (pubkeys .entry)) (now (root .entry)) (now (d .entry))) .pubkeys)) ⌝ }
 {
     if size_bad(d) {
         return Renewal {
@@ -48,7 +50,9 @@ pub fn pkr_judge(pubkeys: &mut [u8], root: &[u8], d: &[u8]) -> Renewal
 // A proved key: 0 where it is the same as one held, or has an ID above all held and is added; else 9.
 fn renew(pubkeys: &mut [u8], d: &[u8]) -> u32
     requires { ⌜ (length (now pubkeys) ≡ pubkeysLength) × ((S.newTypeOf (now d) < 4) × (130 + K.keyLength (S.newTypeOf (now d)) ≤ length (now d))) ⌝ }
-    ensures { λ r. ⌜ (r ≡ cond (S.keyWelcome (now (pubkeys .entry)) (now (d .entry))) 0 9) × (now (pubkeys .exit) ≡ cond (S.keyWelcome (now (pubkeys .entry)) (now (d .entry))) (S.keyAdded (now (pubkeys .entry)) (now (d .entry))) (now (pubkeys .entry))) ⌝ }
+    ensures { λ r. ⌜ (r ≡ cond (S.keyWelcome (now (pubkeys .entry)) (now (d .entry))) 0 9)
+        × (now (pubkeys .exit) ≡ cond (S.keyWelcome (now (pubkeys .entry)) (now (d .entry))) (S.keyAdded (now (pubkeys .entry)) (now (d .entry)))
+        (now (pubkeys .entry))) ⌝ }
 {
     let id = new_id(d);
     let kind = new_type(d);

@@ -49,7 +49,8 @@ pub fn fields_came(marks: u16) -> usize
 // Field k of f in its place, if it came.
 fn put_field(marks: u16, f: &[u8], k: usize, fields: &mut [u8])
     requires { ⌜ (k < 15) × ((length (now f) ≡ 75) × (length (now fields) ≡ 75)) ⌝ }
-    ensures { λ _. ⌜ now (fields .exit) ≡ cond (fieldCame marks k) (splice (now (fields .entry)) (5 * k) (part (now (f .entry)) (5 * k) 5)) (now (fields .entry)) ⌝ }
+    ensures { λ _. ⌜ now (fields .exit) ≡ cond (fieldCame marks k) (splice (now (fields .entry)) (5 * k) (part (now (f .entry)) (5 * k) 5))
+        (now (fields .entry)) ⌝ }
 {
     if !field_came(marks, k) {
         return;

@@ -8,7 +8,7 @@ use lib.ListN.{length}
 use borrow.Author.Tests.{eq-eqb, ne-eqb}
 use Rattle.laws.specs.Refusal.{unless}
 use Rattle.regions.specs.Told.{told}
-use Rattle.call_subframe.specs.Told.{subframeTold}
+use Rattle.regions.specs.Told.{subframeTold}
 use Rattle.rules.specs.Calls.{startCall, wordCall, subframeCall, verdictCall}
 use Rattle.rules.specs.State.{State}
 use Rattle.rules.specs.Replay.{startOf, wordOf, subframeOf, verdictOf, startAnswered, wordAnswered, subframeAnswered, verdictAnswered, answered, kindOf, recordLength, Session}

@@ -38,7 +38,17 @@ pub fn answer(
     second: &mut u32,
     count: &mut u32,
 ) -> u32
-    ensures { λ r. ⌜ gave r (now (second .exit)) (now (count .exit)) (session (state (now (config .exit)) (now (clocks .exit)) (now (words .exit)) (now (stamps .exit)) (now (blocks .exit)) (now (headers .exit)) (now (present .exit)) (now (since .exit)) (now (pubkeys .exit)) (now (offer .exit)) (now (chain .exit)) (now (numbers .exit)) (now (heldkey .exit)) (now (waiting .exit)) (now (sets .exit)) (now (arrivals .exit))) (now (area .exit)) (now (started .exit))) ≡ answered (session (state (now (config .entry)) (now (clocks .entry)) (now (words .entry)) (now (stamps .entry)) (now (blocks .entry)) (now (headers .entry)) (now (present .entry)) (now (since .entry)) (now (pubkeys .entry)) (now (offer .entry)) (now (chain .entry)) (now (numbers .entry)) (now (heldkey .entry)) (now (waiting .entry)) (now (sets .entry)) (now (arrivals .entry))) (now (area .entry)) (now (started .entry))) (now (input .entry)) ⌝ }
+    ensures { λ r. ⌜ gave r (now (second .exit)) (now (count .exit))
+        (session
+        (state (now (config .exit)) (now (clocks .exit)) (now (words .exit)) (now (stamps .exit)) (now (blocks .exit)) (now (headers .exit))
+        (now (present .exit)) (now (since .exit)) (now (pubkeys .exit)) (now (offer .exit)) (now (chain .exit)) (now (numbers .exit))
+        (now (heldkey .exit)) (now (waiting .exit)) (now (sets .exit)) (now (arrivals .exit))) (now (area .exit)) (now (started .exit)))
+        ≡ answered
+        (session
+        (state (now (config .entry)) (now (clocks .entry)) (now (words .entry)) (now (stamps .entry)) (now (blocks .entry)) (now (headers .entry))
+        (now (present .entry)) (now (since .entry)) (now (pubkeys .entry)) (now (offer .entry)) (now (chain .entry)) (now (numbers .entry))
+        (now (heldkey .entry)) (now (waiting .entry)) (now (sets .entry)) (now (arrivals .entry))) (now (area .entry)) (now (started .entry)))
+        (now (input .entry)) ⌝ }
 {
     *second = 0;
     *count = 0;
@@ -162,7 +172,18 @@ fn start(
     input: &[u8],
 ) -> u32
     requires { ⌜ length (now input) ≡ recordLength ⌝ }
-    ensures { λ r. ⌜ ((area : List ℕ) → gave r 0 0 (session (state (now (config .exit)) (now (clocks .exit)) (now (words .exit)) (now (stamps .exit)) (now (blocks .exit)) (now (headers .exit)) (now (present .exit)) (now (since .exit)) (now (pubkeys .exit)) (now (offer .exit)) (now (chain .exit)) (now (numbers .exit)) (now (heldkey .exit)) (now (waiting .exit)) (now (sets .exit)) (now (arrivals .exit))) area (now (started .exit))) ≡ startAnswered (session (state (now (config .entry)) (now (clocks .entry)) (now (words .entry)) (now (stamps .entry)) (now (blocks .entry)) (now (headers .entry)) (now (present .entry)) (now (since .entry)) (now (pubkeys .entry)) (now (offer .entry)) (now (chain .entry)) (now (numbers .entry)) (now (heldkey .entry)) (now (waiting .entry)) (now (sets .entry)) (now (arrivals .entry))) area (now (started .entry))) (now (input .entry))) ⌝ }
+    ensures { λ r. ⌜ ((area : List ℕ) →
+        gave r 0 0
+        (session
+        (state (now (config .exit)) (now (clocks .exit)) (now (words .exit)) (now (stamps .exit)) (now (blocks .exit)) (now (headers .exit))
+        (now (present .exit)) (now (since .exit)) (now (pubkeys .exit)) (now (offer .exit)) (now (chain .exit)) (now (numbers .exit))
+        (now (heldkey .exit)) (now (waiting .exit)) (now (sets .exit)) (now (arrivals .exit))) area (now (started .exit)))
+        ≡ startAnswered
+        (session
+        (state (now (config .entry)) (now (clocks .entry)) (now (words .entry)) (now (stamps .entry)) (now (blocks .entry)) (now (headers .entry))
+        (now (present .entry)) (now (since .entry)) (now (pubkeys .entry)) (now (offer .entry)) (now (chain .entry)) (now (numbers .entry))
+        (now (heldkey .entry)) (now (waiting .entry)) (now (sets .entry)) (now (arrivals .entry))) area (now (started .entry)))
+        (now (input .entry))) ⌝ }
 {
     let code = osnma::osnma_regions_start(
         config,
@@ -225,7 +246,17 @@ fn word(
     input: &[u8],
 ) -> u32
     requires { ⌜ length (now input) ≡ recordLength ⌝ }
-    ensures { λ r. ⌜ ((area : List ℕ) → gave r 0 0 (session (state (now (config .entry)) (now (clocks .exit)) (now (words .exit)) (now (stamps .exit)) (now (blocks .entry)) (now (headers .entry)) (now (present .entry)) (now (since .entry)) (now (pubkeys .entry)) (now (offer .entry)) (now (chain .entry)) (now (numbers .entry)) (now (heldkey .entry)) (now (waiting .entry)) (now (sets .entry)) (now (arrivals .entry))) area started) ≡ wordAnswered (session (state (now (config .entry)) (now (clocks .entry)) (now (words .entry)) (now (stamps .entry)) (now (blocks .entry)) (now (headers .entry)) (now (present .entry)) (now (since .entry)) (now (pubkeys .entry)) (now (offer .entry)) (now (chain .entry)) (now (numbers .entry)) (now (heldkey .entry)) (now (waiting .entry)) (now (sets .entry)) (now (arrivals .entry))) area started) (now (input .entry))) ⌝ }
+    ensures { λ r. ⌜ ((area : List ℕ) →
+        gave r 0 0
+        (session
+        (state (now (config .entry)) (now (clocks .exit)) (now (words .exit)) (now (stamps .exit)) (now (blocks .entry)) (now (headers .entry))
+        (now (present .entry)) (now (since .entry)) (now (pubkeys .entry)) (now (offer .entry)) (now (chain .entry)) (now (numbers .entry))
+        (now (heldkey .entry)) (now (waiting .entry)) (now (sets .entry)) (now (arrivals .entry))) area started)
+        ≡ wordAnswered
+        (session
+        (state (now (config .entry)) (now (clocks .entry)) (now (words .entry)) (now (stamps .entry)) (now (blocks .entry)) (now (headers .entry))
+        (now (present .entry)) (now (since .entry)) (now (pubkeys .entry)) (now (offer .entry)) (now (chain .entry)) (now (numbers .entry))
+        (now (heldkey .entry)) (now (waiting .entry)) (now (sets .entry)) (now (arrivals .entry))) area started) (now (input .entry))) ⌝ }
 {
     if started == 0 {
         return 11;
@@ -304,7 +335,17 @@ fn subframe(
     count: &mut u32,
 ) -> u32
     requires { ⌜ length (now input) ≡ recordLength ⌝ }
-    ensures { λ r. ⌜ gave r (now (mack .exit)) (now (count .exit)) (session (state (now (config .exit)) (now (clocks .exit)) (now (words .entry)) (now (stamps .entry)) (now (blocks .exit)) (now (headers .exit)) (now (present .exit)) (now (since .exit)) (now (pubkeys .exit)) (now (offer .exit)) (now (chain .entry)) (now (numbers .exit)) (now (heldkey .exit)) (now (waiting .exit)) (now (sets .exit)) (now (arrivals .exit))) (now (area .exit)) started) ≡ subframeAnswered (session (state (now (config .entry)) (now (clocks .entry)) (now (words .entry)) (now (stamps .entry)) (now (blocks .entry)) (now (headers .entry)) (now (present .entry)) (now (since .entry)) (now (pubkeys .entry)) (now (offer .entry)) (now (chain .entry)) (now (numbers .entry)) (now (heldkey .entry)) (now (waiting .entry)) (now (sets .entry)) (now (arrivals .entry))) (now (area .entry)) started) (now (input .entry)) ⌝ }
+    ensures { λ r. ⌜ gave r (now (mack .exit)) (now (count .exit))
+        (session
+        (state (now (config .exit)) (now (clocks .exit)) (now (words .entry)) (now (stamps .entry)) (now (blocks .exit)) (now (headers .exit))
+        (now (present .exit)) (now (since .exit)) (now (pubkeys .exit)) (now (offer .exit)) (now (chain .entry)) (now (numbers .exit))
+        (now (heldkey .exit)) (now (waiting .exit)) (now (sets .exit)) (now (arrivals .exit))) (now (area .exit)) started)
+        ≡ subframeAnswered
+        (session
+        (state (now (config .entry)) (now (clocks .entry)) (now (words .entry)) (now (stamps .entry)) (now (blocks .entry)) (now (headers .entry))
+        (now (present .entry)) (now (since .entry)) (now (pubkeys .entry)) (now (offer .entry)) (now (chain .entry)) (now (numbers .entry))
+        (now (heldkey .entry)) (now (waiting .entry)) (now (sets .entry)) (now (arrivals .entry))) (now (area .entry)) started)
+        (now (input .entry)) ⌝ }
 {
     if started == 0 {
         *mack = 11;
@@ -364,7 +405,17 @@ fn verdict(
     input: &[u8],
 ) -> u32
     requires { ⌜ length (now input) ≡ recordLength ⌝ }
-    ensures { λ r. ⌜ ((area : List ℕ) → gave r 0 0 (session (state (now (config .entry)) (now (clocks .entry)) (now (words .entry)) (now (stamps .entry)) (now (blocks .entry)) (now (headers .entry)) (now (present .entry)) (now (since .entry)) (now (pubkeys .exit)) (now (offer .exit)) (now (chain .exit)) (now (numbers .exit)) (now (heldkey .exit)) (now (waiting .exit)) (now (sets .entry)) (now (arrivals .entry))) area started) ≡ verdictAnswered (session (state (now (config .entry)) (now (clocks .entry)) (now (words .entry)) (now (stamps .entry)) (now (blocks .entry)) (now (headers .entry)) (now (present .entry)) (now (since .entry)) (now (pubkeys .entry)) (now (offer .entry)) (now (chain .entry)) (now (numbers .entry)) (now (heldkey .entry)) (now (waiting .entry)) (now (sets .entry)) (now (arrivals .entry))) area started) (now (input .entry))) ⌝ }
+    ensures { λ r. ⌜ ((area : List ℕ) →
+        gave r 0 0
+        (session
+        (state (now (config .entry)) (now (clocks .entry)) (now (words .entry)) (now (stamps .entry)) (now (blocks .entry)) (now (headers .entry))
+        (now (present .entry)) (now (since .entry)) (now (pubkeys .exit)) (now (offer .exit)) (now (chain .exit)) (now (numbers .exit))
+        (now (heldkey .exit)) (now (waiting .exit)) (now (sets .entry)) (now (arrivals .entry))) area started)
+        ≡ verdictAnswered
+        (session
+        (state (now (config .entry)) (now (clocks .entry)) (now (words .entry)) (now (stamps .entry)) (now (blocks .entry)) (now (headers .entry))
+        (now (present .entry)) (now (since .entry)) (now (pubkeys .entry)) (now (offer .entry)) (now (chain .entry)) (now (numbers .entry))
+        (now (heldkey .entry)) (now (waiting .entry)) (now (sets .entry)) (now (arrivals .entry))) area started) (now (input .entry))) ⌝ }
 {
     if started == 0 {
         return 11;

@@ -27,7 +27,8 @@ pub fn put_lines(
     area: &[u8],
 ) -> usize
     requires { ⌜ (84 + count * 25 ≤ length (now out)) × (count * 12 ≤ length (now area)) ⌝ }
-    ensures { λ r. ⌜ (now (out .exit) ≡ splice (now (out .entry)) 0 (linesOf place first second count (now (area .entry)))) × ((r ≡ length (linesOf place first second count (now (area .entry)))) × (r ≤ 84 + count * 25)) ⌝ }
+    ensures { λ r. ⌜ (now (out .exit) ≡ splice (now (out .entry)) 0 (linesOf place first second count (now (area .entry))))
+        × ((r ≡ length (linesOf place first second count (now (area .entry)))) × (r ≤ 84 + count * 25)) ⌝ }
 {
     let at = answer_line(out, place, first, second, count);
     record_lines(out, at, area, index(count))
@@ -42,7 +43,8 @@ fn index(x: u32) -> usize
 // The first line of a record, from the front of `out`.
 fn answer_line(out: &mut [u8], place: u64, first: u32, second: u32, count: u32) -> usize
     requires { ⌜ 84 ≤ length (now out) ⌝ }
-    ensures { λ r. ⌜ (now (out .exit) ≡ splice (now (out .entry)) 0 (answerLine place first second count)) × ((r ≡ length (answerLine place first second count)) × (r ≤ 84)) ⌝ }
+    ensures { λ r. ⌜ (now (out .exit) ≡ splice (now (out .entry)) 0 (answerLine place first second count))
+        × ((r ≡ length (answerLine place first second count)) × (r ≤ 84)) ⌝ }
 {
     let a = put_ended(out, 0, place, SPACE);
     let b = put_ended(out, a, bitfields::low(first), SPACE);
@@ -53,7 +55,8 @@ fn answer_line(out: &mut [u8], place: u64, first: u32, second: u32, count: u32) 
 // The lines of the first n tag records of `area`, from place `at`.
 fn record_lines(out: &mut [u8], at: usize, area: &[u8], n: usize) -> usize
     requires { ⌜ (at + n * 25 ≤ length (now out)) × (n * 12 ≤ length (now area)) ⌝ }
-    ensures { λ r. ⌜ (now (out .exit) ≡ splice (now (out .entry)) at (recordLines (now (area .entry)) n)) × (r ≡ at + length (recordLines (now (area .entry)) n)) ⌝ }
+    ensures { λ r. ⌜ (now (out .exit) ≡ splice (now (out .entry)) at (recordLines (now (area .entry)) n))
+        × (r ≡ at + length (recordLines (now (area .entry)) n)) ⌝ }
 {
     let mut k: usize = 0;
     while k < n {

@@ -16,7 +16,7 @@ use Rattle.laws.proofs.Tests.{and-left, and-right, neither}
 use Rattle.rules.proofs.Bounds.{count-bound, ns-range}
 use Rattle.rules.proofs.Choices.{by-number}
 use Rattle.rules.proofs.TagRecords.{length-record}
-use Rattle.section_tags.proofs.Forced.{chain-laid}
+use Rattle.section_checks.proofs.Forced.{chain-laid}
 use Rattle.rules.specs.Calls.{Subframe, SubframeTold, MackDone, fieldsOf, hkrootReceived, noted, chainOf, sectionUnfit, sectionProved, tagsWorked, mackHalf, halvesDone, subframeChecks, subframeCall}
 use Rattle.rules.specs.Chain.{Held}
 use Rattle.rules.specs.Gather.{hkrootOf, mackOf, headerOf, statusOf}

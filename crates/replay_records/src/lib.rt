@@ -35,7 +35,20 @@ pub fn replay_record(
     input: &[u8],
     out: &mut [u8],
 ) -> usize
-    ensures { λ r. ⌜ wrote r (now (out .exit)) (replay (session (state (now (config .exit)) (now (clocks .exit)) (now (words .exit)) (now (stamps .exit)) (now (blocks .exit)) (now (headers .exit)) (now (present .exit)) (now (since .exit)) (now (pubkeys .exit)) (now (offer .exit)) (now (chain .exit)) (now (numbers .exit)) (now (heldkey .exit)) (now (waiting .exit)) (now (sets .exit)) (now (arrivals .exit))) (now (area .exit)) (now (started .exit))) (now (place .exit))) ≡ written (now (out .entry)) (replay (session (state (now (config .entry)) (now (clocks .entry)) (now (words .entry)) (now (stamps .entry)) (now (blocks .entry)) (now (headers .entry)) (now (present .entry)) (now (since .entry)) (now (pubkeys .entry)) (now (offer .entry)) (now (chain .entry)) (now (numbers .entry)) (now (heldkey .entry)) (now (waiting .entry)) (now (sets .entry)) (now (arrivals .entry))) (now (area .entry)) (now (started .entry))) (now (place .entry))) (now (input .entry)) ⌝ }
+    ensures { λ r. ⌜ wrote r (now (out .exit))
+        (replay
+        (session
+        (state (now (config .exit)) (now (clocks .exit)) (now (words .exit)) (now (stamps .exit)) (now (blocks .exit)) (now (headers .exit))
+        (now (present .exit)) (now (since .exit)) (now (pubkeys .exit)) (now (offer .exit)) (now (chain .exit)) (now (numbers .exit))
+        (now (heldkey .exit)) (now (waiting .exit)) (now (sets .exit)) (now (arrivals .exit))) (now (area .exit)) (now (started .exit)))
+        (now (place .exit)))
+        ≡ written (now (out .entry))
+        (replay
+        (session
+        (state (now (config .entry)) (now (clocks .entry)) (now (words .entry)) (now (stamps .entry)) (now (blocks .entry)) (now (headers .entry))
+        (now (present .entry)) (now (since .entry)) (now (pubkeys .entry)) (now (offer .entry)) (now (chain .entry)) (now (numbers .entry))
+        (now (heldkey .entry)) (now (waiting .entry)) (now (sets .entry)) (now (arrivals .entry))) (now (area .entry)) (now (started .entry)))
+        (now (place .entry))) (now (input .entry)) ⌝ }
     ensures { λ r. ⌜ r ≤ room ⌝ }
 {
     if out.len() < 6834 {

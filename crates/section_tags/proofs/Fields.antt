@@ -28,24 +28,13 @@ use Rattle.rules.proofs.Parts.{length-set-of}
 use Rattle.rules.proofs.Entries.{length-tag-entry}
 use Rattle.rules.proofs.TagRecords.{length-record}
 use Rattle.tag_records.specs.Told.{start, Tells, Leaves}
-use Rattle.section_tags.specs.Own.{outcomeBy, settled, Grows}
+use Rattle.section_outcomes.specs.Outcomes.{outcomeBy}
+use Rattle.section_outcomes.proofs.Tests.{waits-free}
+use Rattle.section_tags.specs.Own.{settled, Grows}
 
 -- ---- outcomes
 
 -- a tag waits only where a place is free
-pub waits-free : (a b d e f g : Bool) → outcomeBy a b d e f g ≡ 5 → g ≡ true
-waits-free true b d e f g p = absurd (omega arith)
-waits-free false true d e f g p = absurd (omega arith)
-waits-free false false true e f g p = absurd (omega arith)
-waits-free false false false true f g p = absurd (omega arith)
-waits-free false false false false true g p = absurd (omega arith)
-waits-free false false false false false true p = refl
-waits-free false false false false false false p = absurd (omega arith)
-
-pub and-twice : (a b : Bool) → (a && (a && b)) ≡ (a && b)
-and-twice true b = refl
-and-twice false b = refl
-
 -- a tag that is not refused names a satellite
 prn-known : (a b v : Bool) → (a || (b || (not v || false))) ≡ false → v ≡ true
 prn-known a b true p = refl

@@ -1,35 +1,14 @@
--- A section's own tags, step by step: the key of a block's tags without delay, and what a tag of a known outcome leaves.
+-- A section's own tags, step by step: what a tag of a known outcome leaves.
 -- proofs/Fields.antt shows that a field judged by these steps is `ownJudged` (rules, Tags.antt).
-use Prim.Native.Nat.{ℕ, _+_, _-_, _*_, _≤_}
+use Prim.Native.Nat.{ℕ, _-_, _*_, _≤_}
 use mathlib.Core.Path.{_≡_}
-use mathlib.Core.Bool.{Bool, true, cond}
-use mathlib.Core.List.{List, [], _∷_, _++_}
+use mathlib.Core.Bool.{cond}
+use mathlib.Core.List.{List, _++_}
 use lib.Dec.{eqb}
 use lib.ListN.{length}
-use Rattle.laws.specs.Refusal.{refuse, firstOf}
-use Rattle.mac.specs.Kept.{keptOf}
-use Rattle.rules.specs.Chain.{Held, keyOfSlot, keySlot}
 use Rattle.rules.specs.Tags.{Work, told, kept, tagEntry}
-use Rattle.rules.specs.declared.Chain.{Chain}
 use Rattle.rules.specs.declared.Tag.{Tag}
 use Rattle.rules.specs.State.{entryLength}
-
--- what is kept of the key of the tags without delay of block b + 1
-unfoldable pub blockKey : Chain → Held → ℕ → ℕ → List ℕ
-blockKey c h time b = keptOf (c .mf) (keyOfSlot c h (keySlot c time (b + 1) 0))
-
--- the tests of `ownOutcome` in their order: not allowed, flexible and MACSEQ fails, no usable set, authentic, without delay, a place is free
-abbrev pub outcomeBy : Bool → Bool → Bool → Bool → Bool → Bool → ℕ
-outcomeBy refused unfit unusable right prompt free =
-    firstOf
-    (refuse refused 4
-    ∷ refuse unfit 6
-    ∷ refuse unusable 3
-    ∷ refuse right 1
-    ∷ refuse prompt 2
-    ∷ refuse free 5
-    ∷ refuse true 7
-    ∷ [])
 
 -- a tag of this outcome: its record and its set, and a tag that waits keeps a copy of its set
 unfoldable pub settled : ℕ → Tag → List ℕ → Work → Work

@@ -44,7 +44,8 @@ fn tag_message(t: Tag, set: &[u8], out: &mut [u8])
 // The code of a tag's message, to the tag's width; tag0's message has no PRN_N.
 fn tag_code(mf: u8, ms: u64, key: &[u8; 273], first: bool, message: &[u8]) -> u64
     requires { ⌜ (ms ≤ 40) × (length (now message) ≡ 76) ⌝ }
-    ensures { λ r. ⌜ ((k : List ℕ) (t : Tag) (navdata : List ℕ) → now (key .entry) ≡ keptOf mf k → now (message .entry) ≡ tagMessage t navdata → r ≡ macBits mf ms k (cond first (firstMessage t navdata) (tagMessage t navdata))) ⌝ }
+    ensures { λ r. ⌜ ((k : List ℕ) (t : Tag) (navdata : List ℕ) → now (key .entry) ≡ keptOf mf k → now (message .entry) ≡ tagMessage t navdata →
+        r ≡ macBits mf ms k (cond first (firstMessage t navdata) (tagMessage t navdata))) ⌝ }
 {
     if first {
         return mac::mac_bits(mf, ms as usize, key, &message[1..76]);
@@ -55,7 +56,8 @@ fn tag_code(mf: u8, ms: u64, key: &[u8; 273], first: bool, message: &[u8]) -> u6
 // The tag matches the set under the key; tag0 is the first field of a section.
 pub fn tag_matches(mf: u8, ms: u64, key: &[u8; 273], first: bool, t: Tag, set: &[u8]) -> bool
     requires { ⌜ (ms ≤ 40) × (length (now set) ≡ 69) ⌝ }
-    ensures { λ r. ⌜ ((k : List ℕ) → now (key .entry) ≡ keptOf mf k → r ≡ eqb (macBits mf ms k (cond first (firstMessage t (now (set .entry))) (tagMessage t (now (set .entry))))) (t .bits)) ⌝ }
+    ensures { λ r. ⌜ ((k : List ℕ) → now (key .entry) ≡ keptOf mf k →
+        r ≡ eqb (macBits mf ms k (cond first (firstMessage t (now (set .entry))) (tagMessage t (now (set .entry))))) (t .bits)) ⌝ }
 {
     let bits = t.bits;
     let mut message = [0u8; 76];
@@ -68,7 +70,8 @@ pub fn tag_matches(mf: u8, ms: u64, key: &[u8; 273], first: bool, t: Tag, set: &
 // The MAC-Info of field j, where it is flexible, into `out` from place n. Gives the place after it.
 fn put_info(config: &[u8], time: u32, j: usize, info: u16, out: &mut [u8], n: usize) -> usize
     requires { ⌜ (length (now config) ≡ configLength) × ((j < 14) × (n + 2 ≤ length (now out))) ⌝ }
-    ensures { λ r. ⌜ (now (out .exit) ≡ splice (now (out .entry)) n (cond (flexible (now (config .entry)) time j) (be2 info) [])) × (r ≡ n + cond (flexible (now (config .entry)) time j) 2 0) ⌝ }
+    ensures { λ r. ⌜ (now (out .exit) ≡ splice (now (out .entry)) n (cond (flexible (now (config .entry)) time j) (be2 info) []))
+        × (r ≡ n + cond (flexible (now (config .entry)) time j) 2 0) ⌝ }
 {
     if tags::flexible(config, time, j) {
         buffer::put_u16(out, n, info);
@@ -80,7 +83,9 @@ fn put_info(config: &[u8], time: u32, j: usize, info: u16, out: &mut [u8], n: us
 // The MACSEQ message in the front of `out`. Gives its length. The fields are taken off in order.
 fn macseq_message(config: &[u8], c: Chain, prn: u8, time: u32, mack: &[u8], out: &mut [u8]) -> usize
     requires { ⌜ Laid c × (((length (now config) ≡ configLength) × (length (now mack) ≡ 60)) × (length (now out) ≡ 33)) ⌝ }
-    ensures { λ r. ⌜ (take r (now (out .exit)) ≡ macseqMessage (now (config .entry)) c (section prn time 0 (now (mack .entry))) (c .nmack * c .fields)) × (r ≤ 33) ⌝ }
+    ensures { λ r. ⌜ (take r (now (out .exit)) ≡ macseqMessage (now (config .entry)) c (section prn time 0 (now (mack .entry)))
+        (c .nmack * c .fields))
+        × (r ≤ 33) ⌝ }
 {
     let count = (c.nmack * c.fields) as usize;
     let head = [
@@ -121,7 +126,9 @@ pub fn macseq_fits(
     key: &[u8; 273],
 ) -> bool
     requires { ⌜ Laid c × ((length (now config) ≡ configLength) × (length (now mack) ≡ 60)) ⌝ }
-    ensures { λ r. ⌜ ((k : List ℕ) (status : ℕ) → now (key .entry) ≡ keptOf (c .mf) k → r ≡ eqb (macBits (c .mf) 12 k (macseqMessage (now (config .entry)) c (section prn time status (now (mack .entry))) (c .nmack * c .fields))) (macseqOf c (now (mack .entry)))) ⌝ }
+    ensures { λ r. ⌜ ((k : List ℕ) (status : ℕ) → now (key .entry) ≡ keptOf (c .mf) k →
+        r ≡ eqb (macBits (c .mf) 12 k (macseqMessage (now (config .entry)) c (section prn time status (now (mack .entry))) (c .nmack * c .fields)))
+        (macseqOf c (now (mack .entry)))) ⌝ }
 {
     let mut message = [0u8; 33];
     let n = macseq_message(config, c, prn, time, mack, &mut message);

@@ -35,7 +35,9 @@ fn marks_set(outcome: u8, t: Tag) -> bool
 // The set of an authentic tag enters its satellite's place.
 fn enter(outcome: u8, t: Tag, set: &[u8], sets: &mut [u8], arrivals: &mut [u32])
     requires { ⌜ ((length (now sets) ≡ setsLength) × (length (now arrivals) ≡ arrivalsLength)) × (length (now set) ≡ copyLength) ⌝ }
-    ensures { λ _. ⌜ (now (sets .exit) ≡ cond (marksSet outcome t) (setsEntered (now (sets .entry)) (now (arrivals .entry)) t (now (set .entry))) (now (sets .entry))) × (now (arrivals .exit) ≡ cond (marksSet outcome t) (arrivalsEntered (now (arrivals .entry)) t) (now (arrivals .entry))) ⌝ }
+    ensures { λ _. ⌜ (now (sets .exit) ≡ cond (marksSet outcome t) (setsEntered (now (sets .entry)) (now (arrivals .entry)) t (now (set .entry)))
+        (now (sets .entry)))
+        × (now (arrivals .exit) ≡ cond (marksSet outcome t) (arrivalsEntered (now (arrivals .entry)) t) (now (arrivals .entry))) ⌝ }
 {
     if marks_set(outcome, t) {
         authentic_sets::enter_set(sets, arrivals, t, set);
@@ -52,8 +54,10 @@ pub fn tell(
     area: &mut [u8],
     at: usize,
 )
-    requires { ⌜ ((length (now sets) ≡ setsLength) × (length (now arrivals) ≡ arrivalsLength)) × ((length (now set) ≡ copyLength) × (at + 12 ≤ length (now area))) ⌝ }
-    ensures { λ _. ⌜ Tells (told outcome t (now (set .entry)) (start 0 (now (sets .entry)) (now (arrivals .entry)))) at (now (area .entry)) (now (sets .exit)) (now (arrivals .exit)) (now (area .exit)) ⌝ }
+    requires { ⌜ ((length (now sets) ≡ setsLength) × (length (now arrivals) ≡ arrivalsLength))
+        × ((length (now set) ≡ copyLength) × (at + 12 ≤ length (now area))) ⌝ }
+    ensures { λ _. ⌜ Tells (told outcome t (now (set .entry)) (start 0 (now (sets .entry)) (now (arrivals .entry)))) at (now (area .entry))
+        (now (sets .exit)) (now (arrivals .exit)) (now (area .exit)) ⌝ }
 {
     let issue = record_issue(outcome, set);
     put_record(area, at, outcome, t, issue);

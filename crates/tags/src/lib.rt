@@ -160,7 +160,9 @@ pub fn own_outcome(
     matches: bool,
     free: bool,
 ) -> Outcome
-    ensures { λ r. ⌜ outcomeNumber r ≡ firstOf (refuse refused 4 ∷ refuse unfit 6 ∷ refuse unusable 3 ∷ refuse (prompt && matches) 1 ∷ refuse prompt 2 ∷ refuse free 5 ∷ refuse true 7 ∷ []) ⌝ }
+    ensures { λ r. ⌜ outcomeNumber r ≡ firstOf
+        (refuse refused 4 ∷ refuse unfit 6 ∷ refuse unusable 3 ∷ refuse (prompt && matches) 1 ∷ refuse prompt 2 ∷ refuse free 5 ∷ refuse true 7 ∷
+        []) ⌝ }
 {
     if refused {
         return Outcome::NotAllowed;

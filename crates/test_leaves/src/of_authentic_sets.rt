@@ -17,7 +17,8 @@ pub extern "C" fn leaf_enter_set(
 )
     requires { ⌜ ((length (now sets) ≡ setsLength) × (length (now arrivals) ≡ arrivalsLength)) × (length (now set) ≡ 69) ⌝ }
     requires { ⌜ ((1 ≤ prn) × (prn ≤ 36)) × (time < 4294967295) ⌝ }
-    ensures { λ _. ⌜ (now (sets .exit) ≡ setsEntered (now (sets .entry)) (now (arrivals .entry)) (tagOf 0 prn 0 0 0 time 0 0) (now (set .entry))) × (now (arrivals .exit) ≡ arrivalsEntered (now (arrivals .entry)) (tagOf 0 prn 0 0 0 time 0 0)) ⌝ }
+    ensures { λ _. ⌜ (now (sets .exit) ≡ setsEntered (now (sets .entry)) (now (arrivals .entry)) (tagOf 0 prn 0 0 0 time 0 0) (now (set .entry)))
+        × (now (arrivals .exit) ≡ arrivalsEntered (now (arrivals .entry)) (tagOf 0 prn 0 0 0 time 0 0)) ⌝ }
 {
     let t = Tag {
         sender: 0,

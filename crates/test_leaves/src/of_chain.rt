@@ -87,7 +87,9 @@ pub extern "C" fn leaf_key_fits(
     key: &[u8; 32],
 ) -> u32
     requires { ⌜ Walks (chainOf ns nmack root (now alpha) width 0 0) × ((slot ≤ 2 ^ 34) × (sent ≤ 2 ^ 34)) ⌝ }
-    ensures { λ r. ⌜ r ≡ cond (keyFits (chainOf ns nmack root (now (alpha .entry)) width 0 0) (held slot (take width (now (known .entry)))) sent (take width (now (key .entry)))) 1 0 ⌝ }
+    ensures { λ r. ⌜ r ≡ cond
+        (keyFits (chainOf ns nmack root (now (alpha .entry)) width 0 0) (held slot (take width (now (known .entry)))) sent
+        (take width (now (key .entry)))) 1 0 ⌝ }
 {
     let a = *alpha;
     let c = Chain {
@@ -118,7 +120,8 @@ pub extern "C" fn leaf_key_of_slot(
     key: &mut [u8; 32],
 )
     requires { ⌜ Walks (chainOf ns nmack root (now alpha) width 0 0) × (slot ≤ 2 ^ 34) ⌝ }
-    ensures { λ _. ⌜ now (key .exit) ≡ splice (now (key .entry)) 0 (keyOfSlot (chainOf ns nmack root (now (alpha .entry)) width 0 0) (held slot (take width (now (key .entry)))) m) ⌝ }
+    ensures { λ _. ⌜ now (key .exit) ≡ splice (now (key .entry)) 0
+        (keyOfSlot (chainOf ns nmack root (now (alpha .entry)) width 0 0) (held slot (take width (now (key .entry)))) m) ⌝ }
 {
     let a = *alpha;
     let c = Chain {

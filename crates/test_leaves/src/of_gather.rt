@@ -44,7 +44,9 @@ pub extern "C" fn leaf_gather(
     hk: &[u8; 15],
 ) -> usize
     requires { ⌜ Lent (now blocks) (now headers) (now present) (now since) ⌝ }
-    ensures { λ r. ⌜ gatherTold r (store (now (blocks .exit)) (now (headers .exit)) (now (present .exit)) (now (since .exit))) (Gather.dsmIdOf (now (hk .entry))) ≡ Gather.gathered (store (now (blocks .entry)) (now (headers .entry)) (now (present .entry)) (now (since .entry))) t (now (hk .entry)) ⌝ }
+    ensures { λ r. ⌜ gatherTold r (store (now (blocks .exit)) (now (headers .exit)) (now (present .exit)) (now (since .exit)))
+        (Gather.dsmIdOf (now (hk .entry)))
+        ≡ Gather.gathered (store (now (blocks .entry)) (now (headers .entry)) (now (present .entry)) (now (since .entry))) t (now (hk .entry)) ⌝ }
 {
     let answer = gather::gather(blocks, headers, present, since, t, hk);
     gathered_number(answer)

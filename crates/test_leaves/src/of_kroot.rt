@@ -16,8 +16,11 @@ pub extern "C" fn leaf_kroot_judge(
     header: u8,
     d: &[u8],
 ) -> u32
-    requires { ⌜ ((length (now pubkeys) ≡ pubkeysLength) × (length (now config) ≡ configLength)) × ((length (now offer) ≡ offerLength) × (91 ≤ length (now d))) ⌝ }
-    ensures { λ r. ⌜ (r ≡ (Kroot.krootJudged (now (pubkeys .entry)) (now (config .entry)) (now (offer .entry)) header (now (d .entry))) .code) × (now (offer .exit) ≡ (Kroot.krootJudged (now (pubkeys .entry)) (now (config .entry)) (now (offer .entry)) header (now (d .entry))) .offer) ⌝ }
+    requires { ⌜ ((length (now pubkeys) ≡ pubkeysLength) × (length (now config) ≡ configLength))
+        × ((length (now offer) ≡ offerLength) × (91 ≤ length (now d))) ⌝ }
+    ensures { λ r. ⌜ (r ≡ (Kroot.krootJudged (now (pubkeys .entry)) (now (config .entry)) (now (offer .entry)) header (now (d .entry))) .code)
+        × (now (offer .exit) ≡ (Kroot.krootJudged (now (pubkeys .entry)) (now (config .entry)) (now (offer .entry)) header (now (d .entry)))
+        .offer) ⌝ }
 {
     kroot::kroot_judge(pubkeys, config, offer, header, d)
 }
@@ -26,7 +29,10 @@ pub extern "C" fn leaf_kroot_judge(
 #[no_mangle]
 pub extern "C" fn leaf_names_offer(offer: &[u8], id: u8, message: &[u8], signature: &[u8]) -> u32
     requires { ⌜ length (now offer) ≡ offerLength ⌝ }
-    ensures { λ r. ⌜ ((good : ℕ) → r ≡ cond (namesOffer (now (offer .entry)) (record { good = good; id = id; message = now (message .entry); signature = now (signature .entry) })) 1 0) ⌝ }
+    ensures { λ r. ⌜ ((good : ℕ) →
+        r ≡ cond
+        (namesOffer (now (offer .entry)) (record { good = good; id = id; message = now (message .entry); signature = now (signature .entry) })) 1
+        0) ⌝ }
 {
     bools::number(kroot::names_offer(offer, id, message, signature))
 }
@@ -42,7 +48,8 @@ pub extern "C" fn leaf_in_force(config: &[u8], chain: &[u8]) -> u32
 #[no_mangle]
 pub extern "C" fn leaf_chain_with(ns: u64, c: &[u8], numbers: &mut [u64; 7], alpha: &mut [u8; 6])
     requires { ⌜ 44 ≤ length (now c) ⌝ }
-    ensures { λ _. ⌜ (now (numbers .exit) ≡ chainNumbers (Kroot.chainWith ns (now (c .entry)))) × (now (alpha .exit) ≡ (Kroot.chainWith ns (now (c .entry))) .alpha) ⌝ }
+    ensures { λ _. ⌜ (now (numbers .exit) ≡ chainNumbers (Kroot.chainWith ns (now (c .entry))))
+        × (now (alpha .exit) ≡ (Kroot.chainWith ns (now (c .entry))) .alpha) ⌝ }
 {
     let p = kroot::chain_with(ns, c);
     *numbers = [

@@ -27,7 +27,11 @@ pub extern "C" fn leaf_keys_code(
     key: &mut [u8; 32],
 ) -> u32
     requires { ⌜ Sound (chainOf ns nmack root (now alpha) width ms fields) × ((length (now m) ≡ 60) × ((slot < 2 ^ 34) × (length (now key) ≡ 32))) ⌝ }
-    ensures { λ r. ⌜ (r ≡ (keysReceived (chainOf ns nmack root (now (alpha .entry)) width ms fields) g prn (now (m .entry)) 65535 (held slot (take width (now (key .entry)))) nmack) .code) × (now (key .exit) ≡ splice (now (key .entry)) 0 ((keysReceived (chainOf ns nmack root (now (alpha .entry)) width ms fields) g prn (now (m .entry)) 65535 (held slot (take width (now (key .entry)))) nmack) .held .key)) ⌝ }
+    ensures { λ r. ⌜ (r ≡ (keysReceived (chainOf ns nmack root (now (alpha .entry)) width ms fields) g prn (now (m .entry)) 65535
+        (held slot (take width (now (key .entry)))) nmack) .code)
+        × (now (key .exit) ≡ splice (now (key .entry)) 0
+        ((keysReceived (chainOf ns nmack root (now (alpha .entry)) width ms fields) g prn (now (m .entry)) 65535
+        (held slot (take width (now (key .entry)))) nmack) .held .key)) ⌝ }
 {
     let a = *alpha;
     let c = Chain {
@@ -63,7 +67,11 @@ pub extern "C" fn leaf_keys_slot(
     key: &mut [u8; 32],
 ) -> u64
     requires { ⌜ Sound (chainOf ns nmack root (now alpha) width ms fields) × ((length (now m) ≡ 60) × ((slot < 2 ^ 34) × (length (now key) ≡ 32))) ⌝ }
-    ensures { λ r. ⌜ (r ≡ (keysReceived (chainOf ns nmack root (now (alpha .entry)) width ms fields) g prn (now (m .entry)) 65535 (held slot (take width (now (key .entry)))) nmack) .held .slot) × (now (key .exit) ≡ splice (now (key .entry)) 0 ((keysReceived (chainOf ns nmack root (now (alpha .entry)) width ms fields) g prn (now (m .entry)) 65535 (held slot (take width (now (key .entry)))) nmack) .held .key)) ⌝ }
+    ensures { λ r. ⌜ (r ≡ (keysReceived (chainOf ns nmack root (now (alpha .entry)) width ms fields) g prn (now (m .entry)) 65535
+        (held slot (take width (now (key .entry)))) nmack) .held .slot)
+        × (now (key .exit) ≡ splice (now (key .entry)) 0
+        ((keysReceived (chainOf ns nmack root (now (alpha .entry)) width ms fields) g prn (now (m .entry)) 65535
+        (held slot (take width (now (key .entry)))) nmack) .held .key)) ⌝ }
 {
     let a = *alpha;
     let c = Chain {

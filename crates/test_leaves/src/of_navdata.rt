@@ -20,7 +20,8 @@ pub extern "C" fn leaf_store_word(
 )
     requires { ⌜ ((length (now words) ≡ wordsLength) × (length (now stamps) ≡ stampsLength)) × (length (now w) ≡ 16) ⌝ }
     requires { ⌜ ((1 ≤ prn) × (prn ≤ 36)) × ((1 ≤ kind) × (kind ≤ 5)) ⌝ }
-    ensures { λ _. ⌜ nav (now (words .exit)) (now (stamps .exit)) ≡ Navdata.wordStored (nav (now (words .entry)) (now (stamps .entry))) prn kind (now (w .entry)) stamp ⌝ }
+    ensures { λ _. ⌜ nav (now (words .exit)) (now (stamps .exit))
+        ≡ Navdata.wordStored (nav (now (words .entry)) (now (stamps .entry))) prn kind (now (w .entry)) stamp ⌝ }
 {
     navdata::store_word(words, stamps, prn, kind, w, stamp);
 }

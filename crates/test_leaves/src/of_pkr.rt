@@ -10,7 +10,8 @@ ghost use Rattle.rules.specs.State.{pubkeysLength};
 #[no_mangle]
 pub extern "C" fn leaf_pkr_code(pubkeys: &mut [u8], root: &[u8], d: &[u8]) -> u32
     requires { ⌜ (length (now pubkeys) ≡ pubkeysLength) × ((91 ≤ length (now d)) × (length (now d) ≤ 208)) ⌝ }
-    ensures { λ r. ⌜ (r ≡ (Pkr.pkrJudged (now (pubkeys .entry)) (now (root .entry)) (now (d .entry))) .code) × (now (pubkeys .exit) ≡ (Pkr.pkrJudged (now (pubkeys .entry)) (now (root .entry)) (now (d .entry))) .pubkeys) ⌝ }
+    ensures { λ r. ⌜ (r ≡ (Pkr.pkrJudged (now (pubkeys .entry)) (now (root .entry)) (now (d .entry))) .code)
+        × (now (pubkeys .exit) ≡ (Pkr.pkrJudged (now (pubkeys .entry)) (now (root .entry)) (now (d .entry))) .pubkeys) ⌝ }
 {
     let r = pkr::pkr_judge(pubkeys, root, d);
     r.code
@@ -20,7 +21,8 @@ pub extern "C" fn leaf_pkr_code(pubkeys: &mut [u8], root: &[u8], d: &[u8]) -> u3
 #[no_mangle]
 pub extern "C" fn leaf_pkr_stops(pubkeys: &mut [u8], root: &[u8], d: &[u8]) -> u32
     requires { ⌜ (length (now pubkeys) ≡ pubkeysLength) × ((91 ≤ length (now d)) × (length (now d) ≤ 208)) ⌝ }
-    ensures { λ r. ⌜ (r ≡ cond ((Pkr.pkrJudged (now (pubkeys .entry)) (now (root .entry)) (now (d .entry))) .stops) 1 0) × (now (pubkeys .exit) ≡ (Pkr.pkrJudged (now (pubkeys .entry)) (now (root .entry)) (now (d .entry))) .pubkeys) ⌝ }
+    ensures { λ r. ⌜ (r ≡ cond ((Pkr.pkrJudged (now (pubkeys .entry)) (now (root .entry)) (now (d .entry))) .stops) 1 0)
+        × (now (pubkeys .exit) ≡ (Pkr.pkrJudged (now (pubkeys .entry)) (now (root .entry)) (now (d .entry))) .pubkeys) ⌝ }
 {
     let r = pkr::pkr_judge(pubkeys, root, d);
     bools::number(r.stops)

@@ -39,7 +39,11 @@ pub extern "C" fn leaf_tag_matches(
     set: &[u8],
 ) -> u32
     requires { ⌜ ((ms ≤ 40) × (length (now set) ≡ 69)) × (length (now key) ≤ 32) ⌝ }
-    ensures { λ r. ⌜ r ≡ cond (eqb (macBits mf ms (now (key .entry)) (cond (eqb first 1) (firstMessage (tagOf sender prn 0 1 position time status bits) (now (set .entry))) (tagMessage (tagOf sender prn 0 1 position time status bits) (now (set .entry))))) bits) 1 0 ⌝ }
+    ensures { λ r. ⌜ r ≡ cond
+        (eqb
+        (macBits mf ms (now (key .entry))
+        (cond (eqb first 1) (firstMessage (tagOf sender prn 0 1 position time status bits) (now (set .entry)))
+        (tagMessage (tagOf sender prn 0 1 position time status bits) (now (set .entry))))) bits) 1 0 ⌝ }
 {
     let t = Tag {
         sender: sender,
@@ -71,7 +75,12 @@ pub extern "C" fn leaf_macseq_fits(
 ) -> u32
     requires { ⌜ Laid (codedBy mf nmack ms fields) × ((length (now config) ≡ configLength) × (length (now mack) ≡ 60)) ⌝ }
     requires { ⌜ length (now key) ≤ 32 ⌝ }
-    ensures { λ r. ⌜ ((status : ℕ) → r ≡ cond (eqb (macBits mf 12 (now (key .entry)) (macseqMessage (now (config .entry)) (codedBy mf nmack ms fields) (section prn time status (now (mack .entry))) (nmack * fields))) (macseqOf (codedBy mf nmack ms fields) (now (mack .entry)))) 1 0) ⌝ }
+    ensures { λ r. ⌜ ((status : ℕ) →
+        r ≡ cond
+        (eqb
+        (macBits mf 12 (now (key .entry))
+        (macseqMessage (now (config .entry)) (codedBy mf nmack ms fields) (section prn time status (now (mack .entry))) (nmack * fields)))
+        (macseqOf (codedBy mf nmack ms fields) (now (mack .entry)))) 1 0) ⌝ }
 {
     let c = Chain {
         ns: 0,

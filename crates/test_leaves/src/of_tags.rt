@@ -91,7 +91,9 @@ pub extern "C" fn leaf_own_outcome(
     matches: u32,
     free: u32,
 ) -> u8
-    ensures { λ r. ⌜ r ≡ firstOf (refuse (eqb refused 1) 4 ∷ refuse (eqb unfit 1) 6 ∷ refuse (eqb unusable 1) 3 ∷ refuse (eqb prompt 1 && eqb matches 1) 1 ∷ refuse (eqb prompt 1) 2 ∷ refuse (eqb free 1) 5 ∷ refuse true 7 ∷ []) ⌝ }
+    ensures { λ r. ⌜ r ≡ firstOf
+        (refuse (eqb refused 1) 4 ∷ refuse (eqb unfit 1) 6 ∷ refuse (eqb unusable 1) 3 ∷ refuse (eqb prompt 1 && eqb matches 1) 1 ∷ refuse
+        (eqb prompt 1) 2 ∷ refuse (eqb free 1) 5 ∷ refuse true 7 ∷ []) ⌝ }
 {
     let outcome = tags::own_outcome(
         refused == 1,

@@ -28,7 +28,8 @@ pub extern "C" fn leaf_put_entry(
     set: &[u8],
 )
     requires { ⌜ (k * entryLength + entryLength ≤ length (now waiting)) × (length (now set) ≡ 69) ⌝ }
-    ensures { λ _. ⌜ now (waiting .exit) ≡ splice (now (waiting .entry)) (k * entryLength) (tagEntry (tagOf sender prn adkd block position time status bits) (now (set .entry))) ⌝ }
+    ensures { λ _. ⌜ now (waiting .exit) ≡ splice (now (waiting .entry)) (k * entryLength)
+        (tagEntry (tagOf sender prn adkd block position time status bits) (now (set .entry))) ⌝ }
 {
     let t = Tag {
         sender: sender,
@@ -46,7 +47,8 @@ pub extern "C" fn leaf_put_entry(
 #[no_mangle]
 pub extern "C" fn leaf_keep_staying(waiting: &mut [u8], root: u64, n: usize) -> usize
     requires { ⌜ (length (now waiting) ≡ waitingLength) × (n ≤ 256) ⌝ }
-    ensures { λ r. ⌜ (now (waiting .exit) ≡ splice (now (waiting .entry)) 0 (staying root (now (waiting .entry)) n)) × ((length (staying root (now (waiting .entry)) n) ≡ r * entryLength) × (r ≤ n)) ⌝ }
+    ensures { λ r. ⌜ (now (waiting .exit) ≡ splice (now (waiting .entry)) 0 (staying root (now (waiting .entry)) n))
+        × ((length (staying root (now (waiting .entry)) n) ≡ r * entryLength) × (r ≤ n)) ⌝ }
 {
     waiting_tags::keep_staying(waiting, root, n)
 }

@@ -133,7 +133,9 @@ fn stays(waiting: &[u8], root: u64, k: usize) -> bool
 // Entry k, after `kept` that stay: where it stays, it closes up. Gives how many stay then.
 fn keep_one(waiting: &mut [u8], root: u64, k: usize, kept: usize) -> usize
     requires { ⌜ (kept ≤ k) × ((k < 256) × (k * entryLength + entryLength ≤ length (now waiting))) ⌝ }
-    ensures { λ r. ⌜ (now (waiting .exit) ≡ splice (now (waiting .entry)) (kept * entryLength) (cond (keyNotBefore root (entryAt (now (waiting .entry)) k)) (entryAt (now (waiting .entry)) k) [])) × (r ≡ kept + cond (keyNotBefore root (entryAt (now (waiting .entry)) k)) 1 0) ⌝ }
+    ensures { λ r. ⌜ (now (waiting .exit) ≡ splice (now (waiting .entry)) (kept * entryLength)
+        (cond (keyNotBefore root (entryAt (now (waiting .entry)) k)) (entryAt (now (waiting .entry)) k) []))
+        × (r ≡ kept + cond (keyNotBefore root (entryAt (now (waiting .entry)) k)) 1 0) ⌝ }
 {
     if stays(waiting, root, k) {
         move_entry(waiting, k, kept);
@@ -145,7 +147,8 @@ fn keep_one(waiting: &mut [u8], root: u64, k: usize, kept: usize) -> usize
 // Those of the first n waiting tags that stay at a new root close up, in order. Gives their number.
 pub fn keep_staying(waiting: &mut [u8], root: u64, n: usize) -> usize
     requires { ⌜ (length (now waiting) ≡ waitingLength) × (n ≤ 256) ⌝ }
-    ensures { λ r. ⌜ (now (waiting .exit) ≡ splice (now (waiting .entry)) 0 (staying root (now (waiting .entry)) n)) × ((length (staying root (now (waiting .entry)) n) ≡ r * entryLength) × (r ≤ n)) ⌝ }
+    ensures { λ r. ⌜ (now (waiting .exit) ≡ splice (now (waiting .entry)) 0 (staying root (now (waiting .entry)) n))
+        × ((length (staying root (now (waiting .entry)) n) ≡ r * entryLength) × (r ≤ n)) ⌝ }
 {
     let mut kept: usize = 0;
     let mut k: usize = 0;

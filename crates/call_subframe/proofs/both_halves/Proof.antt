@@ -9,7 +9,7 @@ use denote.Ref.{now}
 use Rattle.rules.specs.Calls.{hkrootReceived}
 use Rattle.rules.specs.Gather.{hkrootOf, mackOf, headerOf}
 use Rattle.rules.specs.State.{state}
-use Rattle.call_subframe.specs.Told.{subframe}
+use Rattle.regions.specs.Told.{subframe}
 use Rattle.call_subframe.proofs.Subframes.{stops, goes-on}
 use borrow.Author.Needs.{needs}
 use Rattle.call_subframe.proofs.both_halves.Statement.{statement}

@@ -9,7 +9,7 @@ use denote.Ref.{now}
 use Rattle.rules.specs.Calls.{Subframe}
 use Rattle.rules.specs.State.{State, state, shaped, areaLength}
 use Rattle.rules.proofs.Lengths.{Sized, sized}
-use Rattle.call_subframe.specs.Told.{subframe}
+use Rattle.regions.specs.Told.{subframe}
 use Rattle.call_subframe.proofs.Subframes.{refused, zero-bytes, accepted}
 use borrow.Author.Needs.{needs}
 use Rattle.call_subframe.proofs.take_subframe.Statement.{statement}

@@ -9,7 +9,7 @@ use denote.Ref.{now}
 use Rattle.laws.proofs.Tests.{and-left, and-right}
 use Rattle.rules.specs.Calls.{Subframe}
 use Rattle.rules.specs.State.{State, state, shaped, areaLength}
-use Rattle.call_subframe.specs.Told.{subframe}
+use Rattle.regions.specs.Told.{subframe}
 use Rattle.call_subframe.proofs.Subframes.{unshaped}
 use borrow.Author.Needs.{needs}
 use Rattle.osnma.proofs.osnma_regions_subframe.Statement.{statement}

@@ -10,8 +10,9 @@ use Rattle.rules.specs.Received.{fieldsJudged}
 use Rattle.navdata.specs.Pieces.{nav}
 use Rattle.tags.specs.Layout.{section}
 use Rattle.tag_records.specs.Told.{start, Leaves}
-use Rattle.section_tags.specs.Own.{blockKey, Grows}
-use Rattle.section_tags.proofs.Keys.{next-block, macseq-is}
+use Rattle.section_outcomes.specs.Outcomes.{blockKey}
+use Rattle.section_tags.specs.Own.{Grows}
+use Rattle.section_outcomes.proofs.Keys.{next-block, macseq-is}
 use Rattle.section_tags.proofs.Fields.{none-judged, next-judged}
 use Rattle.section_tags.proofs.judge_own.Statement.{statement}
 use Rattle.section_tags.proofs.judge_own.Tie as tie

@@ -7,7 +7,7 @@ use denote.Ref.{now}
 use Rattle.navdata.specs.Pieces.{nav}
 use Rattle.tags.specs.Layout.{section}
 use Rattle.tag_records.specs.Told.{start}
-use Rattle.section_tags.proofs.Keys.{tag-block, tag-key}
+use Rattle.section_outcomes.proofs.Keys.{tag-block, tag-key}
 use Rattle.section_tags.proofs.Fields.{one-judged}
 use borrow.Author.Needs.{needs}
 use Rattle.rules.proofs.Parts.{length-set-of}

@@ -1,2 +1,0 @@
--- What the contracts of the sub-frame call speak of.
-pub mod Told

@@ -1,0 +1,3 @@
+-- Laws of row 11, and of the chain in force.
+pub mod Forced
+mod Sections

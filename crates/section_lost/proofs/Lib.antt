@@ -1,0 +1,2 @@
+-- Laws of lost fields.
+mod Lost
