@@ -8,7 +8,8 @@ ghost use lib.ListN.{length};
 ghost use Rattle.gather.specs.Store.{Lent};
 ghost use Rattle.rules.specs.Calls.{halvesDone, subframeCall};
 ghost use Rattle.rules.specs.Received.{received};
-ghost use Rattle.rules.specs.State.{state, shaped, configLength, areaLength, chainLength, heldkeyLength, numbersLength, offerLength, pubkeysLength, setsLength, stampsLength, waitingLength, wordsLength, arrivalsLength};
+ghost use Rattle.rules.specs.State.{state, shaped, configLength, wordsLength, stampsLength, pubkeysLength, offerLength, chainLength};
+ghost use Rattle.rules.specs.State.{numbersLength, heldkeyLength, waitingLength, setsLength, arrivalsLength, areaLength};
 ghost use Rattle.regions.specs.Told.{subframeTold, subframe};
 
 // What the call gives: a number for each half, and how many tag records were written.

@@ -38,8 +38,10 @@ pub fn judge_verdict(
         × (((length (now numbers) ≡ numbersLength) × (length (now heldkey) ≡ heldkeyLength))
         × ((length (now waiting) ≡ waitingLength) × ((length (now message) ≡ 45) × (length (now signature) ≡ 132)))) ⌝ }
     ensures { λ r. ⌜ ((s : State) →
-        told r (verdictLent s (now (config .entry)) (now (pubkeys .exit)) (now (offer .exit)) (now (chain .exit)) (now (numbers .exit)) (now (heldkey .exit)) (now (waiting .exit)))
-        ≡ verdictCall (verdictLent s (now (config .entry)) (now (pubkeys .entry)) (now (offer .entry)) (now (chain .entry)) (now (numbers .entry)) (now (heldkey .entry)) (now (waiting .entry)))
+        told r (verdictLent s (now (config .entry)) (now (pubkeys .exit)) (now (offer .exit)) (now (chain .exit))
+        (now (numbers .exit)) (now (heldkey .exit)) (now (waiting .exit)))
+        ≡ verdictCall (verdictLent s (now (config .entry)) (now (pubkeys .entry)) (now (offer .entry)) (now (chain .entry))
+        (now (numbers .entry)) (now (heldkey .entry)) (now (waiting .entry)))
         (record { good = good; id = id; message = now (message .entry); signature = now (signature .entry) })) ⌝ }
 {
     if 1 < good {
@@ -85,10 +87,13 @@ fn judge_named(
         × (((length (now numbers) ≡ numbersLength) × (length (now heldkey) ≡ heldkeyLength))
         × ((length (now waiting) ≡ waitingLength) × (length (now message) ≡ 45))) ⌝ }
     ensures { λ r. ⌜ ((s : State) →
-        (r ≡ firstOf (S.vouchChecks (verdictLent s (now (config .entry)) (now (pubkeys .entry)) (now (offer .entry)) (now (chain .entry)) (now (numbers .entry)) (now (heldkey .entry)) (now (waiting .entry)))
+        (r ≡ firstOf (S.vouchChecks (verdictLent s (now (config .entry)) (now (pubkeys .entry)) (now (offer .entry)) (now (chain .entry))
+        (now (numbers .entry)) (now (heldkey .entry)) (now (waiting .entry)))
         (record { good = good; id = id; message = now (message .entry); signature = now (signature .entry) })))
-        × (verdictLent s (now (config .entry)) (now (pubkeys .exit)) (now (offer .exit)) (now (chain .exit)) (now (numbers .exit)) (now (heldkey .exit)) (now (waiting .exit))
-        ≡ S.judgedVerdict (verdictLent s (now (config .entry)) (now (pubkeys .entry)) (now (offer .entry)) (now (chain .entry)) (now (numbers .entry)) (now (heldkey .entry)) (now (waiting .entry)))
+        × (verdictLent s (now (config .entry)) (now (pubkeys .exit)) (now (offer .exit)) (now (chain .exit))
+        (now (numbers .exit)) (now (heldkey .exit)) (now (waiting .exit))
+        ≡ S.judgedVerdict (verdictLent s (now (config .entry)) (now (pubkeys .entry)) (now (offer .entry)) (now (chain .entry))
+        (now (numbers .entry)) (now (heldkey .entry)) (now (waiting .entry)))
         (record { good = good; id = id; message = now (message .entry); signature = now (signature .entry) }) r)) ⌝ }
 {
     let code = call_verdict_checks::vouch_refusal(
