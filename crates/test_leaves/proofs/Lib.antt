@@ -1,3 +1,2 @@
--- The checks of a walk, and the answer of `gather` as one number.
+-- The checks of a walk.
 mod Checks
-mod Told

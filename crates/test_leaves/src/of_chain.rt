@@ -5,9 +5,8 @@ ghost use mathlib.Core.Bool.{cond};
 ghost use Prim.Native.Nat.{_+_, _^_, _≤_};
 ghost use lib.Dec.{leb};
 ghost use lib.ListN.{take};
-ghost use Rattle.laws.specs.Lists.{splice};
 ghost use Rattle.rules.specs.Bits.{within};
-ghost use Rattle.rules.specs.Chain.{held, keyOfSlot, keyFits};
+ghost use Rattle.rules.specs.Chain.{held, keyFits};
 ghost use Rattle.chain.specs.Sound.{Walks};
 ghost use Rattle.test_leaves.specs.Numbers.{chainOf};
 ghost use Rattle.test_leaves.specs.Walk.{gave, osnmaWalk};
@@ -105,34 +104,4 @@ pub extern "C" fn leaf_key_fits(
     let k = *known;
     let s = *key;
     bools::number(chain::key_fits(c, slot, k, sent, s))
-}
-
-// The key of slot m, from the key that is held of slot `slot`.
-#[no_mangle]
-pub extern "C" fn leaf_key_of_slot(
-    ns: u64,
-    nmack: u64,
-    root: u64,
-    alpha: &[u8; 6],
-    width: usize,
-    slot: u64,
-    m: u64,
-    key: &mut [u8; 32],
-)
-    requires { ⌜ Walks (chainOf ns nmack root (now alpha) width 0 0) × (slot ≤ 2 ^ 34) ⌝ }
-    ensures { λ _. ⌜ now (key .exit) ≡ splice (now (key .entry)) 0
-        (keyOfSlot (chainOf ns nmack root (now (alpha .entry)) width 0 0) (held slot (take width (now (key .entry)))) m) ⌝ }
-{
-    let a = *alpha;
-    let c = Chain {
-        ns: ns,
-        nmack: nmack,
-        root: root,
-        alpha: a,
-        mf: 0,
-        width: width,
-        ms: 0,
-        fields: 0,
-    };
-    chain::key_of_slot(c, slot, m, key);
 }

@@ -1,16 +1,12 @@
 // The codes of tags and of MACSEQ (crates/mac, crates/tag_codes), by the function that MF names. Each function makes the kept key and calls its leaf once.
-use rules::Chain;
 use rules::Tag;
 ghost use mathlib.Core.Path.{_≡_};
 ghost use mathlib.Core.Bool.{cond};
-ghost use Prim.Native.Nat.{ℕ, _*_, _≤_};
+ghost use Prim.Native.Nat.{_≤_};
 ghost use lib.Dec.{eqb};
 ghost use lib.ListN.{length};
-ghost use Rattle.rules.specs.Mack.{macseqOf};
-ghost use Rattle.rules.specs.Tags.{macBits, firstMessage, tagMessage, macseqMessage};
-ghost use Rattle.rules.specs.State.{configLength};
-ghost use Rattle.tags.specs.Layout.{Laid, section};
-ghost use Rattle.test_leaves.specs.Numbers.{codedBy, tagOf};
+ghost use Rattle.rules.specs.Tags.{macBits, firstMessage, tagMessage};
+ghost use Rattle.test_leaves.specs.Numbers.{tagOf};
 
 // The first n bits of the code of a message under a key.
 #[no_mangle]
@@ -58,41 +54,4 @@ pub extern "C" fn leaf_tag_matches(
     let mut kept = [0u8; 273];
     mac::keep(mf, key, &mut kept);
     bools::number(tag_codes::tag_matches(mf, ms, &kept, first == 1, t, set))
-}
-
-// Whether MACSEQ fits under a key: 1 where it does. The message has no status in it.
-#[no_mangle]
-pub extern "C" fn leaf_macseq_fits(
-    config: &[u8],
-    mf: u8,
-    nmack: u64,
-    ms: u64,
-    fields: u64,
-    prn: u8,
-    time: u32,
-    mack: &[u8],
-    key: &[u8],
-) -> u32
-    requires { ⌜ Laid (codedBy mf nmack ms fields) × ((length (now config) ≡ configLength) × (length (now mack) ≡ 60)) ⌝ }
-    requires { ⌜ length (now key) ≤ 32 ⌝ }
-    ensures { λ r. ⌜ ((status : ℕ) →
-        r ≡ cond
-        (eqb
-        (macBits mf 12 (now (key .entry))
-        (macseqMessage (now (config .entry)) (codedBy mf nmack ms fields) (section prn time status (now (mack .entry))) (nmack * fields)))
-        (macseqOf (codedBy mf nmack ms fields) (now (mack .entry)))) 1 0) ⌝ }
-{
-    let c = Chain {
-        ns: 0,
-        nmack: nmack,
-        root: 0,
-        alpha: [0, 0, 0, 0, 0, 0],
-        mf: mf,
-        width: 0,
-        ms: ms,
-        fields: fields,
-    };
-    let mut kept = [0u8; 273];
-    mac::keep(mf, key, &mut kept);
-    bools::number(tag_codes::macseq_fits(config, c, prn, time, mack, &kept))
 }

@@ -59,13 +59,4 @@ impl Chain {
             ) == 1
         })
     }
-
-    /// The key of slot `m`, from the key that is held of slot `slot`; above that slot it is the held one.
-    pub fn key_of_slot(&self, slot: u64, m: u64, key: &mut [u8; 32]) -> Option<()> {
-        let Slots { ns, nmack, root } = self.slots;
-        // SAFETY: as above.
-        (self.walks() && slot <= LAST_SLOT).then(|| unsafe {
-            raw::leaf_key_of_slot(ns, nmack, root, &self.alpha, self.width, slot, m, key)
-        })
-    }
 }

@@ -8,20 +8,14 @@
 #[doc(hidden)]
 pub mod raw;
 
-pub mod authentic_sets;
 pub mod chain;
-pub mod gather;
 pub mod hash;
 pub mod kroot;
 pub mod mac;
-pub mod mack;
-pub mod mack_keys;
 pub mod navdata;
 pub mod pkr;
 pub mod public_keys;
 pub mod tag_codes;
-pub mod tag_records;
 pub mod tags;
 pub mod times;
 pub mod vectors;
-pub mod waiting_tags;

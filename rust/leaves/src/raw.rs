@@ -76,11 +76,7 @@ extern "C" {
     pub fn osnma_cmac_truncate(code: *mut [u8; 16], n: usize);
 
     // crates/test_leaves, of_times
-    pub fn leaf_time_valid(g: u32) -> u32;
-    pub fn leaf_seconds_of(g: u32) -> u64;
-    pub fn leaf_slot_of(ns: u64, nmack: u64, s: u64, b: u64, p: u64) -> u64;
     pub fn leaf_slot_seconds(ns: u64, nmack: u64, root: u64, m: u64) -> u64;
-    pub fn leaf_tag_slot(ns: u64, nmack: u64, root: u64, g: u32, b: u8, adkd: u8) -> u64;
 
     // crates/test_leaves, of_navdata
     pub fn leaf_store_word(
@@ -121,32 +117,7 @@ extern "C" {
         to: usize,
     );
 
-    // crates/test_leaves, of_gather
-    pub fn leaf_hkroot_of(f: *const u8, f_count: usize, out: *mut [u8; 15]);
-    pub fn leaf_mack_of(f: *const u8, f_count: usize, out: *mut [u8; 60]);
-    pub fn leaf_gather(
-        blocks: *mut u8,
-        blocks_count: usize,
-        headers: *mut u8,
-        headers_count: usize,
-        present: *mut u16,
-        present_count: usize,
-        since: *mut u32,
-        since_count: usize,
-        t: u32,
-        hk: *const [u8; 15],
-    ) -> usize;
-
     // crates/test_leaves, of_public_keys
-    pub fn leaf_above_all(pubkeys: *const u8, pubkeys_count: usize, id: u8) -> u32;
-    pub fn leaf_same_key(
-        pubkeys: *const u8,
-        pubkeys_count: usize,
-        id: u8,
-        kind: u8,
-        key: *const u8,
-        key_count: usize,
-    ) -> u32;
     pub fn leaf_add_key(
         pubkeys: *mut u8,
         pubkeys_count: usize,
@@ -155,7 +126,6 @@ extern "C" {
         key: *const u8,
         key_count: usize,
     );
-    pub fn leaf_drop_lower(pubkeys: *mut u8, pubkeys_count: usize, id: u8);
 
     // crates/test_leaves, of_kroot
     pub fn leaf_kroot_judge(
@@ -169,29 +139,6 @@ extern "C" {
         d: *const u8,
         d_count: usize,
     ) -> u32;
-    pub fn leaf_names_offer(
-        offer: *const u8,
-        offer_count: usize,
-        id: u8,
-        message: *const u8,
-        message_count: usize,
-        signature: *const u8,
-        signature_count: usize,
-    ) -> u32;
-    pub fn leaf_in_force(
-        config: *const u8,
-        config_count: usize,
-        chain: *const u8,
-        chain_count: usize,
-    ) -> u32;
-    pub fn leaf_chain_with(
-        ns: u64,
-        c: *const u8,
-        c_count: usize,
-        numbers: *mut [u64; 7],
-        alpha: *mut [u8; 6],
-    );
-    pub fn leaf_chain_unchanged(a: *const u8, a_count: usize, b: *const u8, b_count: usize) -> u32;
 
     // crates/test_leaves, of_pkr
     pub fn leaf_pkr_code(
@@ -233,100 +180,6 @@ extern "C" {
         sent: u64,
         key: *const [u8; 32],
     ) -> u32;
-    pub fn leaf_key_of_slot(
-        ns: u64,
-        nmack: u64,
-        root: u64,
-        alpha: *const [u8; 6],
-        width: usize,
-        slot: u64,
-        m: u64,
-        key: *mut [u8; 32],
-    );
-
-    // crates/test_leaves, of_mack_keys
-    pub fn leaf_keys_code(
-        ns: u64,
-        nmack: u64,
-        root: u64,
-        alpha: *const [u8; 6],
-        width: usize,
-        ms: u64,
-        fields: u64,
-        g: u32,
-        prn: u8,
-        m: *const u8,
-        m_count: usize,
-        slot: u64,
-        via: u64,
-        key: *mut [u8; 32],
-    ) -> u32;
-    pub fn leaf_keys_slot(
-        ns: u64,
-        nmack: u64,
-        root: u64,
-        alpha: *const [u8; 6],
-        width: usize,
-        ms: u64,
-        fields: u64,
-        g: u32,
-        prn: u8,
-        m: *const u8,
-        m_count: usize,
-        slot: u64,
-        via: u64,
-        key: *mut [u8; 32],
-    ) -> u64;
-
-    // crates/test_leaves, of_mack
-    pub fn leaf_field_tag(
-        nmack: u64,
-        ms: u64,
-        fields: u64,
-        mack: *const u8,
-        mack_count: usize,
-        j: usize,
-    ) -> u64;
-    pub fn leaf_field_info(
-        nmack: u64,
-        ms: u64,
-        fields: u64,
-        mack: *const u8,
-        mack_count: usize,
-        j: usize,
-    ) -> u16;
-    pub fn leaf_macseq_of(ms: u64, mack: *const u8, mack_count: usize) -> u64;
-
-    // crates/test_leaves, of_tags
-    pub fn leaf_own_tag(
-        nmack: u64,
-        ms: u64,
-        fields: u64,
-        prn: u8,
-        time: u32,
-        status: u8,
-        mack: *const u8,
-        mack_count: usize,
-        j: usize,
-        out: *mut [u64; 8],
-    );
-    pub fn leaf_flexible(config: *const u8, config_count: usize, time: u32, j: usize) -> u32;
-    pub fn leaf_not_allowed(
-        config: *const u8,
-        config_count: usize,
-        j: usize,
-        prn: u8,
-        adkd: u8,
-        time: u32,
-    ) -> u32;
-    pub fn leaf_own_outcome(
-        refused: u32,
-        unfit: u32,
-        unusable: u32,
-        prompt: u32,
-        matches: u32,
-        free: u32,
-    ) -> u8;
 
     // crates/test_leaves, of_tag_codes
     pub fn leaf_mac_bits(
@@ -352,73 +205,4 @@ extern "C" {
         set: *const u8,
         set_count: usize,
     ) -> u32;
-    pub fn leaf_macseq_fits(
-        config: *const u8,
-        config_count: usize,
-        mf: u8,
-        nmack: u64,
-        ms: u64,
-        fields: u64,
-        prn: u8,
-        time: u32,
-        mack: *const u8,
-        mack_count: usize,
-        key: *const u8,
-        key_count: usize,
-    ) -> u32;
-
-    // crates/test_leaves, of_tag_records
-    pub fn leaf_record_issue(outcome: u8, set: *const u8, set_count: usize) -> u16;
-    pub fn leaf_put_record(
-        area: *mut u8,
-        area_count: usize,
-        at: usize,
-        outcome: u8,
-        sender: u8,
-        prn: u8,
-        adkd: u8,
-        block: u8,
-        position: u8,
-        time: u32,
-        issue: u16,
-    );
-
-    // crates/test_leaves, of_waiting_tags
-    pub fn leaf_put_entry(
-        waiting: *mut u8,
-        waiting_count: usize,
-        k: usize,
-        sender: u8,
-        prn: u8,
-        adkd: u8,
-        block: u8,
-        position: u8,
-        time: u32,
-        status: u8,
-        bits: u64,
-        set: *const u8,
-        set_count: usize,
-    );
-    pub fn leaf_keep_staying(waiting: *mut u8, waiting_count: usize, root: u64, n: usize) -> usize;
-    pub fn leaf_is_due(
-        ns: u64,
-        nmack: u64,
-        root: u64,
-        slot: u64,
-        adkd: u8,
-        block: u8,
-        time: u32,
-    ) -> u32;
-
-    // crates/test_leaves, of_authentic_sets
-    pub fn leaf_enter_set(
-        sets: *mut u8,
-        sets_count: usize,
-        arrivals: *mut u32,
-        arrivals_count: usize,
-        prn: u8,
-        time: u32,
-        set: *const u8,
-        set_count: usize,
-    );
 }

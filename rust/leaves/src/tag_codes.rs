@@ -1,8 +1,7 @@
-//! The codes of tags and MACSEQ (crates/mac, crates/tag_codes), by the function that MF names.
+//! The codes of tags (crates/mac, crates/tag_codes), by the function that MF names.
 
-use crate::mack::{Layout, Section};
 use crate::raw;
-use crate::tags::{Config, Tag};
+use crate::tags::Tag;
 
 /// The longest key of a chain.
 const KEY_LIMIT: usize = 32;
@@ -49,35 +48,4 @@ pub fn tag_matches(
             set.len(),
         ) == 1
     })
-}
-
-impl Layout {
-    /// Whether MACSEQ fits the section's flexible fields under a key.
-    pub fn macseq_fits(
-        &self,
-        mf: u8,
-        config: &Config,
-        section: &Section,
-        key: &[u8],
-    ) -> Option<bool> {
-        let Layout { nmack, ms, fields } = *self;
-        let mack = &section.mack;
-        // SAFETY: as above.
-        (self.in_range() && key.len() <= KEY_LIMIT).then(|| unsafe {
-            raw::leaf_macseq_fits(
-                config.as_ptr(),
-                config.len(),
-                mf,
-                nmack,
-                ms,
-                fields,
-                section.prn,
-                section.time,
-                mack.as_ptr(),
-                mack.len(),
-                key.as_ptr(),
-                key.len(),
-            ) == 1
-        })
-    }
 }
