@@ -1,4 +1,6 @@
-// The types that the rules, the leaves and the calls share. The rules themselves are definitions in specs/; this crate has no function.
+// The types that the rules, the leaves and the calls share. The rules themselves are definitions in specs/; the one function carries what is proved of
+// 01's known points in its contract.
+ghost use Rattle.rules.specs.Known.{KnownPoints};
 
 // The numbers of the chain in force, read once for a call (000, table 7).
 pub struct Chain {
@@ -49,3 +51,8 @@ pub enum Outcome {
     // A bit of it, or of what it is judged by, is lost (02, P3).
     Lost,
 }
+
+// Does nothing; that it is proved says that the rules give 01's known points and its order of checks.
+pub fn known_points()
+    ensures { λ r. ⌜ KnownPoints ⌝ }
+{}
