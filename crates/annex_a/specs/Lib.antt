@@ -1,2 +1,2 @@
--- Annex A of 000, computed from the rules.
+-- Annex A of 000: its vectors.
 pub mod Vectors

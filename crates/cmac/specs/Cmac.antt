@@ -1,8 +1,7 @@
 -- CMAC with AES, after NIST SP 800-38B, section 6, on lists of bytes: a block has b = 128 bits, which are 16 bytes.
 -- RFC 4493 is the same for a key of 128 bits. The main equation is `cmac`.
 -- `keptOf` and `cmacWith` say what is kept of a key, and how a message is authenticated with it: cmacWith (keptOf k) m is cmac k m
--- for every key and message (proofs/Kept.antt). The laws of the padding are in proofs/Padding.antt, those of a truncated code in
--- proofs/Truncation.antt.
+-- for every key and message (proofs/Kept.antt). What is shown of the padding and of a truncated code is in Shown.antt.
 use Prim.Native.Nat.{ℕ, zero, suc, _+_, _-_, _*_, _/_, _%_, _^_}
 use mathlib.Core.Bool.{cond}
 use mathlib.Core.List.{List, [], _∷_, _++_}
@@ -59,7 +58,7 @@ rest m = drop (16 * (blocks (length m) - 1)) m
 unfoldable pub padded : List ℕ → List ℕ
 padded r = cond (eqb (length r) 16) r (r ++ (0x80 ∷ replicate (15 - length r) 0))
 
--- the message, with the padding after its last block (its laws are in proofs/Padding.antt)
+-- the message, with the padding after its last block
 unfoldable pub paddedMessage : List ℕ → List ℕ
 paddedMessage m = take (16 * (blocks (length m) - 1)) m ++ padded (rest m)
 

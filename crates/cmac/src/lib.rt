@@ -5,6 +5,7 @@
 //   cmac_key    what is kept of a key, made once
 //   cmac_with   the code of a message under a kept key; nothing of the key is expanded again
 //   truncate    the first bits of a code
+//   laws_of_padding, laws_of_truncation    do nothing; their contracts carry what is shown of both
 // A kept key is 273 bytes: the round keys (240), K1 (16), K2 (16), and the number of rounds (1).
 ghost use mathlib.Core.Path.{_≡_};
 ghost use Prim.Native.Nat.{_+_, _-_, _≤_, _<_};
@@ -15,6 +16,7 @@ ghost use mathlib.Core.List.{[], _∷_, _++_};
 ghost use Rattle.laws.specs.Lists.{part, splice};
 ghost use Rattle.aes.specs.Aes as Aes;
 ghost use Rattle.cmac.specs.Cmac as S;
+ghost use Rattle.cmac.specs.Shown.{Padding, Truncation};
 
 // The code of the message m under a key.
 pub fn cmac(key: &[u8], m: &[u8]) -> [u8; 16]
@@ -217,3 +219,13 @@ fn first_bits(x: u8, n: usize, before: usize) -> u8
     let s = 8 - k;
     (x >> s) << s
 }
+
+// Does nothing; that it is proved says what the padding is, for a message of any number of bytes (02, P1).
+pub fn laws_of_padding()
+    ensures { λ r. ⌜ Padding ⌝ }
+{}
+
+// Does nothing; that it is proved says what a truncated code is, for any number of bits.
+pub fn laws_of_truncation()
+    ensures { λ r. ⌜ Truncation ⌝ }
+{}

@@ -154,7 +154,7 @@ fn judge_down(
 // `key`, which holds the held one; its slot is given.
 fn begin(slot: u64, near: u64, met: [u8; 32], m: u64, key: &mut [u8; 32]) -> u64
     requires { ⌜ (m ≤ slot) × (length (now key) ≡ 32) ⌝ }
-    ensures { λ r. ⌜ ((m ≤ r) × (length (now (key .exit)) ≡ 32))
+    ensures { λ r. ⌜ ((m ≤ r) × ((length (now (key .exit)) ≡ 32) × (m ≤ near → r ≡ near)))
         × ((c : Chain) (h : Held) → Met c h slot (now (key .entry)) → Met c h near met → Met c h r (now (key .exit))) ⌝ }
 {
     if near < m {

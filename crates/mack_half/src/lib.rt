@@ -11,7 +11,7 @@ ghost use Prim.Native.Nat.{_*_, _^_, _≤_, _<_};
 ghost use lib.ListN.{length, take};
 ghost use Rattle.rules.specs.Bits.{filled};
 ghost use Rattle.rules.specs.Calls.{sectionUnfit, mackHalf};
-ghost use Rattle.rules.specs.Chain.{held};
+ghost use Rattle.rules.specs.Chain.{held, sentSlot};
 ghost use Rattle.rules.specs.Kroot.{inForce};
 ghost use Rattle.rules.specs.Received.{fieldCame, keysReceived, fieldsJudged};
 ghost use Rattle.rules.specs.State.{State, configLength, chainLength, numbersLength, heldkeyLength, waitingLength, areaLength, setsLength, stampsLength, wordsLength, arrivalsLength};
@@ -22,7 +22,7 @@ ghost use Rattle.navdata.specs.Pieces.{nav};
 ghost use Rattle.tag_records.specs.Told.{start, Leaves};
 ghost use Rattle.tags.specs.Layout.{Laid, section};
 ghost use Rattle.mack_keys.specs.Keys.{Hands};
-ghost use Rattle.mack_half.specs.Half.{tesla, judging, Gives};
+ghost use Rattle.mack_half.specs.Half.{tesla, judging, Gives, WalkedOnce};
 
 // ---- the held key
 
@@ -47,7 +47,8 @@ fn hold(numbers: &mut [u64], heldkey: &mut [u8], slot: u64, kept: usize, key: [u
 }
 
 // Checks the keys of a section of 60 bytes, as far as they came, against the held key of this slot, in `key`, and keeps a key on the way in
-// `met`: one of the first n waiting tags' where the way is long.
+// `met`: one of the first n waiting tags' where the way is long. After a long way up to the last block's key, no tag that falls due has its slot above
+// the kept key's, so that the way is not walked again.
 fn prove_keys(
     c: Chain,
     time: u32,
@@ -64,7 +65,9 @@ fn prove_keys(
     requires { ⌜ (length (now waiting) ≡ waitingLength) × (n ≤ 256) ⌝ }
     ensures { λ r. ⌜ Hands (keysReceived c time prn (now (mack .entry)) marks (held slot (take (c .width) (now (key .entry)))) (c .nmack)) (r .code)
         (r .slot) (now (key .entry)) (now (key .exit))
-        × ((r .slot < 2 ^ 34) × Met c (held (r .slot) (take (c .width) (now (key .exit)))) (r .met) (now (met .exit))) ⌝ }
+        × ((r .slot < 2 ^ 34)
+        × (Met c (held (r .slot) (take (c .width) (now (key .exit)))) (r .met) (now (met .exit))
+        × WalkedOnce c (now (waiting .entry)) n slot (sentSlot c time (c .nmack) prn) (r .slot) (r .met))) ⌝ }
 {
     let last = chain::sent_slot(c, time, c.nmack, prn);
     let via = due_tag_keys::slot_to_keep(c, slot, last, waiting, n);

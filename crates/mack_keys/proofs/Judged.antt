@@ -3,6 +3,7 @@
 use mathlib.Core.Path.{_≡_, refl, sym, ap, _∙_}
 use mathlib.Core.Bool.{Bool, true, false, not, _||_}
 use mathlib.Core.List.{List, _++_}
+use mathlib.Core.Logic.{⊎-elim}
 use Prim.Native.Nat.{ℕ, zero, suc, _+_, _-_, _≤_, _<_}
 use native.Mathlib.Omega.{arith}
 use native.Mathlib.Numerals.{add-one}
@@ -13,6 +14,7 @@ use borrow.Author.Tests.{lt-ltb, le-ltb, ne-eqb}
 use Rattle.laws.specs.Lists.{part, splice}
 use Rattle.laws.specs.Refusal.{firstOf, unless, neb}
 use Rattle.laws.proofs.Refusal.{by-test, unless-refused}
+use Rattle.laws.proofs.Splice.{below?}
 use Rattle.rules.specs.Chain.{Held, held, keyFits, keyOfSlot, higher, sentSlot}
 use Rattle.rules.specs.Mack as S
 use Rattle.rules.specs.Received.{keyCame, blockReceived, keysReceived}
@@ -20,7 +22,7 @@ use Rattle.rules.specs.declared.Chain.{Chain}
 use Rattle.rules.proofs.Walks.{key-width}
 use Rattle.chain.specs.Sound.{Met}
 use Rattle.chain.proofs.Steps.{front-splice, splice-front, walked-key, fits-on-the-way}
-use Rattle.mack_keys.specs.Keys.{Hands}
+use Rattle.mack_keys.specs.Keys.{Hands, KeptOnTheWay}
 
 -- ---- one block
 
@@ -131,6 +133,19 @@ module _ (c : Chain) (high slot stop : ℕ) (known sent here : List ℕ) (w : c 
   -- from the sent key, now the highest, both the key of the stop and the key that was kept before are met
   pub met-at-stop : Met c (held slot (take (c .width) sent)) stop here
   met-at-stop = record { not-above = l; key-is = walked-key c slot stop sent here w n walked }
+
+-- a higher key: the way to it passes `via` itself, or what is kept from the ways before it stays
+pub kept-higher : (first via high slot stop old at : ℕ) → high < slot → high ≤ stop → (high ≤ via → via ≤ slot → stop ≡ via) → (stop ≡ via → at ≡ via) → ((stop ≡ via → ⊥) → at ≡ old) → KeptOnTheWay first via high old → KeptOnTheWay first via slot at
+kept-higher first via high slot stop old at up low here there else k =
+    let not-below : first ≤ slot = omega (arith, k .not-below) in
+    record {
+      not-below = not-below;
+      passed = λ a b d.
+          ⊎-elim
+          (λ q. else (λ z. absurd (omega arith)) ∙ k .passed (omega arith) b (omega arith))
+          (λ q. there (here q d))
+          (below? via high);
+    }
 
 -- the sent key's bytes are now the held key's
 pub now-held : (c : Chain) (sent key out : List ℕ) → c .width ≤ 32 → length sent ≡ 32 → out ≡ splice key 0 (part sent 0 (c .width)) → take (c .width) out ≡ take (c .width) sent

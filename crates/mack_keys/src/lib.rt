@@ -2,7 +2,7 @@
 // rules/specs/Mack.antt and, where fields are missing, in rules/specs/Received.antt. `keys_proved` is the public call: 13, 12 or 0 for the
 // whole section, and the highest key proved.
 // On the way from a sent key down to the key that it is checked against, the key of one slot can be kept, so that a tag of that slot needs no
-// second walk. Which slot that is changes no answer.
+// second walk. Which slot that is changes no answer; that a key of it is kept where a walk passes it stands in the contracts (`KeptOnTheWay`).
 use mack::Cursor;
 use rules::Chain;
 ghost use mathlib.Core.Path.{_≡_};
@@ -16,7 +16,7 @@ ghost use Rattle.rules.specs.Mack as S;
 ghost use Rattle.rules.specs.Received.{blockReceived, keysReceived};
 ghost use Rattle.chain.specs.Sound.{Sound, Met};
 ghost use Rattle.rules.specs.declared.Chain.{Chain};
-ghost use Rattle.mack_keys.specs.Keys.{Hands};
+ghost use Rattle.mack_keys.specs.Keys.{Hands, KeptOnTheWay};
 
 // What the keys of the first blocks give: 0, 12 or 13, the slot of the highest key proved, and the slot of the key that was kept on the way.
 pub struct Keys {
@@ -43,7 +43,8 @@ pub fn keys_proved(
     requires { ⌜ Sound c × ((length (now m) ≡ 60) × ((slot < 2 ^ 34) × (length (now key) ≡ 32))) ⌝ }
     ensures { λ r. ⌜ Hands (keysReceived c g prn (now (m .entry)) marks (held slot (take (c .width) (now (key .entry)))) (c .nmack)) (r .code)
         (r .slot) (now (key .entry)) (now (key .exit))
-        × ((r .slot < 2 ^ 34) × Met c (held (r .slot) (take (c .width) (now (key .exit)))) (r .met) (now (met .exit))) ⌝ }
+        × ((r .slot < 2 ^ 34)
+        × (Met c (held (r .slot) (take (c .width) (now (key .exit)))) (r .met) (now (met .exit)) × KeptOnTheWay slot via (r .slot) (r .met))) ⌝ }
 {
     let nmack = c.nmack;
     let known = *key;
@@ -103,8 +104,9 @@ fn next_block(
         (record { code = p .code; held = held (p .slot) (take (c .width) (now (key .entry))) })) (r .code) (r .slot) (now (key .entry))
         (now (key .exit)))
         × ((r .slot < 2 ^ 34)
-        × (Met c (held (p .slot) (take (c .width) (now (key .entry)))) (p .met) (now (met .entry)) →
-        Met c (held (r .slot) (take (c .width) (now (key .exit)))) (r .met) (now (met .exit)))) ⌝ }
+        × ((Met c (held (p .slot) (take (c .width) (now (key .entry)))) (p .met) (now (met .entry)) →
+        Met c (held (r .slot) (take (c .width) (now (key .exit)))) (r .met) (now (met .exit)))
+        × (KeptOnTheWay first via (p .slot) (p .met) → KeptOnTheWay first via (r .slot) (r .met)))) ⌝ }
 {
     if p.code != 0 {
         return p;
@@ -137,8 +139,9 @@ fn block_proved(
         Hands (S.blockProved c g prn first m (held (p .slot) (take (c .width) (now (key .entry)))) b) (r .code) (r .slot) (now (key .entry))
         (now (key .exit)))
         × ((r .slot < 2 ^ 34)
-        × (Met c (held (p .slot) (take (c .width) (now (key .entry)))) (p .met) (now (met .entry)) →
-        Met c (held (r .slot) (take (c .width) (now (key .exit)))) (r .met) (now (met .exit)))) ⌝ }
+        × ((Met c (held (p .slot) (take (c .width) (now (key .entry)))) (p .met) (now (met .entry)) →
+        Met c (held (r .slot) (take (c .width) (now (key .exit)))) (r .met) (now (met .exit)))
+        × (KeptOnTheWay first via (p .slot) (p .met) → KeptOnTheWay first via (r .slot) (r .met)))) ⌝ }
 {
     let high = p.slot;
     let slot = chain::sent_slot(c, g, b, prn);
@@ -181,7 +184,7 @@ fn still(p: Keys, code: u32) -> Keys
 // The slot at which the walk from a key of this slot down to slot `low` stops over: `via` where it lies between them, else the end of the
 // walk. A key at or below slot `low` does not walk.
 fn stop_over(low: u64, via: u64, slot: u64) -> u64
-    ensures { λ r. ⌜ (r ≤ slot) × ((low < slot → low ≤ r) × (slot ≤ low → r ≡ slot)) ⌝ }
+    ensures { λ r. ⌜ ((r ≤ slot) × ((low < slot → low ≤ r) × (slot ≤ low → r ≡ slot))) × (low < slot → low ≤ via → via ≤ slot → r ≡ via) ⌝ }
 {
     if slot <= low {
         return slot;
@@ -198,7 +201,8 @@ fn stop_over(low: u64, via: u64, slot: u64) -> u64
 // The key `here` of slot `stop` takes the place of the one that was kept before, of slot `old`, where that slot was asked for. Gives the slot
 // of the key that is kept then.
 fn keep_met(via: u64, stop: u64, here: [u8; 32], old: u64, met: &mut [u8; 32]) -> u64
-    ensures { λ r. ⌜ ((c : Chain) (h : Held) → Met c h stop here → Met c h old (now (met .entry)) → Met c h r (now (met .exit))) ⌝ }
+    ensures { λ r. ⌜ ((c : Chain) (h : Held) → Met c h stop here → Met c h old (now (met .entry)) → Met c h r (now (met .exit)))
+        × ((stop ≡ via → r ≡ via) × ((stop ≡ via → ⊥) → r ≡ old)) ⌝ }
 {
     if stop != via {
         return old;

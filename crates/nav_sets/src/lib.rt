@@ -1,7 +1,7 @@
 // A navigation set's 69 bytes (01, "Authenticated are bits 6 to 125 of words 1, 2, 4, .."), gathered in one pass over its five words.
 // The words are read in order, eight bytes at a time, and the set is written in order, eight bytes at a time: each byte of the words is
 // read once and each byte of the set is written once. Eight bytes of the set are the end of one number that was read and the front of the next.
-// proofs/EachBit.antt shows where each bit of a set comes from, by the table of specs/Table.antt.
+// Where each bit of a set comes from is the table of specs/Table.antt; `each_bit` carries in its contract that it is right.
 // Public calls:
 //   gather              the set of five words
 //   pair                64 bits of two numbers
@@ -16,6 +16,7 @@ ghost use Rattle.laws.specs.Bytes.{be4, be8};
 ghost use Rattle.rules.specs.Bits.{bits};
 ghost use Rattle.rules.specs.Navdata.{setBytes};
 ghost use Rattle.nav_sets.specs.Pieces.{reversed, pairOf, pieceOf, fiveOf};
+ghost use Rattle.nav_sets.specs.Table.{EachBit};
 
 // ---- eight bytes as a number
 // Bytes are read and written with the lowest first, and a number's bytes are reversed in between: each is then one instruction of the machine
@@ -141,3 +142,8 @@ pub fn gather(w: &[u8], out: &mut [u8], to: usize)
     let five = put_word(w, 48, four, 28, 34, out, to + 48);
     put_last(w, five, out, to + 64);
 }
+
+// Does nothing; that it is proved says that each bit of a set is the one that its row of the table names (02, P2).
+pub fn each_bit()
+    ensures { λ r. ⌜ EachBit ⌝ }
+{}

@@ -104,36 +104,38 @@ halves-hkroot s area x =
     (λ _ h. received-kept s (x .time) (x .marks) (hkrootOf (fieldsOf x) 15) h)
     (λ _ h. received-kept s (x .time) (x .marks) (hkrootOf (fieldsOf x) 15) h)
 
-halves-mack : (s : State) (area : List ℕ) (x : Subframe) → (halvesDone s area x) .mack ≢ 0 → Kept ((hkrootReceived s (x .time) (x .marks) (hkrootOf (fieldsOf x) 15)) .state) ((halvesDone s area x) .state)
+halves-mack : (s : State) (area : List ℕ) (x : Subframe) → (halvesDone s area x) .mack ≢ 0 → (halvesDone s area x) .state ≡ (hkrootReceived s (x .time) (x .marks) (hkrootOf (fieldsOf x) 15)) .state
 unfolding halvesDone
 halves-mack s area x =
     let hk = hkrootOf (fieldsOf x) 15 in
     let a = hkrootReceived s (x .time) (x .marks) (hkrootOf (fieldsOf x) 15) in
-    by-test (λ (r : SubframeTold). r .mack ≢ 0 → Kept (a .state) (r .state)) (a .stops)
-    (λ _ _. same-kept (a .state))
-    (λ _ h. rw (mack-half-kept (a .state) (x .prn) (x .time) (x .marks) (headerOf hk) (mackOf (fieldsOf x) 15) h) (same-kept (a .state)))
+    by-test (λ (r : SubframeTold). r .mack ≢ 0 → r .state ≡ a .state) (a .stops)
+    (λ _ _. refl)
+    (λ _ h. mack-half-kept (a .state) (x .prn) (x .time) (x .marks) (headerOf hk) (mackOf (fieldsOf x) 15) h)
+
+-- the sub-frame's answer, and the state between its halves, by the number of its own checks
+abbrev after : State → List ℕ → Subframe → ℕ → SubframeTold
+after s area x n =
+    unless n (halvesDone (noted s x) area x) (record { hkroot = n; mack = n; count = 0; state = cond (eqb n 5) (noted s x) s; area = area })
+
+abbrev middle : State → Subframe → ℕ → State
+middle s x n = unless n ((hkrootReceived (noted s x) (x .time) (x .marks) (hkrootOf (fieldsOf x) 15)) .state) (cond (eqb n 5) (noted s x) s)
 
 hkroot-kept : (s : State) (area : List ℕ) (x : Subframe) → (step s (subframe area x)) .reply .code ≢ 0 → Kept s (between s area x)
 unfolding step subframeCall
 hkroot-kept s area x = go (firstOf (subframeChecks s area x))
   where
-    after : ℕ → SubframeTold
-    after n = unless n (halvesDone (noted s x) area x) (record { hkroot = n; mack = n; count = 0; state = cond (eqb n 5) (noted s x) s; area = area })
-
-    go : (n : ℕ) → (after n) .hkroot ≢ 0 → Kept s (unless n ((hkrootReceived (noted s x) (x .time) (x .marks) (hkrootOf (fieldsOf x) 15)) .state) s)
+    go : (n : ℕ) → (after s area x n) .hkroot ≢ 0 → Kept s (middle s x n)
     go zero h = noted-first s _ x (halves-hkroot (noted s x) area x h)
-    go (suc n) h = same-kept s
+    go (suc n) h = by-test (Kept s) (eqb (suc n) 5) (λ _. noted-kept s x) (λ _. same-kept s)
 
-mack-kept : (s : State) (area : List ℕ) (x : Subframe) → (step s (subframe area x)) .reply .mack ≢ 0 → Kept (between s area x) ((step s (subframe area x)) .state)
+mack-kept : (s : State) (area : List ℕ) (x : Subframe) → (step s (subframe area x)) .reply .mack ≢ 0 → (step s (subframe area x)) .state ≡ between s area x
 unfolding step subframeCall
 mack-kept s area x = go (firstOf (subframeChecks s area x))
   where
-    after : ℕ → SubframeTold
-    after n = unless n (halvesDone (noted s x) area x) (record { hkroot = n; mack = n; count = 0; state = cond (eqb n 5) (noted s x) s; area = area })
-
-    go : (n : ℕ) → (after n) .mack ≢ 0 → Kept (unless n ((hkrootReceived (noted s x) (x .time) (x .marks) (hkrootOf (fieldsOf x) 15)) .state) s) ((after n) .state)
+    go : (n : ℕ) → (after s area x n) .mack ≢ 0 → (after s area x n) .state ≡ middle s x n
     go zero h = halves-mack (noted s x) area x h
-    go (suc n) h = by-test (Kept s) (eqb (suc n) 5) (λ _. noted-kept s x) (λ _. same-kept s)
+    go (suc n) h = refl
 
 pub refused : Refused
 refused =

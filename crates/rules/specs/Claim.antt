@@ -240,9 +240,12 @@ pub record Kept (s s' : State) : Type 0 where
   pub key : s' .tesla .key ≡ s .tesla .key
   pub auth : s' .auth ≡ s .auth
 
--- the state between the halves of a sub-frame, which the HKROOT half left; a sub-frame that one of 1 to 5 refuses has no halves
+-- the state between the halves of a sub-frame, which the HKROOT half left; a sub-frame that one of 1 to 5 refuses has no halves, and only number 5 notes
+-- its time
 abbrev pub between : State → List ℕ → Subframe → State
-between s area x = unless (firstOf (subframeChecks s area x)) ((hkrootReceived (noted s x) (x .time) (x .marks) (hkrootOf (fieldsOf x) 15)) .state) s
+between s area x =
+    let n = firstOf (subframeChecks s area x) in
+    unless n ((hkrootReceived (noted s x) (x .time) (x .marks) (hkrootOf (fieldsOf x) 15)) .state) (cond (eqb n 5) (noted s x) s)
 
 -- "No refused call in the list, nor a refused half of one, changes a key, a chain or an authentic set.": of every state, so of those in the list.
 -- "Refused: a number other than 0, for a sub-frame each half by its own."
@@ -251,7 +254,8 @@ pub record Refused : Type 0 where
   pub word : (s : State) (w : Word) → (step s (word w)) .reply .code ≢ 0 → (step s (word w)) .state ≡ s
   pub verdict : (s : State) (v : Verdict) → (step s (verdict v)) .reply .code ≢ 0 → Kept s ((step s (verdict v)) .state)
   pub hkroot : (s : State) (area : List ℕ) (x : Subframe) → (step s (subframe area x)) .reply .code ≢ 0 → Kept s (between s area x)
-  pub mack : (s : State) (area : List ℕ) (x : Subframe) → (step s (subframe area x)) .reply .mack ≢ 0 → Kept (between s area x) ((step s (subframe area x)) .state)
+  -- a refused MACK half changes nothing at all
+  pub mack : (s : State) (area : List ℕ) (x : Subframe) → (step s (subframe area x)) .reply .mack ≢ 0 → (step s (subframe area x)) .state ≡ between s area x
   -- asking changes nothing, refused or not
   pub ask : (s : State) (q : Question) → (step s (ask q)) .state ≡ s
 

@@ -20,4 +20,5 @@ pub mod Log
 pub mod Claim
 pub mod Points
 pub mod Orders
+pub mod Known
 pub mod Replay

@@ -5,13 +5,14 @@ use mathlib.Core.List.{List, [], _∷_}
 use lib.ListN.{getD, take, replicate}
 use Rattle.laws.specs.Refusal.{firstOf}
 use Rattle.rules.specs.Calls.{Start, fresh, subframeChecks}
-use Rattle.rules.specs.Chain.{held}
+use Rattle.rules.specs.Chain.{held, sentSlot}
 use Rattle.rules.specs.Gather.{blocksFor, gathered}
 use Rattle.rules.specs.Kroot.{fieldsFor, krootChecks}
 use Rattle.rules.specs.Mack.{blockChecks}
 use Rattle.rules.specs.State.{blocksLength, dsmIds, setsLength, arrivalsLength, copyLength, areaLength}
 use Rattle.rules.specs.Tags.{setsEntered}
 use Rattle.rules.specs.Times.{stampOf, gst, gstOf, slotOf, slotSeconds, hourSeconds, tagSlot}
+use Rattle.rules.specs.declared.Chain.{Chain}
 
 -- a point: what a rule gives at some arguments, and what 01 says that it is
 pub record Point : Type 0 where
@@ -49,15 +50,17 @@ abbrev pub numberForFunction : ℕ → ℕ → ℕ
 numberForFunction mf ks =
     firstOf (take 2 (krootChecks (1 ∷ []) [] (0x10 ∷ (0x10 + mf) ∷ (ks * 16) ∷ 0 ∷ 0x03 ∷ 0xB3 ∷ 0x78 ∷ replicate 84 0)))
 
--- the number that a block's own list gives by its first check, for block 2 of E`prn` at 1/416640, with NS 36, NMACK 2, and the root of week 1 hour 0
--- held: E28's key has slot 1,000,000, E29's slot 1,000,001
+-- a chain with NS 36, NMACK 2 and the root of week 1 hour 0
+abbrev pub gapChain : Chain
+gapChain = record { ns = 36; nmack = 2; root = hourSeconds 1 0; alpha = replicate 6 0; mf = 0; width = 16; ms = 12; fields = 4 }
+
+-- the slot of the key in block 2 of E`prn` at 1/416640
+abbrev pub slotForGap : ℕ → ℕ
+slotForGap prn = sentSlot gapChain (gst 1 416640) 2 prn
+
+-- the number that this block's own list gives by its first check, where the root is held. That its key is then taken is `gap-taken` of Known.antt
 abbrev pub numberForGap : ℕ → ℕ
-numberForGap prn =
-    firstOf
-    (take 1
-    (blockChecks
-    (record { ns = 36; nmack = 2; root = hourSeconds 1 0; alpha = replicate 6 0; mf = 0; width = 16; ms = 12; fields = 4 })
-    (gst 1 416640) prn 0 (replicate 60 0) (held 0 (replicate 16 0)) 2))
+numberForGap prn = firstOf (take 1 (blockChecks gapChain (gst 1 416640) prn 0 (replicate 60 0) (held 0 (replicate 16 0)) 2))
 
 -- the GST_SF of a slot, with NS 36, NMACK 2 and the root of week 947 hour 120
 abbrev pub timeOfSlot : ℕ → ℕ
@@ -95,7 +98,9 @@ points =
     ∷ point (numberForBlocks 10) 0
     ∷ point (numberForBlocks 11) 6
     -- "P gap 1,000,000 taken, P 1,000,001 is 13."
+    ∷ point (slotForGap 28) 1000000
     ∷ point (numberForGap 28) 0
+    ∷ point (slotForGap 29) 1000001
     ∷ point (numberForGap 29) 13
     -- "P 947/431970 is 3B369762 hexadecimal."
     ∷ point (gst 947 431970) 0x3B36_9762

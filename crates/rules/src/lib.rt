@@ -1,4 +1,6 @@
-// The types that the rules, the leaves and the calls share. The rules themselves are definitions in specs/; this crate has no function.
+// The types that the rules, the leaves and the calls share. The rules themselves are definitions in specs/; the functions do nothing, their
+// contracts carry what is proved of the rules beside the claim.
+ghost use Rattle.rules.specs.Known.{KnownPoints, TagTruncation};
 
 // The numbers of the chain in force, read once for a call (000, table 7).
 pub struct Chain {
@@ -49,3 +51,13 @@ pub enum Outcome {
     // A bit of it, or of what it is judged by, is lost (02, P3).
     Lost,
 }
+
+// The rules give 01's known points and its order of checks.
+pub fn known_points()
+    ensures { λ r. ⌜ KnownPoints ⌝ }
+{}
+
+// A tag of any size is compared with the bits that truncation leaves of the code.
+pub fn tag_truncation()
+    ensures { λ r. ⌜ TagTruncation ⌝ }
+{}

@@ -75,8 +75,12 @@ mod gst;
 mod marks;
 mod raw;
 mod refusal;
-#[doc(hidden)]
+#[cfg(feature = "regions")]
 pub mod regions;
+// What tests alone use of it is then dead.
+#[cfg(not(feature = "regions"))]
+#[allow(dead_code)]
+mod regions;
 mod tag_record;
 
 pub use gst::Gst;
@@ -370,15 +374,15 @@ impl Core {
         Ok(waiting)
     }
 
-    /// The memory as it is, for tests.
-    #[doc(hidden)]
+    /// The memory as it is.
+    #[cfg(feature = "regions")]
     pub fn regions(&self) -> &Regions {
         &self.regions
     }
 
-    /// The memory as it is, for tests. Every call is total, so no contents can make one unsafe; but
+    /// The memory as it is, to write. Every call is total, so no contents can make one unsafe; but
     /// an answer means what its documentation says only where the calls alone wrote it.
-    #[doc(hidden)]
+    #[cfg(feature = "regions")]
     pub fn regions_mut(&mut self) -> &mut Regions {
         &mut self.regions
     }

@@ -2,6 +2,8 @@
 
 #[path = "boundary/archive.rs"]
 mod archive;
+#[path = "boundary/assurance.rs"]
+mod assurance;
 #[path = "boundary/declarations.rs"]
 mod declarations;
 
@@ -48,34 +50,22 @@ fn exports_of(wanted: impl Fn(&str) -> bool) -> Declarations {
     all.flat_map(|(_, exports)| exports).collect()
 }
 
-/// The exports of crates/osnma that crates/assurance holds to the rules: what a call asks, and what a caller learns, in
-/// both directions.
+const BOUNDARY: &str = "crates/assurance/proofs/Boundary.antt";
+const RUN: &str = "crates/assurance/specs/Run.antt";
+
+/// The exports of crates/osnma that crates/assurance holds to the rules and has in its runs.
 fn covered() -> BTreeSet<String> {
-    let text = read("crates/assurance/proofs/Boundary.antt");
-    let statements: Vec<&str> = text
-        .lines()
-        .filter(|line| line.starts_with("pub "))
-        .collect();
-    let states = |what: &str| statements.iter().any(|line| line.contains(what));
-    let mut names = BTreeSet::new();
-    for line in text.lines() {
-        let Some(rest) = line.strip_prefix("use Rattle.osnma.proofs.") else {
-            continue;
-        };
-        let Some((name, alias)) = rest.split_once(".Reads as ") else {
-            continue;
-        };
-        let rule = alias.replace("-reads", "-rule");
-        for what in [
-            format!("→ {alias}.Asked κs args"),
-            format!("{alias}.Learnt κs args r last → {rule} κs args r last"),
-            format!("{rule} κs args r last → {alias}.Learnt κs args r last"),
-        ] {
-            assert!(states(&what), "assurance does not state '{what}'");
-        }
-        assert!(names.insert(name.to_string()), "{name} twice");
-    }
-    names
+    assurance::covered(&read(BOUNDARY), &read(RUN)).unwrap()
+}
+
+/// The exports that are no call of 01, with the reason why no run has them. They are lent nothing.
+const NO_CALLS: [(&str, &str); 1] = [(
+    "osnma_layout_1",
+    "gives the number of the layout; that it links says that the layout is the caller's",
+)];
+
+fn no_calls() -> BTreeSet<String> {
+    NO_CALLS.map(|(name, _)| name.to_string()).into()
 }
 
 fn names(declarations: &Declarations) -> BTreeSet<String> {
@@ -91,8 +81,57 @@ fn archive(name: &str) -> Symbols {
 fn the_core_exports_what_assurance_covers() {
     let exported = archive("osnma").defined;
     assert!(exported.len() >= 5, "{exported:?}");
-    assert_eq!(exported, covered());
+    let known = covered().union(&no_calls()).cloned().collect();
+    assert_eq!(exported, known);
     assert_eq!(exported, names(&exports_of(|name| name == "osnma")));
+}
+
+// What is no call has nothing to read or write.
+#[test]
+fn no_calls_are_lent_nothing() {
+    let core = exports_of(|name| name == "osnma");
+    for (name, reason) in NO_CALLS {
+        assert!(core[name].parameters.is_empty(), "{name}: {reason}");
+    }
+}
+
+/// The sections of a manifest in which a feature is turned on.
+fn turning_on<'a>(manifest: &'a str, feature: &str) -> Vec<&'a str> {
+    let (mut section, mut found) = ("", Vec::new());
+    for line in manifest.lines() {
+        if line.starts_with('[') {
+            section = line;
+        } else if line.contains(&format!("\"{feature}\"")) {
+            found.push(section);
+        }
+    }
+    found
+}
+
+// Whoever builds a receiver cannot write the regions by hand: tests and the benchmark alone have the feature that shows them.
+#[test]
+fn tests_alone_see_the_regions() {
+    let mut users = 0;
+    for folder in entries(&top().join("rust")) {
+        let manifest = folder.join("Cargo.toml");
+        if folder.ends_with("target") || !manifest.exists() {
+            continue;
+        }
+        for section in turning_on(&fs::read_to_string(manifest).unwrap(), "regions") {
+            let measures = folder.ends_with("benchmark") && section == "[dependencies]";
+            assert!(
+                measures || section == "[dev-dependencies]",
+                "{}: {section}",
+                folder.display()
+            );
+            users += 1;
+        }
+    }
+    assert!(users >= 2, "{users}");
+    assert_eq!(
+        turning_on("[features]\ndefault = [\"regions\"]\n", "regions"),
+        ["[features]"]
+    );
 }
 
 // As the header says: memcpy and memset of a C library and nothing else.
@@ -241,5 +280,42 @@ fn an_added_export_is_seen() {
     assert_eq!(difference(&header, &core), None);
     core.extend(of_rattle(source));
     assert!(difference(&header, &core).is_some());
-    assert_ne!(covered(), names(&core));
+    assert_ne!(&covered() | &no_calls(), names(&core));
+}
+
+// A statement of the boundary, a constructor of the runs or what it takes, left out or of another call.
+#[test]
+fn a_call_that_is_not_covered_is_seen() {
+    let (boundary, run) = (read(BOUNDARY), read(RUN));
+    assert!(assurance::covered(&boundary, &run).is_ok());
+    let constructor = "  worded : WordDid s c reply s' → Did s c reply s'\n";
+    for (old, new) in [
+        (constructor, ""),
+        (
+            constructor,
+            "  worded : StartDid s c reply s' → Did s c reply s'\n",
+        ),
+        (
+            "word-kinds.r word-reads.Learnt",
+            "word-kinds.r start-reads.Learnt",
+        ),
+        ("osnma_regions_word.Reads", "osnma_regions_words.Reads"),
+        ("pub data Did", "data Did"),
+    ] {
+        assert!(run.contains(old), "{old}");
+        let changed = run.replacen(old, new, 1);
+        assert!(assurance::covered(&boundary, &changed).is_err(), "{new}");
+    }
+    for (old, new) in [
+        ("osnma_regions_word.Reads", "osnma_regions_words.Reads"),
+        ("→ word-reads.Asked κs args", "→ Unit {0}"),
+        (
+            "→ word-rule κs args r last → word-reads.Learnt",
+            "→ word-rule κs args r last → start-reads.Learnt",
+        ),
+    ] {
+        assert!(boundary.contains(old), "{old}");
+        let changed = boundary.replacen(old, new, 1);
+        assert!(assurance::covered(&changed, &run).is_err(), "{new}");
+    }
 }

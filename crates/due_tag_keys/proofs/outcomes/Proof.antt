@@ -42,7 +42,7 @@ loop-holds c =
     let a = c .before .before .before .before in
     let g = a .args in
     let r = c .before .before .next-below in (
-      ((begun c .not-above, c .begin .ensures .0 .0), (c .begin .ensures .0 .1, refl)),
+      ((begun c .not-above, c .begin .ensures .0 .0), (c .begin .ensures .0 .1 .0, refl)),
       λ h e k. (
         k,
         none-above (g .c) h (now (g .waiting)) (g .n) (r .result) (rw e (r .ensures .1)) (replicate 256 0) (λ k q. getD-replicate 256 k 0 0 (omega (arith, a .pre .0 .1 .0 .1))),

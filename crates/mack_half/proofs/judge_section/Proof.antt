@@ -51,7 +51,7 @@ judge-tags-requires c κs =
     let k = c .before .before .before .before .before .before .before in
     let r = read k in
     let q = (entered r) .pre in
-    (q .0, (q .1 .0, ((fits r, (k .prove-keys .ensures .1 .0, k .before .before .before .before .before .before .waiting-count .ensures .1)), k .prove-keys .ensures .1 .1)))
+    (q .0, (q .1 .0, ((fits r, (k .prove-keys .ensures .1 .0, k .before .before .before .before .before .before .waiting-count .ensures .1)), k .prove-keys .ensures .1 .1 .0)))
 
 hold-requires : tie.Need-hold-requires
 hold-requires c κs =

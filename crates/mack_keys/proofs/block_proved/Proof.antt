@@ -11,7 +11,7 @@ use denote.Ref.{now}
 use Rattle.rules.specs.Chain.{held, keyFits}
 use Rattle.chain.proofs.Bounds.{sent-bound}
 use Rattle.chain.proofs.Steps.{met-from-above}
-use Rattle.mack_keys.proofs.Judged.{refused-far, refused-spare, refused-key, old-key, new-key, fits-by-stop, met-at-stop, now-held}
+use Rattle.mack_keys.proofs.Judged.{refused-far, refused-spare, refused-key, old-key, new-key, fits-by-stop, met-at-stop, now-held, kept-higher}
 use Rattle.mack_keys.proofs.block_proved.Statement.{statement}
 use Rattle.mack_keys.proofs.block_proved.Tie as tie
 
@@ -33,7 +33,7 @@ returns c =
     let e = c .before .before in
     let g = e .before .args in
     rw (c .still .ensures)
-    (λ m p q. refused-far (g .c) (g .g) (g .prn) (g .first) (g .p .slot) (g .b) (e .sent-slot .result) m (now (g .key)) (e .sent-slot .ensures) (c .before .if1 .taken), (high (e .before), λ x. x))
+    (λ m p q. refused-far (g .c) (g .g) (g .prn) (g .first) (g .p .slot) (g .b) (e .sent-slot .result) m (now (g .key)) (e .sent-slot .ensures) (c .before .if1 .taken), (high (e .before), (λ x. x, λ x. x)))
 
 returns-2 : tie.Need-returns-2
 returns-2 c =
@@ -42,7 +42,7 @@ returns-2 c =
     let g = a .before .args in
     rw (c .still2 .ensures) (
       λ m p q. refused-spare (g .c) (g .g) (g .prn) (g .first) (g .p .slot) (g .b) (a .sent-slot .result) m (now (g .key)) (a .sent-slot .ensures) (e .if1 .left) (g .spare) q (c .before .if2 .taken),
-      (high (a .before), λ x. x),
+      (high (a .before), (λ x. x, λ x. x)),
     )
 
 key-of-slot-requires : tie.Need-key-of-slot-requires
@@ -52,7 +52,7 @@ key-fits-requires : tie.Need-key-fits-requires
 key-fits-requires c κs =
     let o = c .before .before .before in
     let s = o .before .before .before in
-    (search needs, (omega (arith, high (s .before)), omega (arith, o .stop-over .ensures .0, below s)))
+    (search needs, (omega (arith, high (s .before)), omega (arith, o .stop-over .ensures .0 .0, below s)))
 
 -- whether the sent key fits
 fits : (c : tie.After-key-fits)
@@ -65,7 +65,7 @@ fits c =
     let s = o .before .before .before in
     let g = s .before .args in
     fits-by-stop (g .c) (g .p .slot) (s .sent-slot .result) (o .stop-over .result) (now (g .key)) (g .t7) (k .key-of-slot .last .1 .1 .1 .0) (s .before .pre .0 .walks .width-high) (length-sent (s .before))
-    (k .key-of-slot .ensures) (o .stop-over .ensures .0) (c .key-fits .result) (o .stop-over .ensures .1 .0) (o .stop-over .ensures .1 .1) (c .key-fits .ensures)
+    (k .key-of-slot .ensures) (o .stop-over .ensures .0 .0) (c .key-fits .result) (o .stop-over .ensures .0 .1 .0) (o .stop-over .ensures .0 .1 .1) (c .key-fits .ensures)
 
 returns-3 : tie.Need-returns-3
 returns-3 c =
@@ -75,7 +75,7 @@ returns-3 c =
     let g = s .before .args in
     rw (c .still3 .ensures) (
       λ m p q. refused-key (g .c) (g .g) (g .prn) (g .first) (g .p .slot) (g .b) (s .sent-slot .result) m (now (g .key)) (s .sent-slot .ensures) (x .before .if1 .left) (g .t7) p (f .key-fits .result) (fits f) (not-true _ (c .before .if3 .taken)),
-      (high (s .before), λ y. y),
+      (high (s .before), (λ y. y, λ y. y)),
     )
 
 returns-4 : tie.Need-returns-4
@@ -88,7 +88,7 @@ returns-4 c =
     rw (c .still4 .ensures) (
       λ m p q. old-key (g .c) (g .g) (g .prn) (g .first) (g .p .slot) (g .b) (s .sent-slot .result) m (now (g .key)) (s .sent-slot .ensures) (x .before .if1 .left) (g .t7) p (f .key-fits .result) (fits f) (not-false _ (d .if3 .left))
           (g .spare) q (x .if2 .left) (c .before .if4 .taken),
-      (high (s .before), λ y. y),
+      (high (s .before), (λ y. y, λ y. y)),
     )
 
 slice-aggregate-copy-part : tie.Need-slice-aggregate-copy-part
@@ -120,11 +120,15 @@ returns-5 c =
           (g .spare) q (x .if2 .left) (h .if4 .left) (cp .copy-part .last .0) (cp .copy-part .ensures),
       (
         below s,
-        λ y.
-            rw key
-            (c .keep-met .ensures (g .c) (held slot sent)
-            (met-at-stop (g .c) (g .p .slot) slot (o .stop-over .result) (now (g .key)) (g .t7) (k .key-of-slot .last .1 .1 .1 .0) w (length-sent a) (k .key-of-slot .ensures) (o .stop-over .ensures .0))
-            (met-from-above (g .c) (held (g .p .slot) (take (g .c .width) (now (g .key)))) slot (g .p .met) sent (now (g .met)) (h .if4 .left) (sym (fits f) ∙ yes) y)),
+        (
+          λ y.
+              rw key
+              (c .keep-met .ensures .0 (g .c) (held slot sent)
+              (met-at-stop (g .c) (g .p .slot) slot (o .stop-over .result) (now (g .key)) (g .t7) (k .key-of-slot .last .1 .1 .1 .0) w (length-sent a) (k .key-of-slot .ensures) (o .stop-over .ensures .0 .0))
+              (met-from-above (g .c) (held (g .p .slot) (take (g .c .width) (now (g .key)))) slot (g .p .met) sent (now (g .met)) (h .if4 .left) (sym (fits f) ∙ yes) y)),
+          kept-higher (g .first) (g .via) (g .p .slot) slot (o .stop-over .result) (g .p .met) (c .keep-met .result) (h .if4 .left) (o .stop-over .ensures .0 .1 .0 (h .if4 .left)) (o .stop-over .ensures .1 (h .if4 .left))
+              (c .keep-met .ensures .1 .0) (c .keep-met .ensures .1 .1),
+        ),
       ),
     )
 

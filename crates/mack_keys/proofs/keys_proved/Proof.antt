@@ -15,7 +15,7 @@ use Rattle.chain.specs.Sound.{Met}
 use Rattle.chain.proofs.Steps.{met-here}
 use Rattle.mack.specs.declared.Block.{Block}
 use Rattle.mack.proofs.Places.{first-block}
-use Rattle.mack_keys.specs.Keys.{Hands}
+use Rattle.mack_keys.specs.Keys.{Hands, KeptOnTheWay}
 use Rattle.mack_keys.proofs.Places.{keys-fit}
 use Rattle.mack_keys.proofs.Judged.{no-block, one-more, all-blocks}
 use Rattle.mack_keys.proofs.keys_proved.Statement.{statement}
@@ -25,7 +25,7 @@ abbrev Inv-loop : tie.InvT-loop
 Inv-loop c g prn m marks slot via key₀ met₀ nmack p₀ k₀ b₀ key met p k b =
     ((b ≤ nmack) × (p .slot < 2 ^ 34))
     × (Hands (keysReceived c g prn m marks (held slot (take (c .width) key₀)) b) (p .code) (p .slot) key₀ key
-    × (Met c (held (p .slot) (take (c .width) key)) (p .met) met
+    × ((Met c (held (p .slot) (take (c .width) key)) (p .met) met × KeptOnTheWay slot via (p .slot) (p .met))
     × (k .used ≡ S.blockAt c (b + 1))))
 
 abbrev μ-loop : tie.MeasureT-loop
@@ -34,7 +34,7 @@ abbrev μ-loop : tie.MeasureT-loop
 loop-holds : tie.Need-loop-holds Inv-loop μ-loop
 loop-holds c =
     let g = c .before .before .before .args in
-    ((omega arith, search needs), (no-block _ _ _ _ _ _ _, (met-here (g .c) (g .slot) (now (g .key)), c .section-start .ensures ∙ sym (first-block (g .c)))))
+    ((omega arith, search needs), (no-block _ _ _ _ _ _ _, ((met-here (g .c) (g .slot) (now (g .key)), record { not-below = omega arith; passed = λ a b d. absurd (omega arith) }), c .section-start .ensures ∙ sym (first-block (g .c)))))
 
 next-key-requires : tie.Need-next-key-requires Inv-loop μ-loop
 next-key-requires c κs =
@@ -56,7 +56,7 @@ loop-again c =
       (
         one-more (g .c) (g .g) (g .prn) (g .marks) (l .b) (l .p .code) (l .p .slot) _ _ (now (g .m)) (now (g .key)) (l .key) _ _ w (l .inv .1 .0)
             (n .next-block .ensures .0 (now (g .m)) (ap (λ (x : Block). x .key) e) (ap (λ (x : Block). x .spare) e)),
-        (n .next-block .ensures .1 .1 (l .inv .1 .1 .0), ap (λ (x : Block). x .next .used) e),
+        ((n .next-block .ensures .1 .1 .0 (l .inv .1 .1 .0 .0), n .next-block .ensures .1 .1 .1 (l .inv .1 .1 .0 .1)), ap (λ (x : Block). x .next .used) e),
       ),
     )
 

@@ -13,7 +13,7 @@ use Rattle.mack_keys.proofs.next_block.Tie as tie
 returns : tie.Need-returns
 returns c =
     let g = c .before .before .args in
-    (λ m p q. failed-before (g .c) (g .p .code) (g .p .slot) _ (now (g .key)) (c .if1 .taken), (search needs, λ x. x))
+    (λ m p q. failed-before (g .c) (g .p .code) (g .p .slot) _ (now (g .key)) (c .if1 .taken), (search needs, (λ x. x, λ x. x)))
 
 key-came-requires : tie.Need-key-came-requires
 key-came-requires c κs =
@@ -45,7 +45,7 @@ returns-3 c =
     let g = a .args in
     rw (c .still .ensures, e .if1 .left) (
       λ m p q. lost-spare (g .c) (g .g) (g .prn) (g .first) (g .marks) (g .p .slot) (g .b) m (now (g .key)) (lost n) (g .spare) q (c .before .if3 .taken),
-      (a .pre .1 .1 .0, λ x. x),
+      (a .pre .1 .1 .0, (λ x. x, λ x. x)),
     )
 
 returns-4 : tie.Need-returns-4
@@ -56,7 +56,7 @@ returns-4 c =
     let g = a .args in
     rw (e .if1 .left) (
       λ m p q. lost-key (g .c) (g .g) (g .prn) (g .first) (g .marks) (g .p .slot) (g .b) m (now (g .key)) (lost n) (g .spare) q (c .if3 .left),
-      (a .pre .1 .1 .0, λ x. x),
+      (a .pre .1 .1 .0, (λ x. x, λ x. x)),
     )
 
 pub next-block-spec : {M : Type 1} → statement M

@@ -1,0 +1,2 @@
+-- Annex A of 000, computed.
+pub mod Computed

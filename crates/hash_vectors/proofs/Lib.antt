@@ -1,0 +1,5 @@
+-- The published examples, computed.
+mod Sha
+mod Mac
+mod Aes
+mod Cmac

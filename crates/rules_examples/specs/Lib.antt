@@ -1,0 +1,2 @@
+-- A worked run, and what is shown of it.
+pub mod SlowTag
