@@ -134,7 +134,7 @@ fn another_layout_does_not_link() {
             compiler: "cc",
             language: &["-std=c99", "-O2"],
             source: "examples/receiver.c",
-            include: &headers_of_layout(layout),
+            include: Some(&headers_of_layout(layout)),
             libraries: &[],
         };
         match program.built(&format!("receiver_of_layout_{layout}")) {

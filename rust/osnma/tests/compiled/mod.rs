@@ -37,9 +37,9 @@ pub struct Program<'a> {
     pub compiler: &'a str,
     pub language: &'a [&'a str],
     pub source: &'a str,
-    /// The folder of `osnma.h`.
-    pub include: &'a Path,
-    /// What is linked behind the archive.
+    /// The folder of `osnma.h`; the repository's archive is linked then. None where `libraries` names both.
+    pub include: Option<&'a Path>,
+    /// What is linked behind it.
     pub libraries: &'a [&'a str],
 }
 
@@ -47,15 +47,14 @@ impl Program<'_> {
     /// Compiles and links it, or gives what the compiler says.
     pub fn built(&self, name: &str) -> Result<PathBuf, String> {
         let program = Path::new(env!("CARGO_TARGET_TMPDIR")).join(name);
-        let output = Command::new(self.compiler)
-            .arg("-O1")
-            .args(self.language)
-            .args(WARNINGS)
-            .arg("-I")
-            .arg(self.include)
-            .arg(top().join(self.source))
-            .args(["-x", "none"])
-            .arg(top().join("target/staticlib/libosnma.a"))
+        let mut compiler = Command::new(self.compiler);
+        compiler.arg("-O1").args(self.language).args(WARNINGS);
+        compiler.arg(top().join(self.source)).args(["-x", "none"]);
+        if let Some(include) = self.include {
+            compiler.arg("-I").arg(include);
+            compiler.arg(top().join("target/staticlib/libosnma.a"));
+        }
+        let output = compiler
             .args(self.libraries)
             .arg("-o")
             .arg(&program)
@@ -74,7 +73,7 @@ pub fn build(compiler: &str, language: &[&str], source: &str, name: &str) -> Pat
         compiler,
         language,
         source,
-        include: &top().join("include"),
+        include: Some(&top().join("include")),
         libraries: &[],
     };
     let built = program.built(name);
