@@ -131,3 +131,37 @@ fn in_cpp() {
         assert_eq!(first_difference(&got, &want), None, "{compiler}");
     }
 }
+
+/// How many tags are authentic where the records of each half minute are lent in the order of a key.
+fn authentic(recording: &[u8], key: fn(&[u8]) -> (u8, u8)) -> usize {
+    let records: Vec<&[u8]> = recording.chunks_exact(RECORD).collect();
+    // A start or verdict is a half minute of its own.
+    let half_minute = |r: &&[u8]| match r[0] {
+        2 | 3 => Some(r[2..6].to_vec()),
+        _ => None,
+    };
+    let together =
+        |a: &&[u8], b: &&[u8]| half_minute(a).is_some() && half_minute(a) == half_minute(b);
+    let mut lent = Vec::new();
+    for chunk in records.chunk_by(together) {
+        let mut chunk = chunk.to_vec();
+        chunk.sort_by_key(|r| key(r));
+        lent.extend(chunk.concat());
+    }
+    let mut lines = Vec::new();
+    replay(&lent, &mut lines).expect("lines");
+    let lines = String::from_utf8(lines).expect("text");
+    let tags = lines.lines().filter(|line| !line.contains(' '));
+    tags.filter(|line| line.starts_with("01")).count()
+}
+
+// What docs/INTEGRATION.md says of the order: fields before words; satellite by satellite; words before fields.
+#[test]
+fn order_of_a_half_minute() {
+    const WORD: u8 = 2;
+    let recording = find("fitter").expect("a scenario").run(SEED).bytes;
+    let fields_first = authentic(&recording, |r| (u8::from(r[0] == WORD), r[1]));
+    let by_satellite = authentic(&recording, |r| (r[1], u8::from(r[0] == WORD)));
+    let words_first = authentic(&recording, |r| (u8::from(r[0] != WORD), r[1]));
+    assert_eq!([fields_first, by_satellite, words_first], [5_096, 3_154, 0]);
+}
