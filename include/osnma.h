@@ -1,6 +1,9 @@
 /*
- * The authentication core of a Galileo OSNMA receiver (signal-in-space testing specification v1.1),
- * for C99 and C++. Link with libosnma.a, which needs memcpy and memset of a C library and nothing else.
+ * The authentication core of a Galileo OSNMA receiver, for C99 and C++.
+ *
+ * Specification: "Galileo Navigation Message Authentication Specification for Signal-In-Space Testing",
+ * v1.1, not the later operational interface control document, whose messages differ.
+ * Machine: libosnma.a is x86-64 ELF code. It needs memcpy and memset of a C library and nothing else.
  *
  * The caller owns all memory: one struct osnma_core, lent to each call for as long as the call runs.
  * No call allocates, keeps a pointer, has state of its own, waits, or reports in any way but by its
@@ -13,10 +16,21 @@
  *     osnma_subframe_marked(&core, ..)          the same where fields of it may be lost
  *     osnma_word(&core, prn, time, word)        each I/NAV word of 16 bytes
  *     osnma_read_message(&core, &message)       what waits for the signature chip, if something does
- *     osnma_verdict(&core, good, ..)            the chip's answer on it
+ *     osnma_verdict_on(&core, &message, good)   the chip's answer on it
  *     osnma_read_set(&core, prn, set, ..)       a satellite's authentic navigation data
  *
- * The fields of a sub-frame are lent before its words.
+ * THE ORDER OF A HALF MINUTE: the fields of ALL satellites are lent before the words of ANY. A word
+ * that is lent before a section of its own half minute takes its satellite's set out of use for that
+ * section: the tags get outcome 3, every call answers 0, and nothing is authenticated. On the air words
+ * come between the fields. osnma_collector.h takes pages as they come and lends them in this order.
+ *
+ * What the receiver must do itself, since no call can (docs/INTEGRATION.md says how and why):
+ *   - Compare the signal's time with a clock of its own that the signal cannot set, and lend nothing
+ *     where they differ by more than the time from a tag to its key. A key is public once it was sent:
+ *     who replays the sky later can make any tag.
+ *   - Lend only pages whose CRC is right, and mark the others as lost.
+ *   - Guard against repeaters that delay the signal by less: tags say who made data, not when it came.
+ *   - Use the bytes that osnma_read_set gives, not the words that were lent, and look at their age.
  *
  * Duties of the caller, for every call:
  *   - No pointer is null. Each is aligned for its type and good for the whole of what it points to.
@@ -40,24 +54,42 @@
 extern "C" {
 #endif
 
+/* ---- version and layout */
+
+/** The version of this header and of the calls (CHANGELOG.md). */
+#define OSNMA_VERSION "0.1.0"
+
+/**
+ * The number of the layout: it rises whenever a region of struct osnma_core or the parameters of an
+ * exported function change. The archive exports a function whose name ends in it, and osnma_start calls
+ * that function, so that a header and an archive of different layouts do not link.
+ */
+#define OSNMA_LAYOUT 1
+#define OSNMA_JOIN_EXPANDED(a, b) a##b
+#define OSNMA_JOIN(a, b) OSNMA_JOIN_EXPANDED(a, b)
+#define OSNMA_LAYOUT_EXPORT OSNMA_JOIN(osnma_layout_, OSNMA_LAYOUT)
+
+/** Returns OSNMA_LAYOUT. */
+uint32_t OSNMA_LAYOUT_EXPORT(void);
+
 /* ---- lengths, in bytes where nothing else is said */
 
-#define OSNMA_FIELDS 75u     /* the authentication fields of a sub-frame: 15 of five bytes */
-#define OSNMA_RECORDS 3240u  /* the area for tag records: of 256 tags that waited, and of 14 others */
-#define OSNMA_RECORD 12u     /* a tag record */
-#define OSNMA_WORD 16u       /* an I/NAV word */
-#define OSNMA_SET 69u        /* a navigation set: 549 bits of words 1 to 5, then three zero bits */
-#define OSNMA_MESSAGE 45u    /* a signed message, zeros after a short one */
-#define OSNMA_SIGNATURE 132u /* a signature, zeros after a short one */
-#define OSNMA_KEY 67u        /* a public key, zeros after a short one */
-#define OSNMA_TREE_ROOT 32u  /* the root of the tree of public keys */
-#define OSNMA_MARKS 28u      /* 14 marks for second 0 of the minute, then 14 for second 30 */
-#define OSNMA_SATELLITES 36u /* PRN 1 to 36 */
+#define OSNMA_FIELDS 75u     /**< the authentication fields of a sub-frame: 15 of five bytes */
+#define OSNMA_RECORDS 3240u  /**< the area for tag records: of 256 tags that waited, and of 14 others */
+#define OSNMA_RECORD 12u     /**< a tag record */
+#define OSNMA_WORD 16u       /**< an I/NAV word */
+#define OSNMA_SET 69u        /**< a navigation set: 549 bits of words 1 to 5, then three zero bits */
+#define OSNMA_MESSAGE 45u    /**< a signed message, zeros after a short one */
+#define OSNMA_SIGNATURE 132u /**< a signature, zeros after a short one */
+#define OSNMA_KEY 67u        /**< a public key, zeros after a short one */
+#define OSNMA_TREE_ROOT 32u  /**< the root of the tree of public keys */
+#define OSNMA_MARKS 28u      /**< 14 marks for second 0 of the minute, then 14 for second 30 */
+#define OSNMA_SATELLITES 36u /**< PRN 1 to 36 */
 
-/* The mark of a flexible field. The others are 0 to 15, the ADKD of a fixed one. */
+/** The mark of a flexible field. The others are 0 to 15, the ADKD of a fixed one. */
 #define OSNMA_FLEXIBLE 255u
 
-/*
+/**
  * Which of the fifteen fields of a sub-frame were received: sixteen bits, 1 for received, the first
  * field's in the top bit. The lowest bit is not read. Fields are counted from 0 to 14.
  */
@@ -82,81 +114,123 @@ extern "C" {
 #define OSNMA_SETS_COUNT 2484u
 #define OSNMA_ARRIVALS_COUNT 36u
 
-/* The size of a core where uint64_t is aligned to 8 bytes; never more. */
+/** The size of a core where uint64_t is aligned to 8 bytes; never more. */
 #define OSNMA_CORE_SIZE 32896u
 
 /* ---- what calls answer */
 
-/*
+/**
  * The numbers of document 01's table, and 17 of document 02. All but 0 are refusals. What a number
  * leaves behind is said at each call.
  */
 enum osnma_answer {
-    /* Nothing below applies. */
+    /** Nothing below applies. */
     OSNMA_DONE = 0,
-    /* A lent length is wrong. The calls over a struct osnma_core lend right ones. */
+    /** A lent length is wrong. The calls over a struct osnma_core lend right ones. */
     OSNMA_WRONG_LENGTH = 1,
-    /* PRN, time, NS, key ID, key type, mark or verdict out of range; word 4 SVID not the PRN. */
+    /** PRN, time, NS, key ID, key type, mark or verdict out of range; word 4 SVID not the PRN. */
     OSNMA_OUT_OF_RANGE = 2,
-    /* A word earlier than that PRN's last; a sub-frame earlier than the last, or not later for its PRN. */
+    /** A word earlier than that PRN's last; a sub-frame earlier than the last, or not later for its PRN. */
     OSNMA_OUT_OF_ORDER = 3,
-    /* An emergency message stopped the core. Only a new start ends this. */
+    /** An emergency message stopped the core. Only a new start ends this. */
     OSNMA_STOPPED = 4,
-    /* Sub-frame: all fields that were received are zero bytes. */
+    /** Sub-frame: all fields that were received are zero bytes. */
     OSNMA_ALL_ZERO = 5,
-    /* Sub-frame: NB reserved, block ID too high, size or emergency ID wrong, DSM-PKR type above 4. */
+    /** Sub-frame: NB reserved, block ID too high, size or emergency ID wrong, DSM-PKR type above 4. */
     OSNMA_BLOCK_UNFIT = 6,
-    /* Sub-frame: a DSM-KROOT under a public key that is not held. */
+    /** Sub-frame: a DSM-KROOT under a public key that is not held. */
     OSNMA_KEY_NOT_HELD = 7,
-    /* Sub-frame: a DSM-KROOT with parameters that are not taken. The MAC function may be HMAC-SHA-256 with
+    /** Sub-frame: a DSM-KROOT with parameters that are not taken. The MAC function may be HMAC-SHA-256 with
        every key size, or CMAC-AES with keys of 128, 192 or 256 bits. */
     OSNMA_PARAMETERS_UNFIT = 8,
-    /* Verdict: a root that is not newer. Sub-frame: a public key with an ID not above all held. */
+    /** Verdict: a root that is not newer. Sub-frame: a public key with an ID not above all held. */
     OSNMA_NOT_NEWER = 9,
-    /* Sub-frame: a DSM-PKR whose nodes do not give the tree's root. */
+    /** Sub-frame: a DSM-PKR whose nodes do not give the tree's root. */
     OSNMA_TREE_UNFIT = 10,
-    /* Verdict or section: its status or CID does not go with the chain in force. */
+    /** Verdict or section: its status or CID does not go with the chain in force. */
     OSNMA_NOT_IN_FORCE = 11,
-    /* Section: a TESLA key fails, or a spare bit is 1. */
+    /** Section: a TESLA key fails, or a spare bit is 1. */
     OSNMA_KEY_UNFIT = 12,
-    /* Section: a key more than 1,000,000 slots past the one held. */
+    /** Section: a key more than 1,000,000 slots past the one held. */
     OSNMA_TOO_FAR = 13,
-    /* Nothing waits, or another key ID or other bytes. */
+    /** Nothing waits, or another key ID or other bytes. */
     OSNMA_NOT_WAITING = 14,
-    /* The verdict is bad. */
+    /** The verdict is bad. */
     OSNMA_VERDICT_BAD = 15,
-    /* No authentic set for this PRN since the start. */
+    /** No authentic set for this PRN since the start. */
     OSNMA_NO_SET = 16,
-    /* Sub-frame: fields are missing: any for the HKROOT half, the first for the MACK half. */
+    /** Sub-frame: fields are missing: any for the HKROOT half, the first for the MACK half. */
     OSNMA_FIELDS_MISSING = 17
 };
 
-/* What became of a tag: document 01's outcomes, and 8 of document 02. */
+/** What became of a tag: document 01's outcomes, and 8 of document 02. */
 enum osnma_outcome {
-    /* It matches its satellite's set, which is now authentic unless a later tag's set is held. */
+    /** It matches its satellite's set, which is now authentic unless a later tag's set is held. */
     OSNMA_AUTHENTIC = 1,
-    /* It does not match. */
+    /** It does not match. */
     OSNMA_WRONG = 2,
-    /* Its satellite has no usable set. */
+    /** Its satellite has no usable set: not all five words came, or not of one IODnav, or one of them is of
+        this half minute and was lent before these fields. */
     OSNMA_NO_USABLE_SET = 3,
-    /* An ADKD other than 0, 11 and 12, or not the fixed one of its field, or a PRN not 1 to 36. */
+    /** An ADKD other than 0, 11 and 12, or not the fixed one of its field, or a PRN not 1 to 36. */
     OSNMA_NOT_ALLOWED = 4,
-    /* It waits for its key, with a copy of its set. */
+    /** It waits for its key, with a copy of its set. */
     OSNMA_WAITS = 5,
-    /* Its field is flexible and MACSEQ fails. */
+    /** Its field is flexible and MACSEQ fails. */
     OSNMA_SEQUENCE_UNFIT = 6,
-    /* It would wait, but all 256 places are taken. */
+    /** It would wait, but all 256 places are taken. */
     OSNMA_NO_PLACE = 7,
-    /* Bits of it, of its block's key, of its MAC-Info or of what MACSEQ is made of are missing. */
+    /** Bits of it, of its block's key, of its MAC-Info or of what MACSEQ is made of are missing. */
     OSNMA_BITS_MISSING = 8
 };
 
+/** A few words for a number, for logs. Never null. */
+static inline const char *osnma_answer_text(uint32_t answer)
+{
+    static const char *const text[] = {
+        "done",
+        "a lent length is wrong",
+        "an argument is out of its range",
+        "earlier than what came before",
+        "stopped by an emergency message",
+        "nothing but zero bytes",
+        "a block or message of a size or type that cannot be",
+        "the public key is not held",
+        "chain parameters that are not taken",
+        "not newer than what is held",
+        "the tree's root is not met",
+        "does not go with the chain in force",
+        "a TESLA key or a spare bit is wrong",
+        "a key too far past the one held",
+        "this does not wait for a verdict",
+        "the verdict is bad",
+        "no authentic set",
+        "fields are missing"};
+    return answer < sizeof text / sizeof text[0] ? text[answer] : "a number that is not listed";
+}
+
+/** A few words for an outcome. Never null. */
+static inline const char *osnma_outcome_text(uint32_t outcome)
+{
+    static const char *const text[] = {
+        "authentic",
+        "wrong",
+        "no usable set",
+        "not allowed",
+        "waits for its key",
+        "MACSEQ fails",
+        "no place to wait",
+        "bits are missing"};
+    return outcome >= 1 && outcome <= sizeof text / sizeof text[0] ? text[outcome - 1]
+                                                                   : "a number that is not listed";
+}
+
 /* ---- times */
 
-/* What osnma_gst gives for a week or second that GST_SF cannot hold. Every call refuses it with 2. */
+/** What osnma_gst gives for a week or second that GST_SF cannot hold. Every call refuses it with 2. */
 #define OSNMA_NO_TIME 0xFFFFFFFFu
 
-/*
+/**
  * GST_SF as one number: week (12 bits) and second of week (20 bits). Sub-frames start at multiples of
  * 30 up to 604770; other seconds that fit are packed as they are, and the calls refuse them with 2.
  * Weeks do not roll over.
@@ -166,93 +240,151 @@ static inline uint32_t osnma_gst(uint32_t week, uint32_t second)
     return week <= 4095u && second <= 0xFFFFFu ? week << 20 | second : OSNMA_NO_TIME;
 }
 
+/** The week of a GST_SF: its first 12 bits. */
+static inline uint32_t osnma_week(uint32_t time)
+{
+    return time >> 20;
+}
+
+/** The second of week of a GST_SF: its other 20 bits. */
+static inline uint32_t osnma_second(uint32_t time)
+{
+    return time & 0xFFFFFu;
+}
+
 /* ---- the core */
 
-/*
+/**
  * All memory of a core: osnma_start writes it and the other calls take it up. It can be copied as a
- * whole, kept, and taken up again by the same library. A "stamp" is a GST_SF plus 1, or 0 for never.
+ * whole, kept, and taken up again by a library of the same layout on the same machine. A "stamp" is a
+ * GST_SF plus 1, or 0 for never.
  */
 struct osnma_core {
-    /* NS, MACLT, 14 + 14 marks, tree root, and 1 where the core is stopped. */
+    /** NS, MACLT, 14 + 14 marks, tree root, and 1 where the core is stopped. */
     uint8_t config[OSNMA_CONFIG_COUNT];
-    /* Stamps of the last sub-frame, of the last sub-frame of each PRN, of the last word of each PRN. */
+    /** Stamps of the last sub-frame, of the last sub-frame of each PRN, of the last word of each PRN. */
     uint32_t clocks[OSNMA_CLOCKS_COUNT];
-    /* By PRN: words 1 to 5. */
+    /** By PRN: words 1 to 5. */
     uint8_t words[OSNMA_WORDS_COUNT];
-    /* By PRN: the stamp of the sub-frame that each word came in. */
+    /** By PRN: the stamp of the sub-frame that each word came in. */
     uint32_t stamps[OSNMA_STAMPS_COUNT];
-    /* By DSM ID: 16 blocks of 13 bytes. */
+    /** By DSM ID: 16 blocks of 13 bytes. */
     uint8_t blocks[OSNMA_BLOCKS_COUNT];
-    /* By DSM ID: the NMA header that its blocks came with. */
+    /** By DSM ID: the NMA header that its blocks came with. */
     uint8_t headers[OSNMA_HEADERS_COUNT];
-    /* By DSM ID: the blocks present, block 0 in the lowest bit. */
+    /** By DSM ID: the blocks present, block 0 in the lowest bit. */
     uint16_t present[OSNMA_PRESENT_COUNT];
-    /* By DSM ID: GST_SF of the block that came first; no stamp. */
+    /** By DSM ID: GST_SF of the block that came first; no stamp. */
     uint32_t since[OSNMA_SINCE_COUNT];
-    /* By key ID: the type plus 1 (0 where none is held), and the public key in 67 bytes. */
+    /** By key ID: the type plus 1 (0 where none is held), and the public key in 67 bytes. */
     uint8_t pubkeys[OSNMA_PUBKEYS_COUNT];
-    /* 1 where a message waits, its key ID, message and signature. */
+    /** 1 where a message waits, its key ID, message and signature. */
     uint8_t offer[OSNMA_OFFER_COUNT];
-    /* 1 in force, 2 dropped, 0 where there was none; then the contents put in force last. */
+    /** 1 in force, 2 dropped, 0 where there was none; then the contents put in force last. */
     uint8_t chain[OSNMA_CHAIN_COUNT];
-    /* The held TESLA key's slot, and the count of waiting tags. */
+    /** The held TESLA key's slot, and the count of waiting tags. */
     uint64_t numbers[OSNMA_NUMBERS_COUNT];
-    /* The held TESLA key, zeros after a short one. */
+    /** The held TESLA key, zeros after a short one. */
     uint8_t heldkey[OSNMA_HELDKEY_COUNT];
-    /* 256 places for waiting tags, 84 bytes each, in order of arrival. */
+    /** 256 places for waiting tags, 84 bytes each, in order of arrival. */
     uint8_t waiting[OSNMA_WAITING_COUNT];
-    /* By PRN: the authentic set. */
+    /** By PRN: the authentic set. */
     uint8_t sets[OSNMA_SETS_COUNT];
-    /* By PRN: the stamp of the sub-frame that brought that set's tag. */
+    /** By PRN: the stamp of the sub-frame that brought that set's tag. */
     uint32_t arrivals[OSNMA_ARRIVALS_COUNT];
 };
 
-/* Does not compile where a core is larger than its stated size, or has fewer bytes than its regions. */
+/** Does not compile where a core is larger than its stated size, or has fewer bytes than its regions. */
 typedef char osnma_core_has_its_size
     [sizeof(struct osnma_core) <= OSNMA_CORE_SIZE && sizeof(struct osnma_core) >= 32887u ? 1 : -1];
 
-/* What a start is given. */
+/**
+ * Whether an emergency message stopped the core. It then answers OSNMA_STOPPED to all but a new start
+ * and the reads, and what the reads give is no longer to be used.
+ */
+static inline int osnma_is_stopped(const struct osnma_core *core)
+{
+    return core->config[OSNMA_CONFIG_COUNT - 1u] != 0;
+}
+
+/** Whether a chain is in force. Without one, sections are answered OSNMA_NOT_IN_FORCE. */
+static inline int osnma_chain_in_force(const struct osnma_core *core)
+{
+    return core->chain[0] == 1;
+}
+
+/** What a start is given. */
 struct osnma_settings {
-    uint8_t ns;                         /* satellites with keys of their own in a block: 1 to 36 */
-    uint8_t key_id;                     /* ID of the public key: 0 to 15 */
-    uint8_t key_type;                   /* its type: 0 to 3, for 29, 33, 49 or 67 bytes */
-    uint8_t maclt;                      /* the one MACLT number that is taken; any byte */
-    uint8_t marks[OSNMA_MARKS];         /* 0 to 15 or OSNMA_FLEXIBLE; the first of each 14 is 0 */
-    uint8_t tree_root[OSNMA_TREE_ROOT]; /* the installed root of the tree of public keys */
-    uint8_t key[OSNMA_KEY];             /* the public key; what follows a short one is not read */
+    uint8_t ns;                         /**< satellites with keys of their own in a block: 1 to 36 */
+    uint8_t key_id;                     /**< ID of the public key: 0 to 15 */
+    uint8_t key_type;                   /**< its type: 0 to 3, for 29, 33, 49 or 67 bytes */
+    uint8_t maclt;                      /**< the one MACLT number that is taken; any byte */
+    uint8_t marks[OSNMA_MARKS];         /**< 0 to 15 or OSNMA_FLEXIBLE; the first of each 14 is 0 */
+    uint8_t tree_root[OSNMA_TREE_ROOT]; /**< the installed root of the tree of public keys */
+    uint8_t key[OSNMA_KEY];             /**< the public key; what follows a short one is not read */
 };
 
-/* What a sub-frame answers: a number for each half, and how many tag records were written. */
+/** What a sub-frame answers: a number for each half, and how many tag records were written. */
 struct osnma_halves {
-    enum osnma_answer hkroot; /* its block, and the message that the block completes */
-    enum osnma_answer mack;   /* the section's keys and tags */
-    uint32_t records;         /* at most 270 */
+    enum osnma_answer hkroot; /**< its block, and the message that the block completes */
+    enum osnma_answer mack;   /**< the section's keys and tags */
+    uint32_t records;         /**< at most 270 */
 };
 
-/* A tag that was judged: one that had waited, or one of the section itself. */
+/** A tag that was judged: one that had waited, or one of the section itself. */
 struct osnma_tag_record {
     enum osnma_outcome outcome;
-    uint8_t sender;   /* PRN of the satellite that sent it */
-    uint8_t prn;      /* PRN that it authenticates, as the tag names it; 0 where a bit is missing */
-    uint8_t adkd;     /* its ADKD; 0 where a bit is missing */
-    uint8_t block;    /* block of the section that it came in, from 1 */
-    uint8_t position; /* position in the block, from 1 */
-    uint16_t iodnav;  /* IODnav of its set; 0 for outcomes 3, 4, 6 and 8 */
-    uint32_t time;    /* GST_SF of its arrival */
+    uint8_t sender;   /**< PRN of the satellite that sent it */
+    uint8_t prn;      /**< PRN that it authenticates, as the tag names it; 0 where a bit is missing */
+    uint8_t adkd;     /**< its ADKD; 0 where a bit is missing */
+    uint8_t block;    /**< block of the section that it came in, from 1 */
+    uint8_t position; /**< position in the block, from 1 */
+    uint16_t iodnav;  /**< IODnav of its set; 0 for outcomes 3, 4, 6 and 8 */
+    uint32_t time;    /**< GST_SF of its arrival */
 };
 
-/* A message that waits for a verdict of the signature chip. Short parts are followed by zeros. */
+/**
+ * A message that waits for a verdict of the signature chip. Short parts are followed by zeros, which are
+ * not signed: a chip is handed osnma_message_length bytes of the message, osnma_signature_length of the
+ * signature (r and s, of equal lengths) and osnma_key_length of the key (a compressed point). Key types
+ * 0 to 3 are P-224 with SHA-224, P-256 with SHA-256, P-384 with SHA-384 and P-521 with SHA-512.
+ */
 struct osnma_message {
-    uint8_t message[OSNMA_MESSAGE];     /* what is signed: NMA header, then CIDKR through KROOT */
-    uint8_t signature[OSNMA_SIGNATURE]; /* of 56, 64, 96 or 132 bytes by the key's type */
-    uint8_t key[OSNMA_KEY];             /* the public key to verify it under */
-    uint8_t key_id;                     /* its ID, 0 to 15 */
-    uint8_t key_type;                   /* its type, 0 to 3 */
+    uint8_t message[OSNMA_MESSAGE];     /**< what is signed: NMA header, then CIDKR through KROOT */
+    uint8_t signature[OSNMA_SIGNATURE]; /**< of 56, 64, 96 or 132 bytes by the key's type */
+    uint8_t key[OSNMA_KEY];             /**< the public key to verify it under */
+    uint8_t key_id;                     /**< its ID, 0 to 15 */
+    uint8_t key_type;                   /**< its type, 0 to 3 */
 };
+
+/**
+ * How many bytes of a message are signed: the NMA header and 12 bytes from CIDKR through alpha, then the
+ * root key by KS. 0 for a KS that there is not; a message that waits has none such.
+ */
+static inline uint32_t osnma_message_length(const uint8_t message[OSNMA_MESSAGE])
+{
+    static const uint8_t root_key[] = {12, 13, 14, 15, 16, 20, 24, 28, 32};
+    const uint32_t ks = message[2] >> 4;
+    return ks < sizeof root_key ? 13u + root_key[ks] : 0u;
+}
+
+/** The length of a signature by its key's type; 0 for a type that there is not. */
+static inline uint32_t osnma_signature_length(uint8_t key_type)
+{
+    static const uint8_t length[] = {56, 64, 96, 132};
+    return key_type < sizeof length ? length[key_type] : 0u;
+}
+
+/** The length of a public key by its type; 0 for a type that there is not. */
+static inline uint32_t osnma_key_length(uint8_t key_type)
+{
+    static const uint8_t length[] = {29, 33, 49, 67};
+    return key_type < sizeof length ? length[key_type] : 0u;
+}
 
 /* ---- the calls */
 
-/*
+/**
  * Begins a new list with what it is given and nothing from before: no word, block, message, chain,
  * tag, set or time.
  *
@@ -262,12 +394,14 @@ struct osnma_message {
  *                     the core is not stopped.
  * OSNMA_OUT_OF_RANGE  The core stays. NS, key ID, key type or a mark is out of range, or the first
  *                     mark of a list is not 0.
+ * OSNMA_WRONG_LENGTH  The core stays. The archive has this layout's name and not its number.
  */
 static inline enum osnma_answer osnma_start(struct osnma_core *core,
                                             const struct osnma_settings *settings);
 
-/*
- * The authentication fields of a satellite's sub-frame at `time` (GST_SF). The first byte of each five
+/**
+ * The authentication fields of a satellite's sub-frame at `time` (GST_SF). Those of all satellites of a
+ * half minute are lent before the words of any (osnma_word says why). The first byte of each five
  * is the HKROOT half: its block is gathered, and the message that it completes is judged. The others
  * are the MACK half: the section's keys are proved, the tags that waited for them and the section's own
  * are judged, in this order, and each leaves a record.
@@ -310,7 +444,7 @@ static inline struct osnma_halves osnma_subframe(struct osnma_core *core, uint8_
                                                  const uint8_t fields[OSNMA_FIELDS],
                                                  uint8_t records[OSNMA_RECORDS]);
 
-/*
+/**
  * The same for a sub-frame of which some of the fifteen fields may not have been received: `marks` says
  * which were. With OSNMA_ALL_RECEIVED it is osnma_subframe in all.
  *
@@ -332,15 +466,17 @@ static inline struct osnma_halves osnma_subframe_marked(struct osnma_core *core,
                                                         const uint8_t fields[OSNMA_FIELDS],
                                                         uint8_t records[OSNMA_RECORDS]);
 
-/*
+/**
  * Record `i` of those that osnma_subframe wrote, from 0. An `i` that the area has no room for gives
  * zeros, which are no outcome.
  */
 static inline struct osnma_tag_record osnma_record(const uint8_t records[OSNMA_RECORDS], uint32_t i);
 
-/*
- * An I/NAV word of a satellite, in the sub-frame at `time` (GST_SF). The authentication fields of a
- * sub-frame are lent before its words.
+/**
+ * An I/NAV word of a satellite, in the sub-frame at `time` (GST_SF). The fields of ALL satellites of a
+ * half minute are lent before the words of ANY: a section is judged by words of earlier half minutes, so
+ * a satellite of which a word of this half minute was lent has no usable set (outcome 3) for the
+ * sections of it that come after, whoever sends them.
  *
  * Lent: the core; the 16 bytes of the word, which are read. Its type is bits 0 to 5.
  *
@@ -356,7 +492,7 @@ static inline struct osnma_tag_record osnma_record(const uint8_t records[OSNMA_R
 static inline enum osnma_answer osnma_word(struct osnma_core *core, uint8_t prn, uint32_t time,
                                            const uint8_t word[OSNMA_WORD]);
 
-/*
+/**
  * The signature chip's verdict on the message that waits: 1 good, 0 bad. All that it names must be
  * what waits, the zeros after short parts too; what osnma_read_message gave is handed back as it is.
  *
@@ -382,7 +518,14 @@ static inline enum osnma_answer osnma_verdict(struct osnma_core *core, uint8_t g
                                               const uint8_t message[OSNMA_MESSAGE],
                                               const uint8_t signature[OSNMA_SIGNATURE]);
 
-/*
+/** The verdict on a message as osnma_read_message gave it: 1 good, 0 bad. Answers as osnma_verdict. */
+static inline enum osnma_answer osnma_verdict_on(struct osnma_core *core,
+                                                 const struct osnma_message *message, uint8_t good)
+{
+    return osnma_verdict(core, good, message->key_id, message->message, message->signature);
+}
+
+/**
  * A satellite's authentic set, its IODnav, and the GST_SF at which the tag came that showed it to be
  * authentic. A stopped core answers too.
  *
@@ -396,7 +539,7 @@ static inline enum osnma_answer osnma_read_set(const struct osnma_core *core, ui
                                                uint8_t set[OSNMA_SET], uint16_t *iodnav,
                                                uint32_t *time);
 
-/*
+/**
  * The message that waits for a verdict, with the public key to verify it under. It goes on waiting. A
  * stopped core answers too.
  *
@@ -410,7 +553,7 @@ static inline enum osnma_answer osnma_read_message(const struct osnma_core *core
 
 /* ---- the same calls over single regions */
 
-/*
+/**
  * What the library exports, and what the calls above use. Nobody else needs them but a caller who
  * keeps the regions apart, as bindings for other languages do. A call is lent the regions that it reads
  * or writes, in the order of struct osnma_core, each a pointer and a count of elements; those that are
@@ -515,6 +658,8 @@ uint32_t osnma_regions_read_message(
 static inline enum osnma_answer osnma_start(struct osnma_core *core,
                                             const struct osnma_settings *settings)
 {
+    if (OSNMA_LAYOUT_EXPORT() != OSNMA_LAYOUT)
+        return OSNMA_WRONG_LENGTH;
     return (enum osnma_answer)osnma_regions_start(
         OSNMA_REGIONS_OF(core), settings->ns, settings->key_id, settings->key_type, settings->maclt,
         settings->marks, OSNMA_MARKS, settings->tree_root, OSNMA_TREE_ROOT, settings->key, OSNMA_KEY);

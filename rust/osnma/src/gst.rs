@@ -18,6 +18,20 @@ impl Gst {
         }
     }
 
+    /// The sub-frame of the E1-B page whose even part begins at this second of this week, and the
+    /// page's place in it, from 0 to 14. The first page of a sub-frame begins a second after it, so
+    /// these seconds are odd; the last odd part ends in the next half minute.
+    pub const fn of_page(week: u16, second: u32) -> Option<(Gst, u32)> {
+        if second >= 604_800 || second.is_multiple_of(2) {
+            return None;
+        }
+        let place = second.saturating_sub(1) % 30;
+        match Gst::new(week, second.saturating_sub(place).saturating_sub(1)) {
+            Some(time) => Some((time, place / 2)),
+            None => None,
+        }
+    }
+
     /// The 32 bits as they came from a receiver. Any can be held; calls refuse those of no
     /// sub-frame.
     pub const fn from_bits(bits: u32) -> Gst {
@@ -62,5 +76,21 @@ mod tests {
         let time = Gst::from_bits(0x3B36_9762);
         assert_eq!((time.week(), time.second()), (947, 431_970));
         assert!(Gst::new(947, 604_770) < Gst::new(948, 0));
+    }
+
+    // 000, table 26: the parts of 947/432001 to 432030 are those of the sub-frame at 432000.
+    #[test]
+    fn pages() {
+        for page in 0..15 {
+            let place = Gst::new(947, 432_000).map(|time| (time, page));
+            assert_eq!(Gst::of_page(947, 432_001 + 2 * page), place);
+            assert_eq!(Gst::of_page(947, 432_002 + 2 * page), None);
+        }
+        let place = |week, second, page| Gst::new(week, second).map(|time| (time, page));
+        assert_eq!(Gst::of_page(947, 1), place(947, 0, 0));
+        assert_eq!(Gst::of_page(4095, 604_799), place(4095, 604_770, 14));
+        for (week, second) in [(947, 0), (947, 604_801), (4096, 1), (947, u32::MAX)] {
+            assert_eq!(Gst::of_page(week, second), None, "{week}/{second}");
+        }
     }
 }

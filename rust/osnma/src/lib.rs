@@ -6,6 +6,23 @@
 //! owns that memory ([`Core`]) and lends it to each call. It allocates nothing, needs no standard
 //! library, and cannot panic.
 //!
+//! **The order of a half minute**: the authentication fields of ALL satellites are lent before the
+//! words of ANY. A word that is lent before a section of its own half minute takes its satellite's set
+//! out of use for that section: its tags get [`Outcome::NoUsableSet`], every call answers `Ok`, and
+//! nothing is authenticated. On the air words come between the fields; [`collector::Collector`] takes
+//! pages as they come and lends them in this order.
+//!
+//! **The specification** is the one for signal-in-space testing, v1.1, of 2018, not the later
+//! operational interface control document, whose messages differ.
+//!
+//! **The archive**: the build links `libosnma.a`, x86-64 ELF, which `rt staticlib osnma` writes to
+//! `target/staticlib` of the repository; the environment variable `OSNMA_STATICLIB` names another
+//! folder. `cargo check` and `cargo doc` need none. An archive of another layout than this crate's
+//! does not link ([`LAYOUT`]).
+//!
+//! What the receiver around the core must do itself, a clock of its own above all, stands in
+//! `docs/INTEGRATION.md`.
+//!
 //! ```
 //! use osnma::{Core, Gst, Refusal, Settings};
 //!
@@ -36,25 +53,37 @@
 //! # Ok::<(), Refusal>(())
 //! ```
 //!
-//! The authentication fields of each sub-frame, 75 bytes, are lent before its words, with an area for
-//! the records of the tags that they judge:
+//! A half minute: the authentication fields of all satellites, 75 bytes each, with an area for the
+//! records of the tags that they judge, then all words:
 //!
 //! ```
-//! use osnma::{Core, Gst, Outcome, Records, Refusal};
+//! use osnma::{Core, Gst, Outcome, Records, Refusal, WaitingMessage};
 //!
-//! fn half_minute(core: &mut Core, records: &mut Records, prn: u8, time: Gst, fields: &[u8; 75]) {
-//!     let answer = core.subframe(prn, time, fields, records);
-//!     if answer.mack.is_ok() {
+//! fn half_minute(
+//!     core: &mut Core,
+//!     records: &mut Records,
+//!     time: Gst,
+//!     fields: &[(u8, [u8; 75])],
+//!     words: &[(u8, [u8; 16])],
+//!     chip: impl Fn(&WaitingMessage) -> bool,
+//! ) {
+//!     for (prn, fields) in fields {
+//!         let answer = core.subframe(*prn, time, fields, records);
 //!         for tag in answer.tags.filter(|tag| tag.outcome == Outcome::Authentic) {
 //!             // The set of satellite `tag.prn`, as it was at `tag.time`, is authentic.
 //!             let _set = core.read_set(tag.prn);
 //!         }
 //!     }
+//!     for (prn, word) in words {
+//!         let _ = core.word(*prn, time, word);
+//!     }
 //!     // A root message may wait for the chip now.
-//!     let _message = core.read_message();
+//!     if let Ok(waiting) = core.read_message() {
+//!         let _ = core.verdict_on(&waiting, chip(&waiting));
+//!     }
 //! }
-//! # let (mut core, mut records) = (Core::new(), osnma::NO_RECORDS);
-//! # half_minute(&mut core, &mut records, 1, Gst::from_bits(0), &[0; 75]);
+//! # let (mut core, mut records, time) = (Core::new(), osnma::NO_RECORDS, Gst::from_bits(0));
+//! # half_minute(&mut core, &mut records, time, &[(1, [0; 75])], &[(1, [0; 16])], |_| false);
 //! ```
 //!
 //! A sub-frame of which fields did not come is lent with its [`Marks`], by
@@ -71,6 +100,7 @@
     clippy::unwrap_used
 )]
 
+pub mod collector;
 mod gst;
 mod marks;
 mod raw;
@@ -82,14 +112,25 @@ pub mod regions;
 #[allow(dead_code)]
 mod regions;
 mod tag_record;
+mod told;
+mod waiting_message;
 
 pub use gst::Gst;
 pub use marks::Marks;
 pub use refusal::Refusal;
 pub use tag_record::{Outcome, TagRecord, TagRecords};
+pub use waiting_message::WaitingMessage;
 
 use refusal::answered;
 use regions::Regions;
+use told::Told;
+
+/// The version of this crate, of `include/osnma.h` and of the archive's calls (`CHANGELOG.md`).
+pub const VERSION: &str = env!("CARGO_PKG_VERSION");
+/// The number of the layout that this crate lends: it rises whenever a region or the parameters of an
+/// export change. The archive exports a function whose name ends in it, which [`Core::start`] calls, so
+/// that an archive of another layout does not link.
+pub const LAYOUT: u32 = 1;
 
 /// Bytes of the authentication fields of a sub-frame: 15 of five bytes.
 pub const FIELDS_LEN: usize = 75;
@@ -143,21 +184,6 @@ pub struct AuthenticSet {
     pub time: Gst,
 }
 
-/// A message that waits for a verdict of the signature chip. Short parts are followed by zeros.
-#[derive(Clone, Debug, PartialEq, Eq)]
-pub struct WaitingMessage {
-    /// What is signed: the NMA header, then the DSM-KROOT from CIDKR through KROOT.
-    pub message: [u8; MESSAGE_LEN],
-    /// Of 56, 64, 96 or 132 bytes by the key's type.
-    pub signature: [u8; SIGNATURE_LEN],
-    /// The public key to verify it under.
-    pub key: [u8; KEY_LEN],
-    /// The key's ID, 0 to 15.
-    pub key_id: u8,
-    /// The key's type, 0 to 3.
-    pub key_type: u8,
-}
-
 /// The area that a sub-frame's tag records are written to. Bytes past the records stay as they are.
 pub type Records = [u8; RECORDS_LEN];
 
@@ -184,6 +210,7 @@ pub struct SubframeAnswer<'a> {
 #[derive(Clone)]
 pub struct Core {
     regions: Regions,
+    told: Told,
 }
 
 impl Core {
@@ -191,6 +218,7 @@ impl Core {
     pub const fn new() -> Core {
         Core {
             regions: Regions::zeroed(),
+            told: Told::NOTHING,
         }
     }
 
@@ -199,9 +227,13 @@ impl Core {
     ///
     /// # Errors
     /// [`Refusal::OutOfRange`] where NS, key ID, key type or a mark is not in its range, or the
-    /// first mark of a list is not 0; the core is then as before.
+    /// first mark of a list is not 0; the core is then as before. So it is after
+    /// [`Refusal::WrongLength`]: the archive has the name of this [`LAYOUT`] and not its number.
     pub fn start(&mut self, settings: &Settings) -> Result<(), Refusal> {
-        answered(self.regions.lend().start(
+        if layout() != LAYOUT {
+            return Err(Refusal::WrongLength);
+        }
+        self.told.start(answered(self.regions.lend().start(
             settings.ns,
             settings.key_id,
             settings.key_type,
@@ -209,10 +241,25 @@ impl Core {
             settings.marks.as_flattened(),
             &settings.tree_root,
             &settings.key,
-        ))
+        )))
     }
 
-    /// The authentication fields of a satellite's sub-frame at `time`; they are lent before its words.
+    /// Whether an emergency message stopped the core: since the last accepted start a section, a word
+    /// or a verdict was answered [`Refusal::Stopped`]. The core goes on to answer so until a new start;
+    /// its reads answer too, and what they give is no longer to be used.
+    pub const fn is_stopped(&self) -> bool {
+        self.told.stopped
+    }
+
+    /// Whether a chain is in force: since the last accepted start the last verdict that was answered
+    /// `Ok` was on a message of status 1 or 2 (01). Without one, sections are answered
+    /// [`Refusal::NotInForce`] and nothing is authenticated.
+    pub const fn chain_in_force(&self) -> bool {
+        self.told.chain_in_force
+    }
+
+    /// The authentication fields of a satellite's sub-frame at `time`; those of all satellites are lent
+    /// before the words of any.
     ///
     /// The first byte of each five is the HKROOT half: the block is gathered, and a message that it
     /// completes is judged. A DSM-KROOT then waits for a verdict, a DSM-PKR brings a public key or
@@ -279,14 +326,17 @@ impl Core {
         let count = lent.subframe(records, prn, time, marks, fields, &mut hkroot, &mut mack);
         SubframeAnswer {
             hkroot: answered(hkroot),
-            mack: answered(mack),
+            mack: self.told.call(answered(mack)),
             tags: TagRecords::of(records, count),
         }
     }
 
-    /// An I/NAV word of a satellite, in the sub-frame at `time`; the fields of a sub-frame are lent
-    /// before its words. A word of types 1 to 5 replaces the satellite's word of its type. Words of
-    /// other types change nothing.
+    /// An I/NAV word of a satellite, in the sub-frame at `time`. The fields of ALL satellites of a half
+    /// minute are lent before the words of ANY: a satellite of which a word of this half minute was lent
+    /// has no usable set for the sections of it that come after.
+    ///
+    /// A word of types 1 to 5 replaces the satellite's word of its type. Words of other types change
+    /// nothing.
     ///
     /// # Errors
     /// In this order, and the core is as before:
@@ -295,7 +345,8 @@ impl Core {
     /// - [`Refusal::Stopped`];
     /// - [`Refusal::OutOfOrder`]: earlier than this satellite's last word of types 1 to 5.
     pub fn word(&mut self, prn: u8, time: Gst, word: &[u8; WORD_LEN]) -> Result<(), Refusal> {
-        answered(self.regions.lend().word(prn, time.bits(), word))
+        self.told
+            .call(answered(self.regions.lend().word(prn, time.bits(), word)))
     }
 
     /// The signature chip's verdict on the message that waits. All that it names must be what
@@ -326,11 +377,21 @@ impl Core {
         signature: &[u8; SIGNATURE_LEN],
     ) -> Result<(), Refusal> {
         let good = u8::from(good);
-        answered(
+        let [header, ..] = *message;
+        let answer = answered(
             self.regions
                 .lend()
                 .verdict(good, key_id, message, signature),
-        )
+        );
+        self.told.verdict(header, answer)
+    }
+
+    /// The verdict on a message as [`read_message`](Core::read_message) gave it.
+    ///
+    /// # Errors
+    /// Those of [`verdict`](Core::verdict) from [`Refusal::Stopped`] on.
+    pub fn verdict_on(&mut self, waiting: &WaitingMessage, good: bool) -> Result<(), Refusal> {
+        self.verdict(good, waiting.key_id, &waiting.message, &waiting.signature)
     }
 
     /// A satellite's authentic set. Answers in a stopped core too.
@@ -386,6 +447,12 @@ impl Core {
     pub fn regions_mut(&mut self) -> &mut Regions {
         &mut self.regions
     }
+}
+
+/// The layout that the archive was made for.
+fn layout() -> u32 {
+    // SAFETY: it takes nothing and returns a number.
+    unsafe { raw::osnma_layout_1() }
 }
 
 impl Default for Core {

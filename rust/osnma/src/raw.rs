@@ -9,6 +9,7 @@
 //! else that is lent.
 
 extern "C" {
+    /// The number of the layout, which is also its name's.
     pub fn osnma_layout_1() -> u32;
 
     pub fn osnma_regions_start(

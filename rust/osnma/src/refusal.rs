@@ -50,28 +50,28 @@ pub enum Refusal {
     Unlisted(u32),
 }
 
-/// The refusals by number, from 1 on.
-const LISTED: [Refusal; 17] = [
-    Refusal::WrongLength,
-    Refusal::OutOfRange,
-    Refusal::OutOfOrder,
-    Refusal::Stopped,
-    Refusal::AllZero,
-    Refusal::BlockUnfit,
-    Refusal::KeyNotHeld,
-    Refusal::ParametersUnfit,
-    Refusal::NotNewer,
-    Refusal::TreeUnfit,
-    Refusal::NotInForce,
-    Refusal::KeyUnfit,
-    Refusal::TooFar,
-    Refusal::NotWaiting,
-    Refusal::VerdictBad,
-    Refusal::NoSet,
-    Refusal::FieldsMissing,
-];
-
 impl Refusal {
+    /// The refusals by number, from 1 on.
+    pub const LISTED: [Refusal; 17] = [
+        Refusal::WrongLength,
+        Refusal::OutOfRange,
+        Refusal::OutOfOrder,
+        Refusal::Stopped,
+        Refusal::AllZero,
+        Refusal::BlockUnfit,
+        Refusal::KeyNotHeld,
+        Refusal::ParametersUnfit,
+        Refusal::NotNewer,
+        Refusal::TreeUnfit,
+        Refusal::NotInForce,
+        Refusal::KeyUnfit,
+        Refusal::TooFar,
+        Refusal::NotWaiting,
+        Refusal::VerdictBad,
+        Refusal::NoSet,
+        Refusal::FieldsMissing,
+    ];
+
     /// The number of document 01's table.
     pub const fn number(self) -> u32 {
         match self {
@@ -102,7 +102,9 @@ pub(crate) fn answered(number: u32) -> Result<(), Refusal> {
     if number == 0 {
         return Ok(());
     }
-    let listed = LISTED.iter().find(|refusal| refusal.number() == number);
+    let listed = Refusal::LISTED
+        .iter()
+        .find(|refusal| refusal.number() == number);
     Err(listed.copied().unwrap_or(Refusal::Unlisted(number)))
 }
 
@@ -141,7 +143,7 @@ mod tests {
     #[test]
     fn numbers() {
         assert_eq!(answered(0), Ok(()));
-        for (refusal, number) in LISTED.into_iter().zip(1..) {
+        for (refusal, number) in Refusal::LISTED.into_iter().zip(1..) {
             assert_eq!(refusal.number(), number);
             assert_eq!(answered(number), Err(refusal));
         }

@@ -1,6 +1,7 @@
 //! What a section's tags became.
 
 use crate::{Gst, RECORDS_LEN, RECORD_LEN};
+use core::fmt;
 use core::iter::FusedIterator;
 
 /// What became of a tag: document 01's outcomes, and 8 of document 02.
@@ -11,7 +12,8 @@ pub enum Outcome {
     Authentic,
     /// 2: it does not match.
     Wrong,
-    /// 3: its satellite has no usable set.
+    /// 3: its satellite has no usable set: not all five words came, or not of one IODnav, or one of
+    /// them is of this half minute and was lent before these fields.
     NoUsableSet,
     /// 4: an ADKD other than 0, 11 and 12, or not the fixed one of its field, or a PRN not 1 to 36.
     NotAllowed,
@@ -62,6 +64,23 @@ impl Outcome {
             .into_iter()
             .find(|outcome| outcome.number() == number);
         listed.unwrap_or(Outcome::Unlisted(number))
+    }
+}
+
+impl fmt::Display for Outcome {
+    fn fmt(&self, f: &mut fmt::Formatter<'_>) -> fmt::Result {
+        let text = match self {
+            Outcome::Authentic => "authentic",
+            Outcome::Wrong => "wrong",
+            Outcome::NoUsableSet => "no usable set",
+            Outcome::NotAllowed => "not allowed",
+            Outcome::Waits => "waits for its key",
+            Outcome::SequenceUnfit => "MACSEQ fails",
+            Outcome::NoPlace => "no place to wait",
+            Outcome::BitsMissing => "bits are missing",
+            Outcome::Unlisted(_) => "a number that is not listed",
+        };
+        write!(f, "{text} ({})", self.number())
     }
 }
 

@@ -6,6 +6,7 @@ mod common;
 
 use common::annex::*;
 use common::{binary, fields, gst, hex, hkroot, later, packed, set, upper};
+use osnma::collector::Collector;
 use osnma::{Core, Gst, Outcome, Refusal, Settings, TagRecord, FLEXIBLE, NO_RECORDS};
 use second_receiver::chain::TeslaKey;
 
@@ -58,8 +59,8 @@ fn message(core: &mut Core, time: u32, id: u8, dsm: &[u8]) -> Result<(), Refusal
     last
 }
 
-/// The annex's root is vouched for, and E18's words have come.
-fn ready() -> Core {
+/// The annex's root is vouched for.
+fn vouched() -> Core {
     let mut core = started([0; 32]);
     assert_eq!(
         message(&mut core, gst(947, 431_760), 0, &hex(DSM_KROOT)),
@@ -71,11 +72,16 @@ fn ready() -> Core {
     assert_eq!(upper(&waiting.signature[..64]), SIGNATURE);
     assert_eq!(waiting.signature[64..], [0; 68]);
     assert_eq!((waiting.key_id, waiting.key_type), (0, 1));
-    assert_eq!(
-        core.verdict(true, 0, &waiting.message, &waiting.signature),
-        Ok(())
-    );
+    assert_eq!(upper(waiting.signed()), SIGNED_MESSAGE);
+    assert_eq!(upper(waiting.signature_bytes()), SIGNATURE);
+    assert_eq!(core.verdict_on(&waiting, true), Ok(()));
     assert_eq!(upper(&core.regions().heldkey[..16]), KROOT);
+    core
+}
+
+/// The same, and E18's words have come.
+fn ready() -> Core {
+    let mut core = vouched();
     for word in words_of_e18() {
         let time = Gst::from_bits(gst(947, 432_000));
         assert_eq!(core.word(18, time, &word), Ok(()));
@@ -183,4 +189,35 @@ fn a_1_7_every_leaf() {
         message(&mut core, time, 12, &other),
         Err(Refusal::TreeUnfit)
     );
+}
+
+// Table 26: E18's half minute as it was sent, through the collector. Its fields are of another chain; its words are those
+// that A.1.5's tag matches.
+#[test]
+fn table_26_pages() {
+    let (mut core, mut collector) = (vouched(), Collector::new());
+    let parts: Vec<Vec<u8>> = pages().iter().map(|part| hex(part)).collect();
+    for (place, parts) in (0..).zip(parts.chunks_exact(2)) {
+        let (time, page) = Gst::of_page(947, 432_001 + 2 * place).unwrap();
+        let (even, odd) = (&parts[0][..], &parts[1][..]);
+        let taken = collector.page(
+            18,
+            time,
+            page,
+            even.try_into().unwrap(),
+            odd.try_into().unwrap(),
+        );
+        assert_eq!((page, taken), (place, Ok(())));
+    }
+    let mut lent = Vec::new();
+    let words = collector.lend(&mut core, &mut NO_RECORDS.clone(), |prn, time, answer| {
+        lent.push((prn, time.bits(), answer.tags.len()));
+    });
+    assert_eq!((words, lent), (Ok(()), vec![(18, gst(947, 432_000), 0)]));
+    let block = hkroot(HEADER_A, 0, 0, &hex(DSM_KROOT)[..13]);
+    let time = gst(947, 432_030);
+    let (halves, tags) = subframe(&mut core, 18, time, &block, &section(|_| {}));
+    assert_eq!(halves, [Ok(()), Ok(())]);
+    assert_eq!(outcomes(&tags)[..3], [1, 4, 5]);
+    assert_eq!(core.read_set(18).unwrap().bytes[..], set(&words_of_e18()));
 }

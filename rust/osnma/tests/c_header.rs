@@ -1,76 +1,39 @@
-//! include/osnma.h from C: tests/c/calls.c is compiled as C99 and, where there is a C++ compiler,
-//! as C++, without a warning, linked with the archive and run.
+//! include/osnma.h from C: tests/c/calls.c is compiled as C99 and, where there is a C++ compiler, as C++, without a
+//! warning, linked with the archive and run. What stands beside the calls is the Rust binding's. A header of another
+//! layout does not link.
 
+mod compiled;
+
+use compiled::{build, cpp_compilers, run, top, Program, C99, CPP17};
 use osnma::regions::Regions;
+use osnma::{Gst, WaitingMessage, LAYOUT, VERSION};
 use std::fmt::Write;
+use std::fs;
 use std::mem::offset_of;
-use std::path::{Path, PathBuf};
-use std::process::Command;
+use std::path::Path;
 
-fn top() -> PathBuf {
-    Path::new(env!("CARGO_MANIFEST_DIR")).join("../..")
-}
-
-/// Compiles and links the program.
-fn build(compiler: &str, language: &[&str], name: &str) -> PathBuf {
-    let program = Path::new(env!("CARGO_TARGET_TMPDIR")).join(name);
-    let output = Command::new(compiler)
-        .args(language)
-        .args(["-O1", "-Wall", "-Wextra", "-pedantic", "-Werror", "-I"])
-        .arg(top().join("include"))
-        .arg(Path::new(env!("CARGO_MANIFEST_DIR")).join("tests/c/calls.c"))
-        .args(["-x", "none"])
-        .arg(top().join("target/staticlib/libosnma.a"))
-        .arg("-o")
-        .arg(&program)
-        .output()
-        .unwrap_or_else(|error| panic!("{compiler}: {error}"));
-    let errors = String::from_utf8_lossy(&output.stderr);
-    assert!(output.status.success(), "{compiler}: {errors}");
-    program
-}
-
-/// What the program prints.
-fn run(program: &Path, words: &[&str]) -> String {
-    let name = program.display();
-    let output = Command::new(program)
-        .args(words)
-        .output()
-        .unwrap_or_else(|error| panic!("{name}: {error}"));
-    let errors = String::from_utf8_lossy(&output.stderr);
-    assert!(output.status.success(), "{name}: {errors}");
-    String::from_utf8_lossy(&output.stdout).into_owned()
-}
-
-fn is_there(compiler: &str) -> bool {
-    Command::new(compiler).arg("--version").output().is_ok()
-}
+const CALLS: &str = "rust/osnma/tests/c/calls.c";
 
 #[test]
 fn as_c99() {
-    let program = build("cc", &["-std=c99"], "calls_c99");
-    let printed = run(&program, &[]);
+    let program = build("cc", C99, CALLS, "calls_c99");
+    let printed = run(&program, &[], &[]);
     assert!(printed.contains("calls"), "{printed}");
 }
 
 #[test]
 fn as_cpp() {
-    for compiler in ["g++", "clang++"] {
-        if is_there(compiler) {
-            let language = ["-std=c++11", "-x", "c++"];
-            let program = build(compiler, &language, &format!("calls_{compiler}"));
-            let printed = run(&program, &[]);
-            assert!(printed.contains("calls"), "{printed}");
-        } else {
-            println!("no {compiler}");
-        }
+    for compiler in cpp_compilers() {
+        let program = build(compiler, CPP17, CALLS, &format!("calls_{compiler}"));
+        let printed = run(&program, &[], &[]);
+        assert!(printed.contains("calls"), "{printed}");
     }
 }
 
 // The regions of `Core` and of `struct osnma_core` lie at the same places.
 #[test]
 fn one_layout() {
-    let program = build("cc", &["-std=c99"], "calls_layout");
+    let program = build("cc", C99, CALLS, "calls_layout");
     let mut layout = String::new();
     macro_rules! add {
         ($($name:ident)*) => {
@@ -81,5 +44,106 @@ fn one_layout() {
         config clocks words stamps blocks headers present since
         pubkeys offer chain numbers heldkey waiting sets arrivals
     );
-    assert_eq!(run(&program, &["layout"]), layout);
+    assert_eq!(run(&program, &["layout"], &[]), layout);
+}
+
+/// The text of a refusal or outcome without its number.
+fn text(shown: impl std::fmt::Display) -> String {
+    let shown = shown.to_string();
+    shown
+        .rsplit_once(" (")
+        .map_or(shown.clone(), |(text, _)| text.into())
+}
+
+/// What tests/c/glue.c prints, of the Rust binding.
+fn glue() -> String {
+    let mut lines = format!("version {VERSION}, layout {LAYOUT}\nanswer 0: done\n");
+    let unlisted = "a number that is not listed";
+    for number in 1..20 {
+        let refusal = osnma::Refusal::LISTED.get(number - 1);
+        let text = refusal.map_or(unlisted.into(), text);
+        writeln!(lines, "answer {number}: {text}").unwrap();
+    }
+    for number in 0..11 {
+        let mut record = [0; 12];
+        record[0] = number;
+        let outcome = osnma::TagRecord::of(&record).outcome;
+        writeln!(lines, "outcome {number}: {}", text(outcome)).unwrap();
+    }
+    let mut waiting = WaitingMessage {
+        message: [0; 45],
+        signature: [0; 132],
+        key: [0; 67],
+        key_id: 0,
+        key_type: 0,
+    };
+    for ks in 0..16 {
+        waiting.message[2] = ks << 4 | 15;
+        writeln!(lines, "KS {ks}: {} bytes signed", waiting.signed().len()).unwrap();
+    }
+    for key_type in 0..6 {
+        waiting.key_type = key_type;
+        let (signature, key) = (waiting.signature_bytes().len(), waiting.key_bytes().len());
+        writeln!(
+            lines,
+            "key type {key_type}: signature {signature}, key {key}"
+        )
+        .unwrap();
+    }
+    for bits in [0, 0x3B36_9762, 0xFFF9_3A62, 0xFFFF_FFFF] {
+        writeln!(lines, "{}", Gst::from_bits(bits)).unwrap();
+    }
+    for second in [0, 1, 2, 29, 30, 31, 432_001, 432_029, 604_799, 604_801] {
+        match Gst::of_page(947, second) {
+            None => writeln!(lines, "no page at {second}").unwrap(),
+            Some((time, page)) => {
+                writeln!(lines, "page at {second}: {}, {page}", time.second()).unwrap();
+            }
+        }
+    }
+    lines
+}
+
+#[test]
+fn one_glue() {
+    let program = build("cc", C99, "rust/osnma/tests/c/glue.c", "glue");
+    assert_eq!(run(&program, &[], &[]), glue());
+}
+
+/// A folder with the headers, of which osnma.h says this layout.
+fn headers_of_layout(layout: u32) -> std::path::PathBuf {
+    let folder = Path::new(env!("CARGO_TARGET_TMPDIR")).join(format!("layout_{layout}"));
+    fs::create_dir_all(&folder).expect("a folder");
+    for name in ["osnma.h", "osnma_collector.h"] {
+        let text = fs::read_to_string(top().join("include").join(name)).expect("a header");
+        let (old, new) = (
+            format!("#define OSNMA_LAYOUT {LAYOUT}\n"),
+            format!("#define OSNMA_LAYOUT {layout}\n"),
+        );
+        assert_eq!(text.contains(&old), name == "osnma.h", "{name}");
+        fs::write(folder.join(name), text.replace(&old, &new)).expect("a header");
+    }
+    folder
+}
+
+// An older or newer header and this archive do not link, and the linker names the layout.
+#[test]
+fn another_layout_does_not_link() {
+    for layout in [LAYOUT, LAYOUT + 1, LAYOUT - 1] {
+        let program = Program {
+            compiler: "cc",
+            language: &["-std=c99", "-O2"],
+            source: "examples/receiver.c",
+            include: Some(&headers_of_layout(layout)),
+            libraries: &[],
+        };
+        match program.built(&format!("receiver_of_layout_{layout}")) {
+            Ok(_) => assert_eq!(layout, LAYOUT, "a header of layout {layout} links"),
+            Err(error) => {
+                assert_ne!(layout, LAYOUT, "{error}");
+                let symbol = format!("osnma_layout_{layout}");
+                assert!(error.contains(&symbol), "{error}");
+            }
+        }
+    }
 }

@@ -1,8 +1,10 @@
-//! `signal list` names the scenarios; `signal NAME [SEED]` writes a replay input to standard output; `signal check NAME
-//! [SEED] [READS]` reads a replay program's answers from standard input and compares them with what the run intends.
+//! `signal list` names the scenarios; `signal NAME [SEED]` writes a replay input to standard output; `signal air NAME
+//! [SEED]` writes the same cut into pages in the order of the air; `signal check NAME [SEED] [READS]` reads a replay
+//! program's answers from standard input and compares them with what the run intends.
 
 #![forbid(unsafe_code)]
 
+use signal::air;
 use signal::replay::Run;
 use signal::scenario;
 use std::io::{Read, Write};
@@ -45,14 +47,22 @@ fn command(words: &[&str]) -> Result<(), String> {
                 .map_err(|e| e.to_string())?;
             run.check(&answers, reads.as_deref())
         }
-        [name, rest @ ..] if rest.len() <= 1 => {
+        ["air", name, rest @ ..] if rest.len() <= 1 => {
             let run = build(name, rest.first().copied())?;
-            std::io::stdout()
-                .write_all(&run.bytes)
-                .map_err(|e| e.to_string())
+            write(&air::cut(&run.bytes))
         }
-        _ => Err("signal list | signal NAME [SEED] | signal check NAME [SEED] [READS]".into()),
+        [name, rest @ ..] if rest.len() <= 1 => write(&build(name, rest.first().copied())?.bytes),
+        _ => Err(
+            "signal list | signal NAME [SEED] | signal air NAME [SEED] | signal check NAME [SEED] [READS]"
+                .into(),
+        ),
     }
+}
+
+fn write(bytes: &[u8]) -> Result<(), String> {
+    std::io::stdout()
+        .write_all(bytes)
+        .map_err(|e| e.to_string())
 }
 
 fn build(name: &str, seed: Option<&str>) -> Result<Run, String> {

@@ -55,7 +55,7 @@ impl Verdict {
     }
 }
 
-fn record(parts: &[&[u8]]) -> [u8; RECORD] {
+pub(crate) fn record(parts: &[&[u8]]) -> [u8; RECORD] {
     let mut out = [0; RECORD];
     let bytes = parts.concat();
     out[..bytes.len()].copy_from_slice(&bytes);

@@ -279,9 +279,18 @@ fn without_directives(text: &str) -> String {
     kept
 }
 
+/// The text with the name of the export that the header makes of its layout's number.
+fn with_layout(text: &str) -> String {
+    let number = text
+        .lines()
+        .find_map(|line| line.strip_prefix("#define OSNMA_LAYOUT "));
+    let export = format!("osnma_layout_{}", number.expect("a layout"));
+    text.replace("OSNMA_LAYOUT_EXPORT", &export)
+}
+
 /// The functions that a C header declares and does not define itself.
 pub fn of_header(text: &str) -> Declarations {
-    let mut reader = Reader::new(&without_directives(text));
+    let mut reader = Reader::new(&without_directives(&with_layout(text)));
     let mut found = Declarations::new();
     while reader.at < reader.tokens.len() {
         if matches!(
@@ -294,6 +303,7 @@ pub fn of_header(text: &str) -> Declarations {
         let returns = type_of_c(&reader.word());
         let name = reader.word();
         reader.expect(&["("]);
+        reader.take(&["void"]);
         let parameters = reader.parameters(c_parameter);
         reader.expect(&[";"]);
         add(
