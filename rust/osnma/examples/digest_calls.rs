@@ -1,7 +1,7 @@
 //! A digest of all that the core answers and leaves: `digest_calls COUNT SEED [whole]`.
 //!
 //! Makes every call of the named runs and COUNT calls drawn at random, and prints a digest of every answer, tag record
-//! and byte of every region so far: after each run, then after every 10,000 calls. With `whole` no sub-frame has marks,
+//! and byte of every region: of each run, then of the random calls so far after every 10,000. With `whole` no sub-frame has marks,
 //! for an archive that does not know them.
 //! Two archives of the core print the same lines only if they do the same; `side_by_side` compares them.
 
@@ -25,6 +25,13 @@ struct Digest {
 }
 
 impl Digest {
+    fn new() -> Digest {
+        Digest {
+            lanes: [1, 2],
+            calls: 0,
+        }
+    }
+
     fn number(&mut self, number: u64) {
         self.lanes[0] = (self.lanes[0] ^ number)
             .wrapping_mul(0x9E37_79B9_7F4A_7C15)
@@ -105,11 +112,8 @@ fn replay(input: &[u8], digest: &mut Digest) -> Result<(), String> {
 }
 
 fn run(count: u64, seed: u64, pages: Pages) -> Result<(), String> {
-    let mut digest = Digest {
-        lanes: [1, 2],
-        calls: 0,
-    };
     for scenario in scenario::all() {
+        let mut digest = Digest::new();
         let mut run = scenario.run(scenario::SEED);
         if pages == Pages::Whole {
             input_without_marks(&mut run.bytes);
@@ -117,6 +121,7 @@ fn run(count: u64, seed: u64, pages: Pages) -> Result<(), String> {
         replay(&run.bytes, &mut digest).map_err(|error| format!("{}: {error}", run.name))?;
         digest.print(&run.name);
     }
+    let mut digest = Digest::new();
     let mut driver = Driver::new(seed, 60, MacFunctions::Both, pages)?;
     for _ in 0..count.div_ceil(EVERY) {
         driver.run_and_show(EVERY, |answer, twin| digest.call(answer, twin))?;

@@ -904,6 +904,15 @@ enum { REGIONS = 16 };
 static const size_t right_counts[REGIONS + 3] = {63, 73, 2880, 180,   3328, 16, 16, 16, 1088, 179,
                                                  45, 2,  32,   21504, 2484, 36, 0,  0,  0};
 
+/* The regions that a call is lent, each as a bit. */
+enum {
+    ALL_REGIONS = 0xFFFF,
+    WORD_REGIONS = 0x000F,    /* config, clocks, words, stamps */
+    VERDICT_REGIONS = 0x3F01, /* config, pubkeys, offer, chain, numbers, heldkey, waiting */
+    SET_REGIONS = 0xC000,     /* sets, arrivals */
+    MESSAGE_REGIONS = 0x0300  /* pubkeys, offer */
+};
+
 #define LENT(n)                                                                                    \
     core.config, n[0], core.clocks, n[1], core.words, n[2], core.stamps, n[3],                     \
     core.blocks, n[4], core.headers, n[5], core.present, n[6], core.since, n[7],                   \
@@ -919,14 +928,16 @@ static enum osnma_answer counted_start(const size_t *n)
 
 static enum osnma_answer counted_word(const size_t *n)
 {
-    return (enum osnma_answer)osnma_regions_word(LENT(n), 5, osnma_gst(947, 432000), word, n[16]);
+    return (enum osnma_answer)osnma_regions_word(
+        core.config, n[0], core.clocks, n[1], core.words, n[2], core.stamps, n[3], 5,
+        osnma_gst(947, 432000), word, n[16]);
 }
 
 static enum osnma_answer counted_subframe(const size_t *n)
 {
     uint32_t of_hkroot = 77, of_mack = 77;
     uint32_t count = osnma_regions_subframe(LENT(n), records, n[17], 5, osnma_gst(947, 432000),
-                                            fields, n[16], &of_hkroot, &of_mack);
+                                            OSNMA_ALL_RECEIVED, fields, n[16], &of_hkroot, &of_mack);
     CHECK(count == 0 && memcmp(records, want_records, sizeof records) == 0);
     CHECK(of_hkroot == OSNMA_DONE ? of_mack == OSNMA_NOT_IN_FORCE : of_mack == of_hkroot);
     return (enum osnma_answer)of_hkroot;
@@ -935,9 +946,8 @@ static enum osnma_answer counted_subframe(const size_t *n)
 static enum osnma_answer counted_subframe_marked(const size_t *n)
 {
     uint32_t of_hkroot = 77, of_mack = 77;
-    uint32_t count = osnma_regions_subframe_marked(LENT(n), records, n[17], 6, osnma_gst(947, 432000),
-                                                   OSNMA_RECEIVED(0), fields, n[16], &of_hkroot,
-                                                   &of_mack);
+    uint32_t count = osnma_regions_subframe(LENT(n), records, n[17], 6, osnma_gst(947, 432000),
+                                            OSNMA_RECEIVED(0), fields, n[16], &of_hkroot, &of_mack);
     CHECK(count == 0 && memcmp(records, want_records, sizeof records) == 0);
     CHECK(of_hkroot == OSNMA_FIELDS_MISSING ? of_mack == OSNMA_NOT_IN_FORCE : of_mack == of_hkroot);
     return (enum osnma_answer)of_hkroot;
@@ -945,8 +955,9 @@ static enum osnma_answer counted_subframe_marked(const size_t *n)
 
 static enum osnma_answer counted_verdict(const size_t *n)
 {
-    return (enum osnma_answer)osnma_regions_verdict(LENT(n), 0, 3, message, n[16], signature,
-                                                    n[17]);
+    return (enum osnma_answer)osnma_regions_verdict(
+        core.config, n[0], core.pubkeys, n[8], core.offer, n[9], core.chain, n[10], core.numbers, n[11],
+        core.heldkey, n[12], core.waiting, n[13], 0, 3, message, n[16], signature, n[17]);
 }
 
 static enum osnma_answer counted_read_set(const size_t *n)
@@ -956,7 +967,8 @@ static enum osnma_answer counted_read_set(const size_t *n)
     uint32_t time = 7;
     enum osnma_answer answer;
     memset(set, 0x5A, sizeof set);
-    answer = (enum osnma_answer)osnma_regions_read_set(LENT(n), 5, set, n[16], &iodnav, &time);
+    answer = (enum osnma_answer)osnma_regions_read_set(core.sets, n[14], core.arrivals, n[15], 5, set,
+                                                       n[16], &iodnav, &time);
     CHECK(iodnav == 0 && time == 0 && set[0] == 0x5A && memcmp(set, set + 1, sizeof set - 1) == 0);
     return answer;
 }
@@ -966,19 +978,19 @@ static enum osnma_answer counted_read_message(const size_t *n)
     struct osnma_message got;
     enum osnma_answer answer;
     memset(&got, 0x5A, sizeof got);
-    answer = (enum osnma_answer)osnma_regions_read_message(LENT(n), got.message, n[16],
-                                                           got.signature, n[17], got.key, n[18],
-                                                           &got.key_id, &got.key_type);
+    answer = (enum osnma_answer)osnma_regions_read_message(
+        core.pubkeys, n[8], core.offer, n[9], got.message, n[16], got.signature, n[17], got.key, n[18],
+        &got.key_id, &got.key_type);
     if (answer == OSNMA_WRONG_LENGTH)
         CHECK(got.key_id == 0 && got.key_type == 0 && got.message[0] == 0x5A &&
               got.key[66] == 0x5A);
     return answer;
 }
 
-/* Each count in turn is 0, then one less than right; `others` are the counts of the other byte
- * strings. */
-static void short_counts(enum osnma_answer (*call)(const size_t *), const size_t *others,
-                         unsigned count, enum osnma_answer answer)
+/* Each count that the call is lent is in turn 0, then one less than right; `others` are the counts of the
+ * other byte strings. */
+static void short_counts(enum osnma_answer (*call)(const size_t *), unsigned regions,
+                         const size_t *others, unsigned count, enum osnma_answer answer)
 {
     size_t n[REGIONS + 3];
     unsigned i, k;
@@ -987,6 +999,8 @@ static void short_counts(enum osnma_answer (*call)(const size_t *), const size_t
         n[REGIONS + i] = others[i];
     for (i = 0; i < REGIONS + count; i++) {
         size_t right = n[i];
+        if (i < REGIONS && (regions >> i & 1u) == 0)
+            continue;
         for (k = 0; k < 2; k++) {
             n[i] = k == 0 ? 0 : right - 1;
             ANSWERS(call(n), OSNMA_WRONG_LENGTH);
@@ -1016,14 +1030,14 @@ static void test_counts(void)
     make_message(1, 0, 0, 947, 120);
     wait_for(3);
     make_word(1, 0, 8);
-    short_counts(counted_read_set, of_set, 1, OSNMA_NO_SET);
-    short_counts(counted_read_message, of_message, 3, OSNMA_DONE);
-    short_counts(counted_word, of_word, 1, OSNMA_DONE);
+    short_counts(counted_read_set, SET_REGIONS, of_set, 1, OSNMA_NO_SET);
+    short_counts(counted_read_message, MESSAGE_REGIONS, of_message, 3, OSNMA_DONE);
+    short_counts(counted_word, WORD_REGIONS, of_word, 1, OSNMA_DONE);
     make_block(0x82, 7, 1, annex_dsm);
-    short_counts(counted_subframe, of_subframe, 2, OSNMA_DONE);
-    short_counts(counted_subframe_marked, of_subframe, 2, OSNMA_FIELDS_MISSING);
-    short_counts(counted_verdict, of_verdict, 2, OSNMA_VERDICT_BAD);
-    short_counts(counted_start, of_start, 3, OSNMA_DONE);
+    short_counts(counted_subframe, ALL_REGIONS, of_subframe, 2, OSNMA_DONE);
+    short_counts(counted_subframe_marked, ALL_REGIONS, of_subframe, 2, OSNMA_FIELDS_MISSING);
+    short_counts(counted_verdict, VERDICT_REGIONS, of_verdict, 2, OSNMA_VERDICT_BAD);
+    short_counts(counted_start, ALL_REGIONS, of_start, 3, OSNMA_DONE);
 }
 
 /* Where each region begins, for comparison with other bindings. */
