@@ -1,2 +1,2 @@
 -- what the functions' proofs share
-pub mod Answers
+pub mod Answered
