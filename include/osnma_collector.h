@@ -64,6 +64,13 @@ struct osnma_collector {
     struct osnma_sent sent[OSNMA_SATELLITES];
 };
 
+/** The size of a collector; never more. */
+#define OSNMA_COLLECTOR_SIZE 5696u
+
+/** Does not compile where a collector is larger than its stated size. */
+typedef char osnma_collector_has_its_size
+    [sizeof(struct osnma_collector) <= OSNMA_COLLECTOR_SIZE ? 1 : -1];
+
 /** Is told what each sub-frame answered, with the area of its records. It may call the core. */
 typedef void osnma_told(void *user, uint8_t prn, uint32_t time, struct osnma_halves answer,
                         const uint8_t records[OSNMA_RECORDS]);

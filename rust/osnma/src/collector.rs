@@ -160,6 +160,9 @@ pub struct Collector {
     satellites: [Satellite; SATELLITES],
 }
 
+// As docs/BENCHMARK.md says.
+const _: () = assert!(size_of::<Collector>() <= 5_848);
+
 impl Collector {
     /// Nothing collected, nothing lent. It is a constant, so that a collector can stand in a `static`.
     pub const fn new() -> Collector {

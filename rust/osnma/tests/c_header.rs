@@ -110,6 +110,22 @@ fn one_glue() {
     assert_eq!(run(&program, &[], &[]), glue());
 }
 
+// docs/RECORDING.md has every number and outcome of the header, by its name.
+#[test]
+fn documented() {
+    let read = |path: &str| fs::read_to_string(top().join(path)).expect("a text");
+    let (header, page) = (read("include/osnma.h"), read("docs/RECORDING.md"));
+    let listed: Vec<String> = header
+        .lines()
+        .filter_map(|line| line.strip_prefix("    OSNMA_")?.split_once(" = "))
+        .map(|(name, number)| format!("| {} | `OSNMA_{name}` |", number.trim_end_matches(',')))
+        .collect();
+    assert_eq!(listed.len(), 18 + 8);
+    for row in listed {
+        assert!(page.contains(&row), "{row} is not in docs/RECORDING.md");
+    }
+}
+
 /// A folder with the headers, of which osnma.h says this layout.
 fn headers_of_layout(layout: u32) -> std::path::PathBuf {
     let folder = Path::new(env!("CARGO_TARGET_TMPDIR")).join(format!("layout_{layout}"));

@@ -149,7 +149,7 @@ fn authentic(recording: &[u8], key: fn(&[u8]) -> (u8, u8)) -> usize {
         lent.extend(chunk.concat());
     }
     let mut lines = Vec::new();
-    replay(&lent, &mut lines).expect("lines");
+    replay(&lent[..], &mut lines).expect("lines");
     let lines = String::from_utf8(lines).expect("text");
     let tags = lines.lines().filter(|line| !line.contains(' '));
     tags.filter(|line| line.starts_with("01")).count()
