@@ -1,9 +1,9 @@
 //! The tag records of a recording, a line each, for the engineer.
 
-use crate::history::History;
+use crate::history::{History, Judged, Run};
 use crate::time;
 use osnma::Outcome;
-use std::fmt::Write;
+use std::io::{self, Write};
 
 /// The first line.
 pub const HEAD: &str = "start,record,outcome,meaning,sender,prn,adkd,block,position,iodnav,\
@@ -24,37 +24,82 @@ pub fn meaning(outcome: Outcome) -> &'static str {
     }
 }
 
-/// Every tag record, in the order of the answers. A key's slot is counted from the root in force
-/// then; the last field is the record of the verdict that put that root in force.
-pub fn sheet(history: &History) -> String {
-    let mut out = format!("{HEAD}\n");
-    for run in &history.runs {
-        for judged in &run.judged {
-            let tag = &judged.record;
-            let root = judged.root.and_then(|root| run.vouched.roots.get(root));
-            let slot = root.and_then(|root| root.slot(run.settings.ns, tag));
-            let or_none = |n: Option<u64>| n.map_or(String::new(), |n| n.to_string());
-            // Writing to a string cannot fail.
-            let _ = writeln!(
-                out,
-                "{},{},{},{},{},{},{},{},{},{},{},{},{},{},{}",
-                run.place,
-                judged.place,
-                tag.outcome.number(),
-                meaning(tag.outcome),
-                tag.sender,
-                tag.prn,
-                tag.adkd,
-                tag.block,
-                tag.position,
-                tag.iodnav,
-                tag.time.week(),
-                tag.time.second(),
-                time::full(tag.time),
-                or_none(slot),
-                or_none(root.map(|root| root.vouch.place)),
-            );
+/// Writes every tag record as its record comes, in the order of the answers. A key's slot is counted
+/// from the root in force then; the last field is the record of the verdict that put that root in
+/// force.
+pub struct Rows<W> {
+    output: W,
+    begun: bool,
+    failed: io::Result<()>,
+}
+
+impl<W: Write> Rows<W> {
+    /// Writes to `output`, nothing before the first tag record or the end.
+    pub fn new(output: W) -> Rows<W> {
+        Rows {
+            output,
+            begun: false,
+            failed: Ok(()),
         }
     }
-    out
+
+    /// The rows of the last record.
+    pub fn note(&mut self, history: &History) {
+        let Some(run) = history.runs.last() else {
+            return;
+        };
+        for judged in &history.judged {
+            if self.failed.is_ok() {
+                self.failed = self.head().and_then(|()| self.row(run, judged));
+            }
+        }
+    }
+
+    /// Whether writing failed, so that no more is written.
+    pub fn has_failed(&self) -> bool {
+        self.failed.is_err()
+    }
+
+    /// The end: gives the output back.
+    ///
+    /// # Errors
+    /// The first of the output's.
+    pub fn finish(mut self) -> io::Result<W> {
+        std::mem::replace(&mut self.failed, Ok(()))?;
+        self.head()?;
+        Ok(self.output)
+    }
+
+    fn head(&mut self) -> io::Result<()> {
+        if std::mem::replace(&mut self.begun, true) {
+            return Ok(());
+        }
+        writeln!(self.output, "{HEAD}")
+    }
+
+    fn row(&mut self, run: &Run, judged: &Judged) -> io::Result<()> {
+        let tag = &judged.record;
+        let root = judged.root.as_ref();
+        let slot = root.and_then(|root| root.slot(run.settings.ns, tag));
+        let or_none = |n: Option<u64>| n.map_or(String::new(), |n| n.to_string());
+        writeln!(
+            self.output,
+            "{},{},{},{},{},{},{},{},{},{},{},{},{},{},{}",
+            run.place,
+            judged.place,
+            tag.outcome.number(),
+            meaning(tag.outcome),
+            tag.sender,
+            tag.prn,
+            tag.adkd,
+            tag.block,
+            tag.position,
+            tag.iodnav,
+            tag.time.week(),
+            tag.time.second(),
+            time::full(tag.time),
+            or_none(slot),
+            or_none(root.map(|root| root.vouch.place)),
+        )
+    }
 }

@@ -3,33 +3,57 @@
 //!
 //! Outcomes, marked sets and refusals are the core's own answers and reads. Which words a satellite
 //! has and which tags wait is followed from words answered 0, tag records and good verdicts.
+//!
+//! However long a recording is, what is kept of it is bounded: a timeline of so many columns, sums,
+//! and so many of what has a line of its own. Where lines are left out their number is kept.
 
+use crate::boom::{self, Watch};
+use crate::data::Data;
 use crate::receiver::Answer;
-use crate::recording::Record;
-use crate::vouched::{Change, Vouch, Vouched};
-use osnma::{Core, Gst, Outcome, Refusal, Settings, TagRecord, SET_LEN, WORD_LEN};
-use std::collections::{BTreeMap, BTreeSet};
+use crate::recording::{Cut, Record};
+use crate::refused::{Part, Refusals};
+use crate::timeline::{Said, Timeline, COLUMNS};
+use crate::vouched::{Change, Keys, Root, Vouch, Vouched};
+use osnma::{
+    AuthenticSet, Core, Gst, Outcome, Refusal, Settings, TagRecord, WaitingMessage, SET_LEN,
+    WORD_LEN,
+};
+use portable_hash::DIGEST_LEN;
+use std::collections::{BTreeMap, BTreeSet, VecDeque};
+use std::sync::Arc;
 
-/// A tag, from its arrival to its last outcome.
-#[derive(Clone, Copy, Debug, PartialEq, Eq)]
-pub struct Tag {
-    /// Its last record.
-    pub record: TagRecord,
-    /// Whether it had to wait for its key.
-    pub slow: bool,
-    /// Whether it was given up with its chain, or by a later root.
-    pub given_up: bool,
+/// Runs that are kept at most: the last ones.
+pub const RUNS: usize = 64;
+/// Lines that the kept runs come to at most, before another begins: a cell is one, a set ten. Eight
+/// runs of eight hours and 36 satellites are within it.
+pub const LINES: usize = 8 * COLUMNS * 36;
+/// Sets of a satellite that are kept: the last ones.
+pub const SETS: usize = 128;
+/// Events of a run that are kept: the first ones.
+pub const EVENTS: usize = 128;
+/// Changes of data under waiting tags that are kept: the first ones of a run.
+pub const CHANGES: usize = 256;
+
+/// What is asked of the core after a record.
+pub trait Reads {
+    /// A satellite's authentic set.
+    fn set(&self, prn: u8) -> Option<AuthenticSet>;
+    /// The message that waits for the signature chip.
+    fn message(&self) -> Option<WaitingMessage>;
 }
 
-impl Tag {
-    /// Whether it waits still.
-    pub fn waits(&self) -> bool {
-        self.record.outcome == Outcome::Waits && !self.given_up
+impl Reads for Core {
+    fn set(&self, prn: u8) -> Option<AuthenticSet> {
+        self.read_set(prn).ok()
+    }
+
+    fn message(&self) -> Option<WaitingMessage> {
+        self.read_message().ok()
     }
 }
 
 /// A tag record with its place in the recording.
-#[derive(Clone, Copy, Debug, PartialEq, Eq)]
+#[derive(Clone, Debug, PartialEq, Eq)]
 pub struct Judged {
     /// Place of the sub-frame that gave it, from 1.
     pub place: u64,
@@ -37,8 +61,8 @@ pub struct Judged {
     pub at: Gst,
     /// The record.
     pub record: TagRecord,
-    /// The root in force, by its place in [`Vouched::roots`].
-    pub root: Option<usize>,
+    /// The root in force.
+    pub root: Option<Arc<Root>>,
 }
 
 /// A set that was marked, as reads gave it, with the first and the last tag that marked it.
@@ -58,43 +82,111 @@ pub struct Marked {
     pub until: Option<Gst>,
 }
 
-/// Which part of a record was refused.
-#[derive(Clone, Copy, Debug, PartialEq, Eq, PartialOrd, Ord)]
-pub enum Part {
-    /// A sub-frame, both halves.
-    Subframe,
-    /// A sub-frame's MACK half.
-    Section,
-    /// A sub-frame's HKROOT half.
-    Message,
-    /// A verdict.
-    Verdict,
-    /// A word.
-    Word,
-    /// A start.
-    Start,
-    /// A record of a kind that the replay program has not.
-    Kind,
+/// The sets of a satellite that reads gave, one after another.
+#[derive(Clone, Debug, Default)]
+pub struct Sets {
+    /// The last ones.
+    pub kept: VecDeque<Marked>,
+    /// How many were before them.
+    pub left_out: u64,
 }
 
-/// A refusal.
+/// A satellite's mark at some time: which set a read gave, and the time of its tag.
 #[derive(Clone, Copy, Debug, PartialEq, Eq)]
-pub struct Refused {
-    /// The record's place, from 1.
-    pub place: u64,
-    /// The record's own time; that of the last sub-frame where it has none.
-    pub at: Option<Gst>,
-    /// The satellite, where the record names one.
-    pub prn: Option<u8>,
-    /// What was refused.
-    pub part: Part,
-    /// Why.
-    pub refusal: Refusal,
-    /// Whether a chain was in force.
-    pub chain: bool,
+pub struct Mark {
+    /// The number of the set, counted for its satellite.
+    pub set: u64,
+    /// Its IODnav.
+    pub iodnav: u16,
+    /// When its tag came.
+    pub tag: Gst,
 }
 
-/// Words of a satellite that came with other authenticated bits than those held.
+/// Tags that came to the same.
+#[derive(Clone, Debug, Default, PartialEq, Eq)]
+pub struct Tally {
+    /// How many.
+    pub count: u64,
+    /// When the first and the last of them came.
+    pub span: Option<(Gst, Gst)>,
+    /// The satellites that they name.
+    pub prns: BTreeSet<u8>,
+    /// Those that sent them.
+    pub senders: BTreeSet<u8>,
+    /// IODnav of the data that they were compared with.
+    pub issues: BTreeSet<u16>,
+}
+
+impl Tally {
+    fn add(&mut self, tag: &TagRecord) {
+        self.count += 1;
+        let (first, last) = self.span.unwrap_or((tag.time, tag.time));
+        self.span = Some((first.min(tag.time), last.max(tag.time)));
+        self.prns.insert(tag.prn);
+        self.senders.insert(tag.sender);
+        self.issues.insert(tag.iodnav);
+    }
+
+    fn join(&mut self, other: &Tally) {
+        self.count += other.count;
+        self.issues.extend(&other.issues);
+        let spans = || self.span.iter().chain(&other.span);
+        let first = spans().map(|span| span.0).min();
+        let last = spans().map(|span| span.1).max();
+        self.span = first.zip(last);
+        self.prns.extend(&other.prns);
+        self.senders.extend(&other.senders);
+    }
+}
+
+/// The wrong tags of a satellite.
+#[derive(Clone, Debug, Default, PartialEq, Eq)]
+pub struct WrongTags {
+    /// All of them.
+    pub tags: Tally,
+    /// What was marked when the first of them came.
+    pub before: Option<Mark>,
+    /// What was marked when the last of them came.
+    pub meanwhile: Option<Mark>,
+}
+
+impl WrongTags {
+    fn add(&mut self, tag: &TagRecord, mark: Option<Mark>) {
+        if self.tags.span.is_none_or(|(first, _)| tag.time < first) {
+            self.before = mark;
+        }
+        if self.tags.span.is_none_or(|(_, last)| tag.time > last) {
+            self.meanwhile = mark;
+        }
+        self.tags.add(tag);
+    }
+}
+
+/// What became of tags that waited.
+#[derive(Clone, Debug, Default, PartialEq, Eq)]
+pub struct Became {
+    /// Those that matched.
+    pub authentic: Tally,
+    /// Those that did not.
+    pub wrong: Tally,
+    /// Those that wait still.
+    pub waits: u64,
+    /// Those given up with their chain, or by a later root.
+    pub given_up: u64,
+}
+
+impl Became {
+    /// Takes in others.
+    pub fn join(&mut self, other: &Became) {
+        self.authentic.join(&other.authentic);
+        self.wrong.join(&other.wrong);
+        self.waits += other.waits;
+        self.given_up += other.given_up;
+    }
+}
+
+/// Words of a satellite that came with other authenticated bits than those held, while tags for it
+/// waited.
 #[derive(Clone, Debug, PartialEq, Eq)]
 pub struct WordsChanged {
     /// PRN of the satellite.
@@ -105,38 +197,53 @@ pub struct WordsChanged {
     pub from: Option<u16>,
     /// IODnav after the last word of this sub-frame.
     pub to: Option<u16>,
-    /// The tags for this satellite that waited then, by their places in [`Run::tags`].
-    pub waited: Vec<usize>,
+    /// What became of the tags that waited then.
+    pub waited: Became,
 }
 
-/// The last words answered 0 of types 1 to 5 of a satellite.
-#[derive(Clone, Copy, Debug, Default)]
-struct Words([Option<u128>; 5]);
+/// Something that happened once.
+#[derive(Clone, Debug, PartialEq, Eq)]
+pub struct Event {
+    /// The record's place, from 1.
+    pub place: u64,
+    /// The last half minute noted.
+    pub at: Option<Gst>,
+    /// What it was.
+    pub what: What,
+}
 
-impl Words {
-    /// Bits of a word of this type that tags authenticate: from bit 6 to these (01, MACK).
-    fn authenticated(kind: usize) -> u128 {
-        let last = [125, 125, 127, 125, 72][kind - 1];
-        u128::MAX >> 6 & u128::MAX << (127 - last)
-    }
+/// What an event was.
+#[derive(Clone, Debug, PartialEq, Eq)]
+pub enum What {
+    /// A root was put in force.
+    Root {
+        /// The root.
+        root: Arc<Root>,
+        /// What was in force before it.
+        before: Keys,
+        /// Whether it is of the chain that was in force.
+        same_chain: bool,
+    },
+    /// Status 3 dropped the chain.
+    Withdrawn,
+    /// A verdict under another public key than those before was the first that counted.
+    PublicKey(u8),
+    /// The signature chip said no.
+    ChipSaidNo,
+    /// An emergency message stopped the core.
+    Stopped,
+}
 
-    /// The one IODnav of words 1 to 4: their bits 6 to 15.
-    fn iodnav(&self) -> Option<u16> {
-        let mut all = self.0[..4].iter().map(|word| Some((*word)? >> 112 & 0x3FF));
-        let first = all.next()??;
-        all.all(|other| other == Some(first))
-            .then_some(first as u16)
-    }
-
-    /// Holds a word of types 1 to 5. Whether one was held that other bits are authenticated of.
-    fn hold(&mut self, word: &[u8; WORD_LEN]) -> bool {
-        let word = u128::from_be_bytes(*word);
-        let kind @ 1..=5 = (word >> 122) as usize else {
-            return false;
-        };
-        let old = self.0[kind - 1].replace(word);
-        old.is_some_and(|old| (old ^ word) & Words::authenticated(kind) != 0)
-    }
+/// A tag that waits.
+#[derive(Clone, Debug)]
+struct Waiting {
+    record: TagRecord,
+    /// The stretch of its satellite's data in which it came.
+    stretch: u64,
+    /// What was marked of its satellite then.
+    mark: Option<Mark>,
+    /// Changes of data since, by their places in [`Run::changed`].
+    changes: Vec<usize>,
 }
 
 /// What came of one accepted start.
@@ -146,31 +253,43 @@ pub struct Run {
     pub place: u64,
     /// What it gave.
     pub settings: Settings,
-    /// Roots put in force.
+    /// The chain in force.
     pub vouched: Vouched,
     /// Half minutes of words answered 0 and sub-frames noted.
-    pub times: BTreeSet<Gst>,
-    /// Satellites that they came from.
-    pub heard: BTreeSet<u8>,
+    pub timeline: Timeline,
+    /// Satellites that they came from, each with the last half minute.
+    pub heard: BTreeMap<u8, Gst>,
     /// Sub-frames, and words of types 1 to 5 answered 0.
     pub counts: (u64, u64),
-    /// Every tag, in order of arrival.
-    pub tags: Vec<Tag>,
-    /// Every tag record, in the order of the answers.
-    pub judged: Vec<Judged>,
-    /// For each satellite the sets that reads gave, one after another.
-    pub marked: BTreeMap<u8, Vec<Marked>>,
-    /// Words that changed, in order.
+    /// Tags by the number of their last outcome.
+    tallies: BTreeMap<u8, Tally>,
+    /// Tags that were given up with their chain, or by a later root.
+    pub given_up: u64,
+    /// Wrong tags by the satellite that they name.
+    pub wrong: BTreeMap<u8, WrongTags>,
+    /// The sets of each satellite.
+    pub marked: BTreeMap<u8, Sets>,
+    /// The data of each satellite whose words came.
+    pub data: BTreeMap<u8, Data>,
+    /// Data that changed while tags waited, in order.
     pub changed: Vec<WordsChanged>,
-    /// Every refusal, in order.
-    pub refused: Vec<Refused>,
+    /// How many changes came after them.
+    pub changes_left_out: u64,
+    /// What happened, in order.
+    pub events: Vec<Event>,
+    /// How many events came after them.
+    pub events_left_out: u64,
+    /// What was refused.
+    pub refused: Refusals,
     /// Place and time of the sub-frame that stopped the core.
     pub stopped: Option<(u64, Gst)>,
+    /// What the boom found, by each of its limits.
+    pub watch: [Watch; boom::LIMITS.len()],
     /// The last record's place.
     pub last_place: u64,
-    words: BTreeMap<u8, Words>,
-    /// Tags that wait, by their places in `tags`.
-    waiting: Vec<usize>,
+    /// The message that waits for the signature chip, and since when.
+    message: Option<(Box<WaitingMessage>, Gst)>,
+    waiting: Vec<Waiting>,
     last_subframe: Option<Gst>,
 }
 
@@ -180,20 +299,32 @@ impl Run {
             place,
             settings,
             vouched: Vouched::default(),
-            times: BTreeSet::new(),
-            heard: BTreeSet::new(),
+            timeline: Timeline::default(),
+            heard: BTreeMap::new(),
             counts: (0, 0),
-            tags: Vec::new(),
-            judged: Vec::new(),
+            tallies: BTreeMap::new(),
+            given_up: 0,
+            wrong: BTreeMap::new(),
             marked: BTreeMap::new(),
+            data: BTreeMap::new(),
             changed: Vec::new(),
-            refused: Vec::new(),
+            changes_left_out: 0,
+            events: Vec::new(),
+            events_left_out: 0,
+            refused: Refusals::default(),
             stopped: None,
+            watch: [Watch::default(); boom::LIMITS.len()],
             last_place: place,
-            words: BTreeMap::new(),
+            message: None,
             waiting: Vec::new(),
             last_subframe: None,
         }
+    }
+
+    /// Lines that it comes to, by the measure of [`LINES`].
+    fn lines(&self) -> usize {
+        let sets: usize = self.marked.values().map(|sets| sets.kept.len()).sum();
+        self.timeline.len() * 36 + sets * 10
     }
 
     /// How many tags wait.
@@ -201,154 +332,306 @@ impl Run {
         self.waiting.len()
     }
 
-    /// Whether a word of types 1 to 5 of this satellite was answered 0.
-    pub fn has_words(&self, prn: u8) -> bool {
-        let words = self.words.get(&prn);
-        words.is_some_and(|words| words.0.iter().any(Option::is_some))
+    /// The tags that came to this; those that wait are not told apart from those given up.
+    pub fn tally(&self, outcome: Outcome) -> Tally {
+        let tally = self.tallies.get(&outcome.number());
+        tally.cloned().unwrap_or_default()
+    }
+
+    /// How many tags came.
+    pub fn tags(&self) -> u64 {
+        self.tallies.values().map(|tally| tally.count).sum()
+    }
+
+    /// Since when a message has waited for the signature chip.
+    pub fn message_since(&self) -> Option<Gst> {
+        self.message.as_ref().map(|message| message.1)
     }
 
     /// The set that a read of this satellite gives.
     pub fn marked_last(&self, prn: u8) -> Option<&Marked> {
-        self.marked.get(&prn)?.last()
+        self.marked.get(&prn)?.kept.back()
     }
 
-    fn refuse(&mut self, part: Part, refusal: Refusal, prn: Option<u8>, at: Option<Gst>) {
-        self.refused.push(Refused {
+    /// The satellite's mark now.
+    pub fn mark(&self, prn: u8) -> Option<Mark> {
+        let sets = self.marked.get(&prn)?;
+        let last = sets.kept.back()?;
+        Some(Mark {
+            set: sets.left_out + sets.kept.len() as u64,
+            iodnav: last.iodnav,
+            tag: last.last.record.time,
+        })
+    }
+
+    fn event(&mut self, what: What) {
+        if self.events.len() == EVENTS {
+            self.events_left_out += 1;
+            return;
+        }
+        self.events.push(Event {
             place: self.last_place,
-            at: at.or(self.last_subframe),
-            prn,
-            part,
-            refusal,
-            chain: self.vouched.in_force.is_some(),
+            at: self.last_subframe,
+            what,
         });
     }
 
+    fn refuse(&mut self, part: Part, refusal: Refusal, prn: Option<u8>, at: Option<Gst>) {
+        let at = at.or(self.last_subframe);
+        let keys = self.vouched.keys;
+        self.refused
+            .add(part, refusal, keys, prn, at, self.last_place);
+    }
+
+    fn hear(&mut self, prn: u8, at: Gst) {
+        self.timeline.at(at).cell(prn).hear(at);
+        let last = self.heard.entry(prn).or_insert(at);
+        *last = at.max(*last);
+    }
+
     fn word(&mut self, prn: u8, at: Gst, word: &[u8; WORD_LEN]) {
-        self.times.insert(at);
-        self.heard.insert(prn);
-        self.counts.1 += u64::from((1..=5).contains(&(word[0] >> 2)));
-        let words = self.words.entry(prn).or_default();
-        let from = words.iodnav();
-        let other = words.hold(word);
-        let to = words.iodnav();
+        self.hear(prn, at);
+        if !(1..=5).contains(&(word[0] >> 2)) {
+            return;
+        }
+        self.counts.1 += 1;
+        let change = self.data.entry(prn).or_default().word(at, word);
         let now = self
             .changed
             .iter_mut()
             .rev()
             .take_while(|change| change.at == at)
             .find(|change| change.prn == prn);
-        match now {
-            Some(change) => change.to = to,
-            None if other => {
-                let of = |&tag: &usize| self.tags[tag].record.prn == prn;
-                self.changed.push(WordsChanged {
-                    prn,
-                    at,
-                    from,
-                    to,
-                    waited: self.waiting.iter().copied().filter(of).collect(),
-                });
-            }
-            None => {}
+        let iodnav = |data: &Data| data.stretches().last().and_then(|now| now.iodnav);
+        match (now, change) {
+            (Some(now), _) => now.to = self.data.get(&prn).and_then(iodnav),
+            (None, Some(change)) => self.change(prn, at, change),
+            (None, None) => {}
         }
     }
 
-    fn subframe(&mut self, prn: u8, at: Gst, answer: &Answer, core: &Core) {
+    /// A change of data: told where tags for this satellite wait.
+    fn change(&mut self, prn: u8, at: Gst, change: crate::data::Change) {
+        let of = |tag: &&mut Waiting| tag.record.prn == prn;
+        let mut waiting = self.waiting.iter_mut().filter(of).peekable();
+        if waiting.peek().is_none() {
+            return;
+        }
+        if let Some(column) = self.timeline.known(at) {
+            column.cell(prn).changed = true;
+        }
+        if self.changed.len() == CHANGES {
+            self.changes_left_out += 1;
+            return;
+        }
+        let mut waited = Became::default();
+        for tag in waiting {
+            tag.changes.push(self.changed.len());
+            waited.waits += 1;
+        }
+        self.changed.push(WordsChanged {
+            prn,
+            at,
+            from: change.from,
+            to: change.to,
+            waited,
+        });
+    }
+
+    fn subframe(&mut self, prn: u8, at: Gst, answer: &Answer, reads: &dyn Reads) -> Vec<Judged> {
         use Refusal::{OutOfOrder, OutOfRange, Stopped, WrongLength};
         if let (Err(both), Err(_)) = (answer.first, answer.second) {
             if [WrongLength, OutOfRange, Stopped, OutOfOrder].contains(&both) {
                 // Its time is not noted, and may be none.
-                return self.refuse(Part::Subframe, both, Some(prn), None);
+                self.refuse(Part::Subframe, both, Some(prn), None);
+                return Vec::new();
             }
         }
-        self.times.insert(at);
-        self.heard.insert(prn);
+        self.hear(prn, at);
         self.last_subframe = Some(at);
         self.counts.0 += 1;
-        if answer.second == Err(Stopped) {
+        if answer.first == Ok(()) && answer.second == Err(Stopped) {
             self.stopped = Some((self.last_place, at));
-        }
-        if answer.first == Err(Refusal::AllZero) {
-            self.refuse(Part::Subframe, Refusal::AllZero, Some(prn), Some(at));
+            self.event(What::Stopped);
         } else {
-            let halves = [
-                (Part::Message, answer.first),
-                (Part::Section, answer.second),
-            ];
-            for (part, half) in halves {
-                if let Err(refusal) = half {
-                    self.refuse(part, refusal, Some(prn), Some(at));
-                }
-            }
+            self.halves(prn, at, answer);
         }
         for record in &answer.tags {
-            self.tag(*record, at);
+            self.tag(record);
         }
-        self.marks(&answer.tags, at, core);
+        self.marks(&answer.tags, at, reads);
+        self.await_message(reads);
+        self.count_marked(at);
+        answer
+            .tags
+            .iter()
+            .map(|tag| self.judged(*tag, at))
+            .collect()
     }
 
-    /// A tag record: of a tag that waited, or of a new one.
-    fn tag(&mut self, record: TagRecord, at: Gst) {
-        self.judged.push(Judged {
+    /// The refused halves of a sub-frame that was noted.
+    fn halves(&mut self, prn: u8, at: Gst, answer: &Answer) {
+        if answer.second.is_err() {
+            self.timeline.at(at).cell(prn).section_refused = true;
+        }
+        if answer.first == Err(Refusal::AllZero) {
+            return self.refuse(Part::Subframe, Refusal::AllZero, Some(prn), Some(at));
+        }
+        let halves = [
+            (Part::Message, answer.first),
+            (Part::Section, answer.second),
+        ];
+        for (part, half) in halves {
+            if let Err(refusal) = half {
+                self.refuse(part, refusal, Some(prn), Some(at));
+            }
+        }
+    }
+
+    /// How many satellites are marked lately, now.
+    fn count_marked(&mut self, at: Gst) {
+        let tags = self.marked.values().filter_map(|sets| sets.kept.back());
+        let tags = tags.map(|set| set.last.record.time);
+        let counts = boom::counts(self.last_subframe, tags);
+        self.timeline.at(at).marked_lately.note(at, counts);
+        for (watch, count) in self.watch.iter_mut().zip(counts) {
+            watch.note(at, count);
+        }
+    }
+
+    /// Notes since when the message that waits has waited.
+    fn await_message(&mut self, reads: &dyn Reads) {
+        let now = reads.message().zip(self.last_subframe);
+        self.message = now.map(|(message, at)| match self.message.take() {
+            Some((before, since)) if *before == message => (before, since),
+            _ => (Box::new(message), at),
+        });
+    }
+
+    fn judged(&self, record: TagRecord, at: Gst) -> Judged {
+        Judged {
             place: self.last_place,
             at,
             record,
-            root: self.vouched.in_force,
-        });
+            root: self.vouched.root().cloned(),
+        }
+    }
+
+    /// A tag record: of a tag that waited, or of a new one.
+    fn tag(&mut self, record: &TagRecord) {
         // A tag is known by its sender, arrival, block and position.
         let name = |tag: &TagRecord| (tag.sender, tag.time, tag.block, tag.position);
-        let waited = |&tag: &usize| name(&self.tags[tag].record) == name(&record);
-        if let Some(place) = self.waiting.iter().position(waited) {
-            let tag = self.waiting.remove(place);
-            self.tags[tag].record = record;
-            return;
+        let waited = |tag: &Waiting| name(&tag.record) == name(record);
+        let said = Said::of(record.outcome);
+        let tag = match self.waiting.iter().position(waited) {
+            Some(place) => {
+                self.tell(record, |cell| cell.says_instead(said));
+                if let Some(waits) = self.tallies.get_mut(&Outcome::Waits.number()) {
+                    waits.count = waits.count.saturating_sub(1);
+                }
+                self.waiting.remove(place)
+            }
+            None => {
+                self.tell(record, |cell| cell.says(said));
+                Waiting {
+                    record: *record,
+                    stretch: self.data.get(&record.prn).map_or(0, Data::now),
+                    mark: self.mark(record.prn),
+                    changes: Vec::new(),
+                }
+            }
+        };
+        let tally = self.tallies.entry(record.outcome.number());
+        tally.or_default().add(record);
+        match record.outcome {
+            Outcome::Waits => self.waiting.push(tag),
+            Outcome::Authentic | Outcome::Wrong => self.judge(&tag, record),
+            _ => {}
         }
-        let slow = record.outcome == Outcome::Waits;
-        if slow {
-            self.waiting.push(self.tags.len());
+    }
+
+    /// A change to the cell of a tag that came; tags without a satellite have none.
+    fn tell(&mut self, tag: &TagRecord, change: impl FnOnce(&mut crate::timeline::Cell)) {
+        let column = self.timeline.known(tag.time);
+        if let Some(column) = column.filter(|_| (1..=36).contains(&tag.prn)) {
+            change(column.cell(tag.prn));
         }
-        self.tags.push(Tag {
-            record,
-            slow,
-            given_up: false,
-        });
+    }
+
+    /// A tag is authentic or wrong now.
+    fn judge(&mut self, tag: &Waiting, record: &TagRecord) {
+        let matched = record.outcome == Outcome::Authentic;
+        if let Some(data) = self.data.get_mut(&record.prn) {
+            data.judge(tag.stretch, matched);
+        }
+        if !matched {
+            let wrong = self.wrong.entry(record.prn).or_default();
+            wrong.add(record, tag.mark);
+        }
+        for &change in &tag.changes {
+            let waited = &mut self.changed[change].waited;
+            waited.waits = waited.waits.saturating_sub(1);
+            let tally = match matched {
+                true => &mut waited.authentic,
+                false => &mut waited.wrong,
+            };
+            tally.add(record);
+        }
     }
 
     /// Reads the sets of the satellites whose tags matched. The tag that a read rests on is the
     /// last that was judged of those that came at the time read (01, MACK).
-    fn marks(&mut self, tags: &[TagRecord], at: Gst, core: &Core) {
+    fn marks(&mut self, tags: &[TagRecord], at: Gst, reads: &dyn Reads) {
         let matched = || tags.iter().filter(|t| t.outcome == Outcome::Authentic);
         let prns: BTreeSet<u8> = matched().map(|tag| tag.prn).collect();
         for prn in prns {
-            let Ok(set) = core.read_set(prn) else {
+            let Some(set) = reads.set(prn) else {
                 continue;
             };
             let tag = matched().rfind(|tag| tag.prn == prn && tag.time == set.time);
-            let Some(&record) = tag else {
-                continue; // An older tag, which leaves the set of a later one.
-            };
-            let judged = Judged {
-                place: self.last_place,
-                at,
-                record,
-                root: self.vouched.in_force,
-            };
-            let sets = self.marked.entry(prn).or_default();
-            match sets.last_mut() {
-                Some(last) if last.bytes == set.bytes => last.last = judged,
-                last => {
-                    if let Some(last) = last {
-                        last.until = Some(at);
-                    }
-                    sets.push(Marked {
-                        prn,
-                        bytes: set.bytes,
-                        iodnav: set.iodnav,
-                        first: judged,
-                        last: judged,
-                        until: None,
-                    });
+            // An older tag leaves the set of a later one.
+            if let Some(&record) = tag {
+                self.mark_set(set, self.judged(record, at));
+            }
+        }
+    }
+
+    fn mark_set(&mut self, set: AuthenticSet, judged: Judged) {
+        let (prn, at) = (judged.record.prn, judged.at);
+        let sets = self.marked.entry(prn).or_default();
+        match sets.kept.back_mut() {
+            Some(last) if last.bytes == set.bytes => return last.last = judged,
+            Some(last) => last.until = Some(at),
+            None => {}
+        }
+        if sets.kept.len() == SETS {
+            sets.kept.pop_front();
+            sets.left_out += 1;
+        }
+        sets.kept.push_back(Marked {
+            prn,
+            bytes: set.bytes,
+            iodnav: set.iodnav,
+            first: judged.clone(),
+            last: judged,
+            until: None,
+        });
+        self.timeline.at(at).cell(prn).marked = Some(set.iodnav);
+    }
+
+    fn verdict(
+        &mut self,
+        key_id: u8,
+        message: &[u8; osnma::MESSAGE_LEN],
+        first: Result<(), Refusal>,
+    ) {
+        match first {
+            Ok(()) => self.vouch(key_id, message),
+            Err(refusal) => {
+                if refusal == Refusal::VerdictBad {
+                    self.event(What::ChipSaidNo);
                 }
+                self.refuse(Part::Verdict, refusal, None, None);
             }
         }
     }
@@ -360,15 +643,60 @@ impl Run {
             key_id,
             at: self.last_subframe,
         };
+        let before = self.vouched.keys;
+        let key_before = self
+            .vouched
+            .last
+            .map_or(self.settings.key_id, |last| last.key_id);
         let change = self.vouched.good_verdict(message, vouch);
-        if change != Change::Again {
-            let (vouched, tags) = (&self.vouched, &mut self.tags);
-            self.waiting.retain(|&tag| {
-                let stays = vouched.stays(change, &tags[tag].record);
-                tags[tag].given_up = !stays;
-                stays
-            });
+        if key_before != self.vouched.last.map_or(key_before, |last| last.key_id) {
+            self.event(What::PublicKey(key_id));
         }
+        match (change, self.vouched.root().cloned()) {
+            (Change::Root { same_chain }, Some(root)) => self.event(What::Root {
+                root,
+                before,
+                same_chain,
+            }),
+            (Change::Dropped, _) => self.event(What::Withdrawn),
+            _ => {}
+        }
+        if change != Change::Again {
+            let vouched = &self.vouched;
+            let (stay, go) = std::mem::take(&mut self.waiting)
+                .into_iter()
+                .partition(|tag| vouched.stays(change, &tag.record));
+            self.waiting = stay;
+            self.give_up(go);
+        }
+    }
+
+    fn give_up(&mut self, tags: Vec<Waiting>) {
+        self.given_up += tags.len() as u64;
+        for change in tags.iter().flat_map(|tag| &tag.changes) {
+            let waited = &mut self.changed[*change].waited;
+            waited.waits = waited.waits.saturating_sub(1);
+            waited.given_up += 1;
+        }
+    }
+}
+
+/// Runs that are not kept.
+#[derive(Clone, Copy, Debug, Default, PartialEq, Eq)]
+pub struct LeftOut {
+    /// How many.
+    pub runs: u64,
+    /// Wrong tags in them.
+    pub wrong_tags: u64,
+    /// How many of them an emergency message stopped.
+    pub stopped: u64,
+}
+
+impl LeftOut {
+    fn add(&mut self, run: &Run) {
+        self.runs += 1;
+        self.wrong_tags += run.tally(Outcome::Wrong).count;
+        self.stopped += u64::from(run.stopped.is_some());
     }
 }
 
@@ -379,17 +707,26 @@ pub struct History {
     pub records: u64,
     /// Records before the first accepted start.
     pub before_start: u64,
-    /// One for each accepted start.
+    /// The last runs, one for each accepted start.
     pub runs: Vec<Run>,
+    /// The runs before them.
+    pub left_out: LeftOut,
+    /// The tag records of the last record.
+    pub judged: Vec<Judged>,
+    /// The record that the recording ends in, where it is not whole.
+    pub cut: Option<Cut>,
+    /// SHA-256 of the recording.
+    pub sha256: [u8; DIGEST_LEN],
 }
 
 impl History {
-    /// Takes in the next record with its answer; `core` is as the record left it.
-    pub fn note(&mut self, record: &Record, answer: &Answer, core: &Core) {
+    /// Takes in the next record with its answer; `reads` are of the core as the record left it.
+    pub fn note(&mut self, record: &Record, answer: &Answer, reads: &dyn Reads) {
         self.records += 1;
+        self.judged.clear();
         let place = self.records;
         if let (Record::Start(settings), Ok(())) = (record, answer.first) {
-            return self.runs.push(Run::new(place, (**settings).clone()));
+            return self.begin(Run::new(place, (**settings).clone()));
         }
         let Some(run) = self.runs.last_mut() else {
             self.before_start += 1;
@@ -397,23 +734,33 @@ impl History {
         };
         run.last_place = place;
         match (record, answer.first) {
-            (Record::Subframe { prn, time, .. }, _) => run.subframe(*prn, *time, answer, core),
+            (Record::Subframe { prn, time, .. }, _) => {
+                self.judged = run.subframe(*prn, *time, answer, reads);
+            }
             (Record::Word { prn, time, word }, Ok(())) => run.word(*prn, *time, word),
             (
                 Record::Verdict {
                     key_id, message, ..
                 },
-                Ok(()),
-            ) => run.vouch(*key_id, message),
+                first,
+            ) => {
+                run.verdict(*key_id, message, first);
+                run.await_message(reads);
+            }
             (Record::Word { prn, .. }, Err(refusal)) => {
                 run.refuse(Part::Word, refusal, Some(*prn), None);
-            }
-            (Record::Verdict { .. }, Err(refusal)) => {
-                run.refuse(Part::Verdict, refusal, None, None);
             }
             (Record::Start(_), Err(refusal)) => run.refuse(Part::Start, refusal, None, None),
             (Record::Other(_), Err(refusal)) => run.refuse(Part::Kind, refusal, None, None),
             (Record::Start(_) | Record::Other(_), Ok(())) => {}
         }
+    }
+
+    fn begin(&mut self, run: Run) {
+        let lines = |runs: &[Run]| runs.iter().map(Run::lines).sum::<usize>();
+        while self.runs.len() == RUNS || lines(&self.runs) > LINES {
+            self.left_out.add(&self.runs.remove(0));
+        }
+        self.runs.push(run);
     }
 }

@@ -1,13 +1,18 @@
 //! The sheet as one page of HTML: no network, no script, prints on A4.
 
 use crate::phone;
-use crate::sheet::{MarkedSet, RunSheet, Said, Sheet, RESTS_ON};
+use crate::sheet::{EventLine, MarkedSet, RunSheet, Sheet, RESTS_ON};
 use crate::strip_svg::{sign, strips, SIGNS};
 use crate::time::Clock;
-use crate::warnings::{count, Grade, Table, Warning};
+use crate::timeline::Said;
+use crate::warnings::{Grade, Table, Warning};
+use crate::words::count;
 use std::fmt::Write;
 
 const STYLE: &str = include_str!("sheet.css");
+
+/// Lines of events on the front; where there are more, all stand on the back.
+const FRONT_EVENTS: usize = 8;
 
 /// Text between tags or in an attribute.
 pub fn escaped(text: &str) -> String {
@@ -31,63 +36,166 @@ pub fn page(sheet: &Sheet) -> String {
     let mut out = format!(
         "<!DOCTYPE html>\n<html lang=\"en\">\n<head>\n<meta charset=\"utf-8\">\n\
          <meta name=\"viewport\" content=\"width=device-width, initial-scale=1\">\n\
-         <title>Job sheet: {name}</title>\n<style>\n{STYLE}</style>\n</head>\n<body>\n{SIGNS}"
+         <title>Job sheet: {name}</title>\n<style>\n{}{STYLE}</style>\n</head>\n<body>\n{SIGNS}",
+        paper_foot(sheet)
     );
-    let parts = sheet.runs.len();
     for (n, run) in sheet.runs.iter().enumerate() {
-        let part = (parts > 1).then(|| format!("Part {} of {parts}", n + 1));
         out.push_str("<main>\n");
-        title(&mut out, sheet, run, part.as_deref());
-        if n == 0 {
-            for remark in &sheet.remarks {
-                let _ = writeln!(out, "<p class=\"remark\">{}</p>", escaped(remark));
-            }
-        }
-        warnings(&mut out, run);
-        head(&mut out, run);
-        if !run.times.is_empty() {
-            out.push_str("<section class=\"when\">\n<h2>What was authentic when</h2>\n");
-            strips(&mut out, run);
-            legend(&mut out);
+        front(&mut out, sheet, run, n == 0);
+        if let Some(detail) = &run.detail {
+            let _ = writeln!(
+                out,
+                "<section class=\"detail\">\n<h2>What was authentic when <span>in cells of one {}</span></h2>",
+                detail.cell_told()
+            );
+            strips(&mut out, run, detail);
             out.push_str("</section>\n");
         }
+        back(&mut out, run);
         marked(&mut out, &name, run);
-        out.push_str("</main>\n");
+        let _ = writeln!(out, "<footer>{}</footer>\n</main>", escaped(&foot(sheet)));
     }
     out.push_str("</body>\n</html>\n");
     out
 }
 
-fn title(out: &mut String, sheet: &Sheet, run: &RunSheet, part: Option<&str>) {
-    let span = match (run.head.first(), run.head.get(1)) {
-        (Some((_, first)), Some((_, last))) => format!("{first} to {last}"),
-        _ => String::new(),
-    };
-    let part = part.map_or(String::new(), |part| format!(" · {part}"));
+/// What stands at the foot: what made the sheet, and of which recording.
+fn foot(sheet: &Sheet) -> String {
+    let cut = sheet
+        .cut
+        .as_ref()
+        .map_or(String::new(), |(cut, _)| format!("{cut} \u{b7} "));
+    format!(
+        "{cut}{} \u{b7} recording's SHA-256 {}",
+        Sheet::made_by(),
+        sheet.sha256
+    )
+}
+
+/// The foot of every page on paper. Nothing in it needs escaping in a style sheet.
+fn paper_foot(sheet: &Sheet) -> String {
+    let weight = if sheet.cut.is_some() { 700 } else { 400 };
+    let font = "\"Liberation Sans\", Arial, sans-serif; color: #333;";
+    format!(
+        "@page {{ size: A4; margin: 11mm 10mm 12mm; \
+         @bottom-left {{ content: \"{}\"; font: {weight} 6.6pt {font} white-space: nowrap; }} \
+         @bottom-right {{ content: counter(page) \" of \" counter(pages); font: 7.5pt {font} }} }}\n",
+        foot(sheet)
+    )
+}
+
+fn front(out: &mut String, sheet: &Sheet, run: &RunSheet, first: bool) {
+    if let Some((cut, rest)) = &sheet.cut {
+        let _ = writeln!(
+            out,
+            "<p class=\"cut\"><b>{}.</b> {}</p>",
+            escaped(cut),
+            escaped(rest)
+        );
+    }
+    title(out, sheet, run);
+    if first && !sheet.remarks.is_empty() {
+        out.push_str("<ul class=\"remarks\">\n");
+        for remark in &sheet.remarks {
+            let _ = writeln!(out, "<li>{}</li>", escaped(remark));
+        }
+        out.push_str("</ul>\n");
+    }
+    finding(out, run);
+    if !run.overview.columns.is_empty() {
+        out.push_str("<section class=\"when\">\n<h2>What was authentic when</h2>\n");
+        strips(out, run, &run.overview);
+        legend(out, run);
+        out.push_str("</section>\n");
+    }
+    events(out, &run.events);
+    warnings(out, run);
+}
+
+fn title(out: &mut String, sheet: &Sheet, run: &RunSheet) {
+    let part = run
+        .part
+        .map_or(String::new(), |(n, of)| format!(" \u{b7} Part {n} of {of}"));
     let check = run.check_of_all.as_ref().map_or(String::new(), |check| {
         format!("<span class=\"check-all\">check of all <b>{check}</b></span>")
     });
+    let marked = match run.marked_at_end() {
+        0 => "none marked".into(),
+        n if n == run.heard => "all marked at the end".into(),
+        n => format!("{n} marked at the end"),
+    };
     let _ = writeln!(
         out,
-        "<header>\n<div><h1>Authentic satellite data</h1>\n\
-         <p class=\"file\">Job sheet of <b>{}</b>, {}{part}</p>\n\
-         <p class=\"span\">{} GST</p></div>\n\
-         <div class=\"score\"><b>{} of {}</b><span>satellites marked at the end</span>{check}</div>\n</header>",
+        "<header>\n<div><h1>Job sheet</h1>\n\
+         <p class=\"file\"><b>{}</b>, {}{part}</p>\n\
+         <p class=\"span\">{}<span>Times are {}.</span></p></div>\n\
+         <div class=\"score\"><b>{} heard</b><span>{marked}</span>{check}</div>\n</header>",
         escaped(&sheet.name),
-        count(sheet.records as usize, "record"),
-        escaped(&span),
-        run.marked_at_end(),
-        run.strips.len(),
+        count(sheet.records, "record"),
+        escaped(&match run.span.as_str() {
+            "" => String::new(),
+            span => format!("{span}. "),
+        }),
+        escaped(&run.clock.told()),
+        count(run.heard as u64, "satellite"),
+    );
+}
+
+/// The first words: what the run comes to, in a box.
+fn finding(out: &mut String, run: &RunSheet) {
+    let finding = &run.finding;
+    let class = if finding.good { "good" } else { "bad" };
+    let _ = writeln!(
+        out,
+        "<section class=\"finding {class}\">\n<p class=\"first\">{}</p>\n<p>{}</p>\n\
+         <p><b>Do:</b> {}</p>\n</section>",
+        escaped(&finding.title),
+        escaped(&finding.text.join(" ")),
+        escaped(&finding.to_do)
+    );
+}
+
+fn events(out: &mut String, events: &[EventLine]) {
+    if events.is_empty() {
+        return;
+    }
+    out.push_str("<section class=\"events\">\n<h2>Events</h2>\n<dl>\n");
+    let many = events.len() > FRONT_EVENTS;
+    let front = events
+        .iter()
+        .filter(|event| !many || event.grade == Grade::Warning);
+    for event in front.take(FRONT_EVENTS) {
+        event_line(out, event);
+    }
+    if many {
+        let _ = writeln!(
+            out,
+            "<dt>and others</dt><dd>{} in all: see the back.</dd>",
+            events.len()
+        );
+    }
+    out.push_str("</dl>\n</section>\n");
+}
+
+fn event_line(out: &mut String, event: &EventLine) {
+    let class = match event.grade {
+        Grade::Warning => " class=\"alert\"",
+        Grade::Note => "",
+    };
+    let _ = writeln!(
+        out,
+        "<dt{class}>{}</dt><dd{class}>{}</dd>",
+        escaped(&event.when),
+        escaped(&event.what)
     );
 }
 
 fn warnings(out: &mut String, run: &RunSheet) {
     out.push_str("<section class=\"warnings\">\n<h2>Warnings</h2>\n");
-    let some = |grade| run.warnings.iter().any(|warning| warning.grade == grade);
-    if !some(Grade::Warning) {
-        out.push_str("<p class=\"fine\">Nothing to warn of.</p>\n");
+    if let Some(none) = run.no_warning() {
+        let _ = writeln!(out, "<p class=\"fine\">{none}</p>");
     }
-    for warning in &run.warnings {
+    for warning in &run.front {
         one_warning(out, warning);
     }
     out.push_str("</section>\n");
@@ -126,13 +234,24 @@ fn rows(out: &mut String, table: &Table) {
     out.push_str("</tbody></table>\n");
 }
 
-fn head(out: &mut String, run: &RunSheet) {
-    out.push_str("<section class=\"head\">\n<h2>Recording</h2>\n<dl>\n");
-    // The title has the times.
-    for (what, value) in run.head.iter().skip(2) {
+/// For the engineer: chain and root, refusals with their numbers, data that changed.
+fn back(out: &mut String, run: &RunSheet) {
+    out.push_str("<section class=\"back\">\n<h2>For the engineer</h2>\n<dl>\n");
+    for (what, value) in &run.facts {
         let _ = writeln!(out, "<dt>{}</dt><dd>{}</dd>", escaped(what), escaped(value));
     }
-    out.push_str("</dl>\n</section>\n");
+    out.push_str("</dl>\n");
+    for warning in &run.back {
+        one_warning(out, warning);
+    }
+    if run.events.len() > FRONT_EVENTS {
+        out.push_str("<h2>All events</h2>\n<dl>\n");
+        for event in &run.events {
+            event_line(out, event);
+        }
+        out.push_str("</dl>\n");
+    }
+    out.push_str("</section>\n");
 }
 
 /// A sign of the legend with its words.
@@ -144,23 +263,28 @@ fn key(out: &mut String, name: &str, what: &str, more: &str) {
     );
 }
 
-fn legend(out: &mut String) {
-    out.push_str(
-        "<p class=\"how\">A cell is the half minute in which tags for that satellite came; a slow \
-         tag stands where it came, with what it turned out to be. The line over the cells begins \
-         when the core marked that data, with its IODnav.</p>\n<ul class=\"legend\">\n",
+fn legend(out: &mut String, run: &RunSheet) {
+    let strips = &run.overview;
+    let several = match strips.step {
+        1 => "",
+        _ => ", the worst that came in it",
+    };
+    let _ = writeln!(
+        out,
+        "<p class=\"how\">A tag is a short code that the system sends with its data: one that matches \
+         shows that the data is the system\u{2019}s own. A cell is the {} in which tags for that satellite \
+         came{several}; a slow tag, judged five minutes later, stands where it came. The line over the \
+         cells begins when data was marked, with the issue number of that data. The line under them \
+         shows when the satellite was heard itself.</p>\n<ul class=\"legend\">",
+        strips.cell_told()
     );
     for said in Said::ALL {
         let (what, more) = said.words();
         key(out, sign(said), what, more);
     }
-    key(
-        out,
-        "ownrefused",
-        "own section refused",
-        "tags of others as shown",
-    );
-    key(out, "changed", "words changed", "while a slow tag waited");
+    key(out, "ownrefused", "own part refused", "tags by others");
+    key(out, "changed", "data changed", "while a slow tag waited");
+    key(out, "selfheard", "heard itself", "");
     out.push_str("</ul>\n");
 }
 
@@ -184,6 +308,13 @@ fn marked(out: &mut String, name: &str, run: &RunSheet) {
     );
     for set in &run.marked {
         one_set(out, set, run.clock);
+    }
+    if run.sets_left_out > 0 {
+        let _ = writeln!(
+            out,
+            "<p>{} of data that were marked before these are not shown.</p>",
+            count(run.sets_left_out, "issue")
+        );
     }
     out.push_str(
         "</div>\n<p class=\"handed\"><span>Job</span><span>Machine</span><span>Fitter</span>\

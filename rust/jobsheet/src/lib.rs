@@ -9,53 +9,58 @@
 #![forbid(unsafe_code)]
 #![warn(missing_docs)]
 
+pub mod boom;
 pub mod csv;
+pub mod data;
+pub mod finding;
 pub mod history;
 pub mod html;
 mod output;
 pub mod phone;
 pub mod receiver;
 pub mod recording;
+pub mod refused;
 pub mod sheet;
 mod strip_svg;
 pub mod text;
 pub mod time;
+pub mod timeline;
 pub mod vouched;
 pub mod warnings;
+mod words;
 
-pub use output::write_whole;
+pub use output::Output;
 
 use history::History;
 use receiver::Receiver;
 use recording::{is_kind, Reader, Record, Trouble};
 use std::io::Read;
 
-/// What the core answered to a whole recording. `progress` is told the records so far.
+/// What the core answered to a whole recording, or to the whole records of one that is cut short.
+/// `each` is shown what is known after every record.
 ///
 /// # Errors
-/// [`Trouble`]: the input cannot be read, is empty, is no recording, ends in a short record, or has
-/// no accepted start.
-pub fn replay(input: impl Read, mut progress: impl FnMut(u64)) -> Result<History, Trouble> {
+/// [`Trouble`]: the input cannot be read, is empty, is no recording, has no whole record, or has no
+/// accepted start.
+pub fn replay(input: impl Read, mut each: impl FnMut(&History)) -> Result<History, Trouble> {
     let mut receiver = Receiver::new();
     let mut history = History::default();
     let mut known = false;
-    for record in Reader::new(input) {
-        let record = match record {
-            // What has no record of a recording is none, however it ends.
-            Err(Trouble::ShortRecord { kind, .. }) if !known && !is_kind(kind) => {
-                return Err(Trouble::NotARecording);
-            }
-            record => record?,
-        };
+    let mut reader = Reader::new(input);
+    for record in &mut reader {
+        let record = record?;
         known |= !matches!(record, Record::Other(_));
         let answer = receiver.answer(&record);
         history.note(&record, &answer, receiver.core());
-        progress(history.records);
+        each(&history);
     }
-    match (history.records, known, history.runs.is_empty()) {
-        (0, _, _) => Err(Trouble::Empty),
-        (_, false, _) => Err(Trouble::NotARecording),
-        (_, _, true) => Err(Trouble::NoStart),
+    history.cut = reader.cut();
+    history.sha256 = reader.sha256();
+    match (history.records, history.cut) {
+        (0, None) => Err(Trouble::Empty),
+        (0, Some(cut)) if is_kind(cut.kind) => Err(Trouble::NoWholeRecord(cut)),
+        _ if !known => Err(Trouble::NotARecording),
+        _ if history.runs.is_empty() => Err(Trouble::NoStart),
         _ => Ok(history),
     }
 }

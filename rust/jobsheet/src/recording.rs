@@ -2,6 +2,7 @@
 //! program; 02, P3).
 
 use osnma::{Gst, Marks, Settings, FIELDS_LEN, MESSAGE_LEN, SIGNATURE_LEN, WORD_LEN};
+use portable_hash::{Sha256, DIGEST_LEN};
 use std::array::from_fn;
 use std::fmt;
 use std::io::{self, Read};
@@ -98,6 +99,17 @@ fn part<const N: usize>(bytes: &[u8; RECORD_LEN], at: usize) -> [u8; N] {
     from_fn(|n| bytes[at + n])
 }
 
+/// A last record that ends too early.
+#[derive(Clone, Copy, Debug, PartialEq, Eq)]
+pub struct Cut {
+    /// The record's place, from 1.
+    pub place: u64,
+    /// Its kind.
+    pub kind: u8,
+    /// Its bytes.
+    pub len: usize,
+}
+
 /// Why there is no sheet of an input.
 #[derive(Debug)]
 pub enum Trouble {
@@ -105,15 +117,8 @@ pub enum Trouble {
     Unreadable(io::Error),
     /// It has no byte.
     Empty,
-    /// Its last record is short.
-    ShortRecord {
-        /// The record's place, from 1.
-        place: u64,
-        /// Its kind.
-        kind: u8,
-        /// Its bytes.
-        len: usize,
-    },
+    /// It ends in its first record.
+    NoWholeRecord(Cut),
     /// It has no record of kinds 1 to 4 and 6.
     NotARecording,
     /// It has no accepted start.
@@ -125,10 +130,10 @@ impl fmt::Display for Trouble {
         match self {
             Trouble::Unreadable(error) => write!(f, "cannot be read: {error}"),
             Trouble::Empty => write!(f, "is empty: a recording has records of 256 bytes"),
-            Trouble::ShortRecord { place, len, .. } => write!(
+            Trouble::NoWholeRecord(Cut { place, len, .. }) => write!(
                 f,
-                "ends in the middle of record {place}: {len} bytes of {RECORD_LEN}. \
-                 The recording is cut short or damaged"
+                "ends in the middle of record {place}: {len} bytes of {RECORD_LEN}, and no record \
+                 is whole"
             ),
             Trouble::NotARecording => write!(
                 f,
@@ -144,11 +149,13 @@ impl fmt::Display for Trouble {
 
 impl std::error::Error for Trouble {}
 
-/// The records of an input, in order. After trouble there are no more.
+/// The whole records of an input, in order. After trouble there are no more.
 pub struct Reader<R> {
     input: R,
     place: u64,
     ended: bool,
+    cut: Option<Cut>,
+    hash: Sha256,
 }
 
 impl<R: Read> Reader<R> {
@@ -158,22 +165,35 @@ impl<R: Read> Reader<R> {
             input,
             place: 0,
             ended: false,
+            cut: None,
+            hash: Sha256::new(),
         }
+    }
+
+    /// The record in which the input ended, where it was not whole.
+    pub fn cut(&self) -> Option<Cut> {
+        self.cut
+    }
+
+    /// SHA-256 of all bytes read, those of a record that is not whole too.
+    pub fn sha256(&self) -> [u8; DIGEST_LEN] {
+        self.hash.clone().finish()
     }
 
     fn read(&mut self) -> Result<Option<Record>, Trouble> {
         let mut bytes = [0; RECORD_LEN];
         let len = filled(&mut self.input, &mut bytes).map_err(Trouble::Unreadable)?;
+        self.hash.update(&bytes[..len]);
         self.place += 1;
-        match len {
-            0 => Ok(None),
-            RECORD_LEN => Ok(Some(Record::of(&bytes))),
-            _ => Err(Trouble::ShortRecord {
-                place: self.place,
-                kind: bytes[0],
-                len,
-            }),
+        if len == RECORD_LEN {
+            return Ok(Some(Record::of(&bytes)));
         }
+        self.cut = (len > 0).then_some(Cut {
+            place: self.place,
+            kind: bytes[0],
+            len,
+        });
+        Ok(None)
     }
 }
 

@@ -1,111 +1,39 @@
 //! What the sheet shows, for every form of it: each figure is a core's answer or read, or comes
 //! from the message of a verdict that it answered 0.
 
-use crate::history::{History, Marked, Part, Refused, Run};
+use crate::boom::Counts;
+use crate::finding::{self, Finding};
+use crate::history::{History, Marked, Run, What};
 use crate::phone::check_value;
-use crate::time::{self, Clock};
+use crate::recording::RECORD_LEN;
+use crate::time::{Clock, Zone};
+use crate::timeline::{Cell, Timeline};
 use crate::vouched::{Root, Vouch};
-use crate::warnings::{self, count, Warning};
-use osnma::{Gst, Outcome, Refusal};
-use std::collections::BTreeMap;
+use crate::warnings::{self, Grade, Warning};
+use crate::words::{count, hex};
+use osnma::{Gst, Outcome};
+use std::collections::BTreeSet;
+use std::sync::Arc;
 
-/// What the tags that came for a satellite in one half minute said: the first that applies.
-#[derive(Clone, Copy, Debug, PartialEq, Eq, PartialOrd, Ord)]
-pub enum Said {
-    /// At least one did not match.
-    Wrong,
-    /// At least one matched, none was wrong.
-    Authentic,
-    /// A slow one has no answer: its key has not come, or it was given up.
-    Waits,
-    /// A slow one found no place.
-    NoPlace,
-    /// Not allowed where it stood, or MACSEQ failed.
-    NotTaken,
-    /// There was no usable set.
-    NoSet,
-    /// Bits were missing, so that it could not be judged.
-    Missing,
-    /// None came, and the satellite's own section was refused.
-    Refused,
-    /// None came.
-    Nothing,
-}
+/// Version of this program.
+pub const PROGRAM: &str = env!("CARGO_PKG_VERSION");
+/// Version of the library: the workspace's, as this program's; a test compares it with the lock file.
+pub const LIBRARY: &str = env!("CARGO_PKG_VERSION");
 
-impl Said {
-    /// All that have a sign, in the order of the legend.
-    pub const ALL: [Said; 8] = [
-        Said::Authentic,
-        Said::Wrong,
-        Said::Waits,
-        Said::NoSet,
-        Said::NoPlace,
-        Said::NotTaken,
-        Said::Missing,
-        Said::Refused,
-    ];
+/// Columns of the front's strips at most.
+pub const FRONT_COLUMNS: usize = 60;
 
-    fn of(outcome: Outcome) -> Said {
-        match outcome {
-            Outcome::Authentic => Said::Authentic,
-            Outcome::Wrong => Said::Wrong,
-            Outcome::Waits => Said::Waits,
-            Outcome::NoPlace => Said::NoPlace,
-            Outcome::NoUsableSet => Said::NoSet,
-            Outcome::BitsMissing => Said::Missing,
-            _ => Said::NotTaken,
-        }
-    }
-
-    /// For the legend.
-    pub fn words(self) -> (&'static str, &'static str) {
-        match self {
-            Said::Authentic => ("authentic", "a tag matched, none was wrong"),
-            Said::Wrong => ("wrong", "a tag did not match"),
-            Said::Waits => ("waits", "slow tag, no key yet"),
-            Said::NoSet => ("no set", "no whole data to compare"),
-            Said::NoPlace => ("no place", "256 slow tags waited already"),
-            Said::NotTaken => ("not taken", "tag not allowed there"),
-            Said::Missing => ("missing", "bits of the tag or its key lost"),
-            Said::Refused => ("refused", "its section was refused, no other tag"),
-            Said::Nothing => ("", "no tag"),
-        }
-    }
-}
-
-/// A satellite's half minute.
+/// The first half minute and the last of a column, and how many satellites were marked lately.
 #[derive(Clone, Debug, PartialEq, Eq)]
-pub struct Cell {
-    /// What its tags said.
-    pub said: Said,
-    /// How many tags said what.
-    pub tags: BTreeMap<Said, usize>,
-    /// Whether its own section was refused.
-    pub section_refused: bool,
-    /// Whether its words changed while a slow tag waited.
-    pub changed: bool,
-    /// IODnav of the set that a read gave from this half minute on, where that is another set.
-    pub marked: Option<u16>,
-}
-
-impl Cell {
-    /// `3 authentic, 1 waits`.
-    pub fn told(&self) -> String {
-        let tags = self.tags.iter();
-        let mut parts: Vec<String> = tags
-            .map(|(said, n)| format!("{n} {}", said.words().0))
-            .collect();
-        if self.section_refused {
-            parts.push("own section refused".into());
-        }
-        if self.changed {
-            parts.push("words changed while a slow tag waited".into());
-        }
-        if parts.is_empty() {
-            parts.push(Said::Nothing.words().1.into());
-        }
-        parts.join(", ")
-    }
+pub struct ColumnHead {
+    /// The first half minute.
+    pub first: Gst,
+    /// The last.
+    pub last: Gst,
+    /// How many came.
+    pub half_minutes: u32,
+    /// By each of the boom's limits; of several half minutes the least.
+    pub marked_lately: Option<Counts>,
 }
 
 /// A satellite's half minutes.
@@ -113,10 +41,63 @@ impl Cell {
 pub struct Strip {
     /// PRN of the satellite.
     pub prn: u8,
-    /// As many as the run has half minutes.
+    /// As many as there are columns.
     pub cells: Vec<Cell>,
     /// IODnav and check value of the set that a read gives at the end.
     pub at_end: Option<(u16, String)>,
+    /// The last half minute in which it was heard.
+    pub last_heard: Option<Gst>,
+}
+
+/// A strip for each satellite heard or named by a tag.
+#[derive(Clone, Debug, PartialEq, Eq)]
+pub struct Strips {
+    /// Half minutes that a cell can hold.
+    pub step: u64,
+    /// The columns.
+    pub columns: Vec<ColumnHead>,
+    /// The strips.
+    pub rows: Vec<Strip>,
+}
+
+impl Strips {
+    fn of(run: &Run, timeline: &Timeline, prns: &BTreeSet<u8>) -> Strips {
+        let head = |column: &crate::timeline::Column| ColumnHead {
+            first: column.first,
+            last: column.last,
+            half_minutes: column.half_minutes,
+            marked_lately: column.marked_lately.counts(),
+        };
+        let strip = |&prn: &u8| {
+            let cells = timeline
+                .columns()
+                .map(|column| column.cell_of(prn).cloned());
+            let last = run.marked_last(prn);
+            Strip {
+                prn,
+                cells: cells.map(Option::unwrap_or_default).collect(),
+                at_end: last.map(|set| (set.iodnav, check_value(&set.bytes))),
+                last_heard: run.heard.get(&prn).copied(),
+            }
+        };
+        Strips {
+            step: timeline.step(),
+            columns: timeline.columns().map(head).collect(),
+            rows: prns.iter().map(strip).collect(),
+        }
+    }
+
+    /// What a cell is: `half minute`, `5 minutes`.
+    pub fn cell_told(&self) -> String {
+        match (self.step, self.step / 2, self.step / 120) {
+            (1, ..) => "half minute".into(),
+            (2, ..) => "minute".into(),
+            (_, minutes, 0) => format!("{minutes} minutes"),
+            (120, ..) => "hour".into(),
+            (step, _, hours) if step.is_multiple_of(120) => format!("{hours} hours"),
+            (_, minutes, _) => format!("{minutes} minutes"),
+        }
+    }
 }
 
 /// A set that was marked and what that rests on.
@@ -131,7 +112,7 @@ pub struct MarkedSet {
     /// The slot of its tag's key.
     pub slot: Option<u64>,
     /// The root that the key hashes to.
-    pub root: Option<Root>,
+    pub root: Option<Arc<Root>>,
     /// Whether the verdict's public key was given at the start; else the tree proved it.
     pub key_given: bool,
 }
@@ -174,26 +155,61 @@ impl MarkedSet {
 /// What the lines of [`MarkedSet::rests_on`] are.
 pub const RESTS_ON: [&str; 4] = ["Tag", "Came", "Key", "Root"];
 
+/// Something that happened, with its time.
+#[derive(Clone, Debug, PartialEq, Eq)]
+pub struct EventLine {
+    /// How much it matters.
+    pub grade: Grade,
+    /// When.
+    pub when: String,
+    /// What.
+    pub what: String,
+}
+
 /// One accepted start and what came of it.
 #[derive(Clone, Debug)]
 pub struct RunSheet {
+    /// Its number among the starts and how many there were, where there were several.
+    pub part: Option<(u64, u64)>,
     /// How its times are said.
     pub clock: Clock,
-    /// The head: what and its value.
-    pub head: Vec<(&'static str, String)>,
+    /// From when to when it was heard.
+    pub span: String,
+    /// Satellites heard.
+    pub heard: usize,
+    /// What it comes to.
+    pub finding: Finding,
+    /// What happened, in order.
+    pub events: Vec<EventLine>,
     /// What to look at.
-    pub warnings: Vec<Warning>,
-    /// The half minutes.
-    pub times: Vec<Gst>,
-    /// A strip for each satellite heard or named by a tag.
-    pub strips: Vec<Strip>,
+    pub front: Vec<Warning>,
+    /// The same for the engineer.
+    pub back: Vec<Warning>,
+    /// The engineer's facts: what and its value.
+    pub facts: Vec<(&'static str, String)>,
+    /// The front's strips.
+    pub overview: Strips,
+    /// All strips, where the front's have cells of several half minutes of them.
+    pub detail: Option<Strips>,
     /// By satellite; the set at the end first, then those before it, the latest first.
     pub marked: Vec<MarkedSet>,
+    /// Sets that are not among them.
+    pub sets_left_out: u64,
     /// Check value of all sets that reads give at the end, one after another.
     pub check_of_all: Option<String>,
 }
 
 impl RunSheet {
+    /// What stands in place of warnings where there is none.
+    pub fn no_warning(&self) -> Option<&'static str> {
+        let note = |warning: &Warning| warning.grade == Grade::Note;
+        let none = match self.finding.good {
+            true => "Nothing to warn of.",
+            false => "Nothing beyond what the box says.",
+        };
+        self.front.iter().all(note).then_some(none)
+    }
+
     /// How many satellites have a set at the end.
     pub fn marked_at_end(&self) -> usize {
         self.marked.iter().filter(|set| set.at_end).count()
@@ -207,6 +223,10 @@ pub struct Sheet {
     pub name: String,
     /// Its records.
     pub records: u64,
+    /// Its SHA-256.
+    pub sha256: String,
+    /// Where it is cut short: in which record, and the rest of the sentence.
+    pub cut: Option<(String, String)>,
     /// Said before anything else, where there is something to say of the whole recording.
     pub remarks: Vec<String>,
     /// One for each accepted start.
@@ -214,35 +234,80 @@ pub struct Sheet {
 }
 
 impl Sheet {
-    /// The sheet of what the core answered to a recording of this name.
-    pub fn of(name: &str, history: &History) -> Sheet {
-        let mut remarks = Vec::new();
-        if history.before_start > 0 {
-            remarks.push(format!(
-                "{} came before the first accepted start and did nothing.",
-                count(history.before_start as usize, "record")
-            ));
-        }
-        if history.runs.len() > 1 {
-            remarks.push(format!(
-                "The core was started {} times. Each start forgets everything before it, marks \
-                 too; each has a part of its own here.",
-                history.runs.len()
-            ));
-        }
+    /// The sheet of what the core answered to a recording of this name, in the local time of a zone
+    /// or in GST.
+    pub fn of(name: &str, history: &History, zone: Option<Zone>) -> Sheet {
+        let parts = history.left_out.runs + history.runs.len() as u64;
+        let numbers = history.left_out.runs + 1..;
+        let runs = numbers.zip(&history.runs).map(|(number, run)| RunSheet {
+            part: (parts > 1).then_some((number, parts)),
+            ..run_sheet(run, zone)
+        });
+        let runs: Vec<RunSheet> = runs.collect();
         Sheet {
             name: name.into(),
             records: history.records,
-            remarks,
-            runs: history.runs.iter().map(run_sheet).collect(),
+            sha256: hex(&history.sha256),
+            cut: history.cut.map(|cut| {
+                (
+                    format!("CUT SHORT in record {}", cut.place),
+                    format!(
+                        "It ends after {} of {RECORD_LEN} bytes. This sheet is of {} before it; \
+                         what came later is not known.",
+                        cut.len,
+                        count(history.records, "whole record")
+                    ),
+                )
+            }),
+            remarks: remarks(history, &runs),
+            runs,
         }
+    }
+
+    /// The program and the library that made it.
+    pub fn made_by() -> String {
+        format!("jobsheet {PROGRAM}, osnma {LIBRARY}")
     }
 }
 
-fn run_sheet(run: &Run) -> RunSheet {
-    let clock = match (run.times.first(), run.times.last()) {
-        (Some(&first), Some(&last)) => Clock::over(first, last),
-        _ => Clock::default(),
+fn remarks(history: &History, runs: &[RunSheet]) -> Vec<String> {
+    let mut remarks = Vec::new();
+    if history.before_start > 0 {
+        remarks.push(format!(
+            "{} came before the first accepted start and did nothing.",
+            count(history.before_start, "record")
+        ));
+    }
+    let starts = history.left_out.runs + history.runs.len() as u64;
+    if starts > 1 {
+        remarks.push(format!(
+            "The receiver was started {starts} times. Each start forgets everything before it, marks \
+             too; each has a part of its own here."
+        ));
+    }
+    if history.left_out.runs > 0 {
+        let left_out = &history.left_out;
+        remarks.push(format!(
+            "Parts 1 to {} are left out: {} in them, {} of them stopped. To see them, cut the \
+             recording before record {}.",
+            left_out.runs,
+            count(left_out.wrong_tags, "wrong tag"),
+            left_out.stopped,
+            history.runs.first().map_or(0, |run| run.place)
+        ));
+    }
+    for run in runs {
+        if let Some((number, _)) = run.part {
+            remarks.push(format!("Part {number}: {}", run.finding.title));
+        }
+    }
+    remarks
+}
+
+fn run_sheet(run: &Run, zone: Option<Zone>) -> RunSheet {
+    let clock = match run.timeline.span() {
+        Some((first, last)) => Clock::over(zone, first, last),
+        None => Clock { zone, dated: false },
     };
     let marked = marked_sets(run);
     let at_end: Vec<u8> = marked
@@ -250,35 +315,72 @@ fn run_sheet(run: &Run) -> RunSheet {
         .filter(|set| set.at_end)
         .flat_map(|set| set.set.bytes)
         .collect();
+    let named = run.timeline.columns().flat_map(|column| column.prns());
+    let prns: BTreeSet<u8> = run.heard.keys().copied().chain(named).collect();
+    let few = run.timeline.overview(FRONT_COLUMNS);
     RunSheet {
+        part: None,
         clock,
-        head: head(run),
-        warnings: warnings::of(run, clock),
-        times: run.times.iter().copied().collect(),
-        strips: strips(run),
+        span: run.timeline.span().map_or(String::new(), |(first, last)| {
+            clock.dated().range(first, last)
+        }),
+        heard: run.heard.len(),
+        finding: finding::of(run, clock),
+        events: events(run, clock),
+        front: warnings::front(run, clock),
+        back: warnings::back(run, clock),
+        facts: facts(run, clock),
+        overview: Strips::of(run, &few, &prns),
+        detail: (few.step() > run.timeline.step()).then(|| Strips::of(run, &run.timeline, &prns)),
         check_of_all: (!at_end.is_empty()).then(|| check_value(&at_end)),
+        sets_left_out: run.marked.values().map(|sets| sets.left_out).sum(),
         marked,
     }
 }
 
-/// `2017-10-20 00:00:00 (947/432000)`.
-fn dated(time: Gst) -> String {
-    format!("{} ({time})", time::full(time))
+fn events(run: &Run, clock: Clock) -> Vec<EventLine> {
+    let line = |event: &crate::history::Event| {
+        let (is_warning, what) = finding::event_told(event);
+        EventLine {
+            grade: if is_warning {
+                Grade::Warning
+            } else {
+                Grade::Note
+            },
+            when: event.at.map_or("at the start".into(), |at| clock.say(at)),
+            what,
+        }
+    };
+    let mut all: Vec<EventLine> = run.events.iter().map(line).collect();
+    if run.events_left_out > 0 {
+        all.push(EventLine {
+            grade: Grade::Warning,
+            when: "later".into(),
+            what: format!("{} more, not shown here.", run.events_left_out),
+        });
+    }
+    all
 }
 
-fn head(run: &Run) -> Vec<(&'static str, String)> {
-    let time = |time: Option<&Gst>| time.map_or("no time".into(), |&time| dated(time));
+/// `2017-10-20 00:00:00 (947/432000)`.
+fn dated(clock: Clock, time: Gst) -> String {
+    format!("{} ({time})", clock.full(time))
+}
+
+fn facts(run: &Run, clock: Clock) -> Vec<(&'static str, String)> {
+    let time = |time: Option<Gst>| time.map_or("none".into(), |time| dated(clock, time));
     let settings = &run.settings;
+    let span = run.timeline.span();
     let mut rows = vec![
-        ("First half minute", time(run.times.first())),
-        ("Last half minute", time(run.times.last())),
+        ("First half minute", time(span.map(|span| span.0))),
+        ("Last half minute", time(span.map(|span| span.1))),
         (
             "Heard",
             format!(
                 "{}, {}, {}",
-                count(run.heard.len(), "satellite"),
-                count(run.counts.0 as usize, "sub-frame"),
-                count(run.counts.1 as usize, "word")
+                count(run.heard.len() as u64, "satellite"),
+                count(run.counts.0, "sub-frame"),
+                count(run.counts.1, "word")
             ),
         ),
         ("Tags", tags_told(run)),
@@ -290,66 +392,76 @@ fn head(run: &Run) -> Vec<(&'static str, String)> {
             ),
         ),
     ];
-    match run.vouched.root() {
-        None => rows.push(("Chain", "none in force at the end".into())),
-        Some(root) => rows.extend(chain_told(root)),
+    match (run.vouched.root(), run.vouched.last) {
+        (Some(root), Some(vouch)) => rows.extend(chain_told(clock, root, vouch)),
+        _ => rows.push(("Chain", "none in force at the end".into())),
     }
-    if run.vouched.roots.len() > 1 {
-        let all = run
-            .vouched
-            .roots
-            .iter()
-            .map(|root| format!("{} by record {}", root.time(), root.vouch.place));
-        rows.push(("All roots in turn", Vec::from_iter(all).join("; ")));
+    rows.extend(roots_told(run).map(|told| ("Chains and roots in turn", told)));
+    if let Some(since) = run.message_since() {
+        rows.push((
+            "Root message",
+            format!("waits for the signature chip since {}", dated(clock, since)),
+        ));
     }
     rows
 }
 
+/// Every root put in force, and every drop, where that is more than one root.
+fn roots_told(run: &Run) -> Option<String> {
+    let told = run.events.iter().filter_map(|event| match &event.what {
+        What::Root { root, .. } => Some(format!(
+            "CID {}, root {} by record {}",
+            root.chain.cid,
+            root.time(),
+            event.place
+        )),
+        What::Withdrawn => Some(format!("dropped by record {}", event.place)),
+        What::PublicKey(id) => Some(format!("public key {id} by record {}", event.place)),
+        _ => None,
+    });
+    let told: Vec<String> = told.collect();
+    (told.len() > 1).then(|| told.join("; "))
+}
+
 fn tags_told(run: &Run) -> String {
-    let with = |outcome| move |tag: &&crate::history::Tag| tag.record.outcome == outcome;
-    let n = |outcome| run.tags.iter().filter(with(outcome)).count();
+    let n = |outcome| run.tally(outcome).count;
     let (authentic, wrong) = (n(Outcome::Authentic), n(Outcome::Wrong));
-    let waits = run.waiting();
+    let waits = run.waiting() as u64;
     let missing = match n(Outcome::BitsMissing) {
         0 => String::new(),
         n => format!(", of these {n} with bits missing"),
     };
     format!(
         "{authentic} authentic, {wrong} wrong, {waits} wait still, {} without judgement{missing}",
-        run.tags.len() - authentic - wrong - waits
+        run.tags() - authentic - wrong - waits
     )
 }
 
-fn chain_told(root: &Root) -> [(&'static str, String); 3] {
+fn chain_told(clock: Clock, root: &Root, vouch: Vouch) -> [(&'static str, String); 3] {
     let chain = &root.chain;
     let name = |code: u8, names: &[&str]| match names.get(usize::from(code)) {
         Some(name) => name.to_string(),
         None => format!("function {code}"),
     };
-    let alpha: String = chain
-        .alpha
-        .iter()
-        .map(|byte| format!("{byte:02X}"))
-        .collect();
-    let vouch = root.again.last().unwrap_or(&root.vouch);
     [
         (
             "Chain in force",
             format!(
-                "CID {}, {}, {}, keys of {} bits, tags of {} bits, {} a section, α {alpha}",
+                "CID {}, {}, {}, keys of {} bits, tags of {} bits, {} a section, α {}",
                 chain.cid,
                 name(chain.hf, &["SHA-256"]),
                 name(chain.mf, &["HMAC-SHA-256", "CMAC-AES"]),
                 chain.key_bits,
                 chain.tag_bits,
-                count(usize::from(chain.nmack), "block"),
+                count(u64::from(chain.nmack), "block"),
+                hex(&chain.alpha)
             ),
         ),
         (
             "Root in force",
             format!(
                 "{}, vouched for by the verdict in record {}",
-                dated(root.time()),
+                dated(clock, root.time()),
                 root.vouch.place
             ),
         ),
@@ -363,79 +475,9 @@ fn chain_told(root: &Root) -> [(&'static str, String); 3] {
     ]
 }
 
-fn strips(run: &Run) -> Vec<Strip> {
-    let blank = Cell {
-        said: Said::Nothing,
-        tags: BTreeMap::new(),
-        section_refused: false,
-        changed: false,
-        marked: None,
-    };
-    let column: BTreeMap<Gst, usize> = run.times.iter().copied().zip(0..).collect();
-    let mut rows: BTreeMap<u8, Vec<Cell>> = BTreeMap::new();
-    for &prn in &run.heard {
-        rows.insert(prn, vec![blank.clone(); column.len()]);
-    }
-    // Every time below is one of the run's: a tag's and a change's half minute was noted.
-    let mut at = |prn: u8, time: Gst, change: &dyn Fn(&mut Cell)| {
-        let row = rows
-            .entry(prn)
-            .or_insert_with(|| vec![blank.clone(); column.len()]);
-        if let Some(cell) = column.get(&time).and_then(|&at| row.get_mut(at)) {
-            change(cell);
-        }
-    };
-    for tag in run
-        .tags
-        .iter()
-        .filter(|tag| (1..=36).contains(&tag.record.prn))
-    {
-        let said = Said::of(tag.record.outcome);
-        at(tag.record.prn, tag.record.time, &|cell| {
-            *cell.tags.entry(said).or_default() += 1;
-        });
-    }
-    // Refused sub-frames count only where their time was noted.
-    let noted = |r: &&Refused| r.part == Part::Section || r.refusal == Refusal::AllZero;
-    for refused in run.refused.iter().filter(noted) {
-        if let (Some(prn), Some(time)) = (refused.prn, refused.at) {
-            at(prn, time, &|cell| cell.section_refused = true);
-        }
-    }
-    for change in run
-        .changed
-        .iter()
-        .filter(|change| !change.waited.is_empty())
-    {
-        at(change.prn, change.at, &|cell| cell.changed = true);
-    }
-    for set in run.marked.values().flatten() {
-        at(set.prn, set.first.at, &|cell| {
-            cell.marked = Some(set.iodnav)
-        });
-    }
-    let strip = |(prn, mut cells): (u8, Vec<Cell>)| {
-        for cell in &mut cells {
-            let refused = if cell.section_refused {
-                Said::Refused
-            } else {
-                Said::Nothing
-            };
-            cell.said = cell.tags.keys().next().copied().unwrap_or(refused);
-        }
-        let last = run.marked_last(prn);
-        Strip {
-            prn,
-            cells,
-            at_end: last.map(|set| (set.iodnav, check_value(&set.bytes))),
-        }
-    };
-    rows.into_iter().map(strip).collect()
-}
-
 fn marked_sets(run: &Run) -> Vec<MarkedSet> {
     let of = |set: &Marked| {
-        let root = set.last.root.and_then(|root| run.vouched.roots.get(root));
+        let root = set.last.root.as_ref();
         MarkedSet {
             at_end: set.until.is_none(),
             check: check_value(&set.bytes),
@@ -447,6 +489,24 @@ fn marked_sets(run: &Run) -> Vec<MarkedSet> {
     };
     let satellites = run.marked.values();
     satellites
-        .flat_map(|sets| sets.iter().rev().map(of))
+        .flat_map(|sets| sets.kept.iter().rev().map(of))
         .collect()
+}
+
+#[cfg(test)]
+mod tests {
+    use super::*;
+
+    // The library's version is the one that this program is built with.
+    #[test]
+    fn versions() {
+        let lock = include_str!("../../Cargo.lock");
+        let of = |name: &str| {
+            let (_, rest) = lock
+                .split_once(&format!("name = \"{name}\"\nversion = \""))
+                .unwrap();
+            rest.split_once('"').unwrap().0
+        };
+        assert_eq!((PROGRAM, LIBRARY), (of("jobsheet"), of("osnma")));
+    }
 }

@@ -1,26 +1,47 @@
 //! Strips as a drawing: it prints as it is, whatever a browser does with backgrounds, and its signs
 //! differ without colour.
 
-use crate::sheet::{Cell, RunSheet, Said, Strip};
-use crate::time::{self, SUBFRAME};
-use osnma::Gst;
+use crate::boom::{LIMITS, NEEDED};
+use crate::sheet::{ColumnHead, RunSheet, Strip, Strips};
+use crate::time::{self, Clock, SUBFRAME};
+use crate::timeline::{Cell, Said};
 use std::fmt::Write;
 use std::ops::Range;
 
-/// Half minutes in a row of the drawing.
+/// Columns of a drawing.
 const COLUMNS: usize = 60;
 
 // Tenths of a millimetre on paper.
 const WIDTH: f64 = 1900.0;
-const LEFT: f64 = 86.0;
-const CELLS: f64 = 1500.0;
+const LEFT: f64 = 106.0;
+const CELLS: f64 = 1480.0;
 const GAP: f64 = 10.0;
+const LATELY: f64 = 36.0;
 const AXIS: f64 = 34.0;
-const ROW: f64 = 58.0;
-const BAND: f64 = 26.0;
-const HEIGHT: f64 = 27.0;
 const ISSUE: f64 = 1676.0;
 const CHECK: f64 = 1900.0;
+/// For all strips of a drawing, at the most.
+const ALL_ROWS: f64 = 1450.0;
+
+/// Heights in a strip: all of it, what is over the cells, and the cells.
+#[derive(Clone, Copy)]
+struct Heights {
+    row: f64,
+    over: f64,
+    cell: f64,
+}
+
+impl Heights {
+    /// With many strips each is lower, so that all stand on one page.
+    fn of(strips: usize) -> Heights {
+        let row = (ALL_ROWS / strips.max(1) as f64).min(60.0);
+        Heights {
+            row,
+            over: row * 0.43,
+            cell: row * 0.44,
+        }
+    }
+}
 
 /// The signs, once a page. A cell is 20 by 24 here.
 pub const SIGNS: &str = r##"<svg width="0" height="0" aria-hidden="true"><defs>
@@ -32,7 +53,8 @@ pub const SIGNS: &str = r##"<svg width="0" height="0" aria-hidden="true"><defs>
 <symbol id="nottaken" viewBox="0 0 20 24" preserveAspectRatio="none"><rect x=".6" y=".6" width="18.8" height="22.8" fill="#fff" stroke="#888" stroke-width="1.2"/><text x="10" y="18.6" font-size="18" font-weight="700" text-anchor="middle" fill="#222">?</text></symbol>
 <symbol id="missing" viewBox="0 0 20 24" preserveAspectRatio="none"><rect x=".6" y=".6" width="18.8" height="22.8" fill="#d3e3f4" stroke="#56789c" stroke-width="1.2"/><path d="M10 3V9M10 15V21" stroke="#173a5e" stroke-width="3.2" fill="none"/></symbol>
 <symbol id="refused" viewBox="0 0 20 24" preserveAspectRatio="none"><rect x=".6" y=".6" width="18.8" height="22.8" fill="#fff" stroke="#777" stroke-width="1.2"/><path d="M1 9L9 1M1 17L17 1M2 23L19 6M10 23L19 14" stroke="#666" stroke-width="1.8" fill="none"/></symbol>
-<symbol id="nothing" viewBox="0 0 20 24" preserveAspectRatio="none"><path d="M0 23.5H20" stroke="#bbb" stroke-width="1"/></symbol>
+<symbol id="nothing" viewBox="0 0 20 24" preserveAspectRatio="none"><circle cx="10" cy="12" r="1.4" fill="#aaa"/></symbol>
+<symbol id="selfheard" viewBox="0 0 20 24" preserveAspectRatio="none"><path d="M0 22H20" stroke="#333" stroke-width="2.4"/></symbol>
 <symbol id="ownrefused" viewBox="0 0 20 24" preserveAspectRatio="none"><rect y="19" width="20" height="5" fill="#000"/></symbol>
 <symbol id="changed" viewBox="0 0 20 20"><path d="M1 3H19L10 19Z" fill="#000"/></symbol>
 </defs></svg>
@@ -53,181 +75,332 @@ pub fn sign(said: Said) -> &'static str {
     }
 }
 
-/// Where the half minutes of a row of the drawing stand; a jump in time is a gap.
+/// Where the columns of a drawing stand; a jump in time is a gap.
 struct Columns<'a> {
-    times: &'a [Gst],
+    heads: &'a [ColumnHead],
     x: Vec<f64>,
     width: f64,
 }
 
-fn jumps(pair: &[Gst]) -> bool {
-    time::seconds(pair[0]) + SUBFRAME != time::seconds(pair[1])
-}
-
 impl Columns<'_> {
-    fn of(times: &[Gst]) -> Columns<'_> {
-        let gaps = times.windows(2).filter(|pair| jumps(pair)).count();
+    fn of(heads: &[ColumnHead], step: u64) -> Columns<'_> {
+        let number = |head: &ColumnHead| time::seconds(head.first) / (SUBFRAME * step);
+        let jumps = |pair: &[ColumnHead]| number(&pair[0]) + 1 != number(&pair[1]);
+        let gaps = heads.windows(2).filter(|pair| jumps(pair)).count();
         let width = (CELLS - GAP * gaps as f64) / COLUMNS as f64;
         let mut x = vec![LEFT];
         let mut here = LEFT;
-        for pair in times.windows(2) {
+        for pair in heads.windows(2) {
             here += width + if jumps(pair) { GAP } else { 0.0 };
             x.push(here);
         }
-        Columns { times, x, width }
+        Columns { heads, x, width }
     }
 
-    /// Times over the first column, after a jump, and every five minutes, where there is room.
-    fn axis(&self, out: &mut String) {
+    /// Where the last column ends.
+    fn end(&self) -> f64 {
+        self.x[self.x.len() - 1] + self.width
+    }
+
+    /// The first column and its x, after it those after a jump.
+    fn after_jumps(&self) -> impl Iterator<Item = (usize, f64)> + '_ {
+        let jump = |n: usize| n == 0 || self.x[n] > self.x[n - 1] + self.width + GAP / 2.0;
+        let all = self.x.iter().copied().enumerate();
+        all.filter(move |(n, _)| jump(*n))
+    }
+
+    /// Times over the first column and after a jump, and round times where there is room.
+    fn axis(&self, out: &mut String, clock: Clock, y: f64) {
+        let every = self.round();
+        let mut marks: Vec<(f64, String)> = self
+            .after_jumps()
+            .map(|(n, x)| (x, clock.time_of_day(self.heads[n].first)))
+            .collect();
+        for (head, &x) in self.heads.iter().zip(&self.x) {
+            let (from, to) = (clock.wall(head.first), clock.wall(head.last) + SUBFRAME);
+            let round = from.next_multiple_of(every);
+            if round < to {
+                let part = (round - from) as f64 / (to - from) as f64;
+                let second = round % 86_400;
+                let label = format!("{:02}:{:02}", second / 3_600, second / 60 % 60);
+                marks.push((x + part * self.width, label));
+            }
+        }
+        // A round time stands before the first half minute's own where both would.
+        marks.sort_by(|a, b| a.0.total_cmp(&b.0).then(a.1.len().cmp(&b.1.len())));
         let mut free = 0.0;
-        for (n, (&at, &x)) in self.times.iter().zip(&self.x).enumerate() {
-            let after_jump = n == 0 || jumps(&self.times[n - 1..=n]);
-            if x >= free && (after_jump || time::seconds(at).is_multiple_of(300)) {
-                let clock = time::clock(at);
+        for (x, label) in marks {
+            if x >= free {
                 let _ = writeln!(
                     out,
-                    "<path d=\"M{x:.1} {AXIS}v-7\" stroke=\"#555\" stroke-width=\"1.5\"/>\
-                     <text x=\"{x:.1}\" y=\"22\" class=\"axis\">{}</text>",
-                    clock.strip_suffix(":00").unwrap_or(&clock)
+                    "<path d=\"M{x:.1} {:.1}v-7\" stroke=\"#555\" stroke-width=\"1.5\"/>\
+                     <text x=\"{x:.1}\" y=\"{:.1}\" class=\"axis\">{label}</text>",
+                    y + AXIS,
+                    y + 22.0
                 );
-                free = x + 105.0;
+                free = x + 14.0 * label.len() as f64 + 20.0;
             }
         }
     }
-}
 
-/// The strips of a run, sixty half minutes a drawing.
-pub fn strips(out: &mut String, run: &RunSheet) {
-    let mut from = 0;
-    while from < run.times.len() {
-        let to = (from + COLUMNS).min(run.times.len());
-        panel(out, run, from..to);
-        from = to;
+    /// Seconds between round times: five minutes, or so that there are no more than ten.
+    fn round(&self) -> u64 {
+        const EVERY: [u64; 7] = [300, 900, 1_800, 3_600, 7_200, 14_400, 43_200];
+        let (first, last) = (&self.heads[0], &self.heads[self.heads.len() - 1]);
+        let span = time::seconds(last.last) - time::seconds(first.first);
+        let fits = |every: &u64| span / every <= 10;
+        EVERY.into_iter().find(fits).unwrap_or(86_400)
     }
 }
 
-fn panel(out: &mut String, run: &RunSheet, range: Range<usize>) {
-    let columns = Columns::of(&run.times[range.clone()]);
-    let last = range.end == run.times.len();
-    let height = AXIS + ROW * run.strips.len() as f64 + 6.0;
-    let (first, end) = (columns.times[0], columns.times[columns.times.len() - 1]);
+/// Strips of a run, sixty columns a drawing.
+pub fn strips(out: &mut String, run: &RunSheet, strips: &Strips) {
+    for from in (0..strips.columns.len()).step_by(COLUMNS) {
+        let to = (from + COLUMNS).min(strips.columns.len());
+        panel(out, run.clock, strips, from..to);
+    }
+}
+
+fn panel(out: &mut String, clock: Clock, strips: &Strips, range: Range<usize>) {
+    let columns = Columns::of(&strips.columns[range.clone()], strips.step);
+    let heights = Heights::of(strips.rows.len());
+    let last = range.end == strips.columns.len();
+    let top = LATELY * LIMITS.len() as f64 + AXIS;
+    let height = top + heights.row * strips.rows.len() as f64 + 4.0;
+    let (first, end) = (&columns.heads[0], &columns.heads[columns.heads.len() - 1]);
     let _ = writeln!(
         out,
-        "<figure class=\"panel\"><figcaption>{}, {} to {}</figcaption>\n\
-         <svg class=\"strips\" viewBox=\"0 0 {WIDTH} {height}\" role=\"img\" \
-         aria-label=\"Strips of the satellites, one cell a half minute\">",
-        time::Date::of(first),
-        time::clock(first),
-        run.clock.say(end)
+        "<figure class=\"panel\"><figcaption>{}. First rows: satellites with a mark at most \
+         {} and {} minutes old; the boom needs {NEEDED}.</figcaption>\n\
+         <div><svg class=\"strips\" viewBox=\"0 0 {WIDTH} {height:.0}\" role=\"img\" \
+         aria-label=\"Strips of the satellites, one cell a {}\">",
+        clock.dated().range(first.first, end.last),
+        LIMITS[0] * SUBFRAME / 60,
+        LIMITS[1] * SUBFRAME / 60,
+        strips.cell_told()
     );
-    columns.axis(out);
-    if last {
-        let _ = writeln!(
+    for (n, limit) in LIMITS.iter().enumerate() {
+        let counts = columns
+            .heads
+            .iter()
+            .map(|head| Some(head.marked_lately?[n]));
+        lately(
             out,
-            "<text x=\"{ISSUE}\" y=\"22\" class=\"axis\" text-anchor=\"end\">IODnav</text>\
-             <text x=\"{CHECK}\" y=\"22\" class=\"axis\" text-anchor=\"end\">check value</text>"
-        );
-    }
-    for (n, strip) in run.strips.iter().enumerate() {
-        row(
-            out,
-            run,
-            strip,
+            *limit,
             &columns,
-            &range,
-            AXIS + ROW * n as f64,
-            last,
+            &Vec::from_iter(counts),
+            LATELY * n as f64,
         );
     }
-    out.push_str("</svg></figure>\n");
-}
-
-fn row(
-    out: &mut String,
-    run: &RunSheet,
-    strip: &Strip,
-    columns: &Columns,
-    range: &Range<usize>,
-    y: f64,
-    last: bool,
-) {
-    let base = y + BAND + HEIGHT - 6.0;
-    let _ = writeln!(
-        out,
-        "<g data-strip=\"E{0:02}\"><text x=\"0\" y=\"{base}\" class=\"name\">E{0:02}</text>",
-        strip.prn
-    );
-    band(out, strip, columns, range, y);
-    for (cell, (n, &x)) in strip.cells[range.clone()]
-        .iter()
-        .zip(columns.x.iter().enumerate())
-    {
-        let title = format!(
-            "E{:02}, {}: {}",
-            strip.prn,
-            run.clock.say(columns.times[n]),
-            cell.told()
-        );
-        draw(out, cell, x, y, columns.width, &title);
-    }
-    if let (true, Some((iodnav, check))) = (last, &strip.at_end) {
+    columns.axis(out, clock, top - AXIS);
+    if last {
+        let y = top - AXIS + 22.0;
         let _ = writeln!(
             out,
-            "<text x=\"{ISSUE}\" y=\"{base}\" class=\"issue\" text-anchor=\"end\">{iodnav}</text>\
-             <text x=\"{CHECK}\" y=\"{base}\" class=\"check\" text-anchor=\"end\">{check}</text>"
+            "<text x=\"{ISSUE}\" y=\"{y}\" class=\"axis\" text-anchor=\"end\">issue</text>\
+             <text x=\"{CHECK}\" y=\"{y}\" class=\"axis\" text-anchor=\"end\">check value</text>"
+        );
+    }
+    for (n, strip) in strips.rows.iter().enumerate() {
+        let row = Row {
+            strip,
+            columns: &columns,
+            range: &range,
+            heights,
+            y: top + heights.row * n as f64,
+        };
+        row.draw(out, clock, last);
+    }
+    out.push_str("</svg></div></figure>\n");
+}
+
+/// Stretches of neighbours that are equal: the first, how many, and what they are.
+fn stretches<T: PartialEq + Copy>(all: &[T]) -> Vec<(usize, usize, T)> {
+    let mut out: Vec<(usize, usize, T)> = Vec::new();
+    for (n, &one) in all.iter().enumerate() {
+        match out.last_mut() {
+            Some((_, len, other)) if *other == one => *len += 1,
+            _ => out.push((n, 1, one)),
+        }
+    }
+    out
+}
+
+/// A row of the boom's: how many satellites were marked lately.
+fn lately(out: &mut String, limit: u64, columns: &Columns, counts: &[Option<u8>], y: f64) {
+    let _ = writeln!(
+        out,
+        "<g data-lately=\"{limit}\"><text x=\"0\" y=\"{:.1}\" class=\"limit\">\u{2264} {} min</text>",
+        y + 24.0,
+        limit * SUBFRAME / 60
+    );
+    for (from, len, count) in stretches(counts) {
+        let x = columns.x[from];
+        let width = columns.x[from + len - 1] + columns.width - x - 2.0;
+        let (class, told) = match count {
+            None => ("none", String::new()),
+            Some(n) if n < NEEDED => ("few", n.to_string()),
+            Some(n) if n == NEEDED => ("just", n.to_string()),
+            Some(n) => ("enough", n.to_string()),
+        };
+        let (size, anchor, inset) = match len {
+            1 => (20, "middle", (columns.width - 2.0) / 2.0),
+            _ => (25, "start", 6.0),
+        };
+        let _ = writeln!(
+            out,
+            "<rect x=\"{x:.1}\" y=\"{y:.1}\" width=\"{width:.1}\" height=\"30\" class=\"{class}\" \
+             data-cells=\"{len}\" data-count=\"{told}\"/>\
+             <text x=\"{:.1}\" y=\"{:.1}\" class=\"{class}\" font-size=\"{size}\" text-anchor=\"{anchor}\">{told}</text>",
+            x + inset,
+            y + 23.5
         );
     }
     out.push_str("</g>\n");
 }
 
-/// The line over the cells: from where a read gives a set, with its IODnav.
-fn band(out: &mut String, strip: &Strip, columns: &Columns, range: &Range<usize>, y: f64) {
-    let before = strip.cells[..range.start].iter().rev();
-    let from_before = before.filter_map(|cell| cell.marked).next();
-    let here = strip.cells[range.clone()].iter().zip(&columns.x);
-    let begins = here.filter_map(|(cell, &x)| Some((cell.marked?, x)));
-    let mut sets: Vec<(u16, f64)> = begins.collect();
-    if let Some(iodnav) = from_before {
-        if sets.first().is_none_or(|&(_, x)| x > LEFT) {
-            sets.insert(0, (iodnav, LEFT));
-        }
-    }
-    let end = columns.x[columns.x.len() - 1] + columns.width;
-    for (n, &(iodnav, x)) in sets.iter().enumerate() {
-        let to = sets.get(n + 1).map_or(end, |next| next.1);
-        let _ = writeln!(
-            out,
-            "<path d=\"M{:.1} {:.1}H{:.1}\" class=\"held\"/><text x=\"{x:.1}\" y=\"{:.1}\" class=\"set\">{iodnav}</text>",
-            x,
-            y + BAND - 1.5,
-            to - 4.0,
-            y + BAND - 5.0
-        );
-    }
+/// A satellite's strip in a drawing.
+struct Row<'a> {
+    strip: &'a Strip,
+    columns: &'a Columns<'a>,
+    range: &'a Range<usize>,
+    heights: Heights,
+    y: f64,
 }
 
-fn draw(out: &mut String, cell: &Cell, x: f64, y: f64, width: f64, title: &str) {
-    let (y, inner) = (y + BAND + 2.0, width - 2.0);
-    let mut put = |name: &str, title: &str| {
-        let title = match title {
-            "" => String::new(),
-            title => format!("<title>{title}</title>"),
-        };
-        let _ = writeln!(
-            out,
-            "<use href=\"#{name}\" x=\"{x:.1}\" y=\"{y:.0}\" width=\"{inner:.1}\" height=\"{HEIGHT}\">{title}</use>"
-        );
-    };
-    put(sign(cell.said), title);
-    if cell.section_refused && cell.said != Said::Refused {
-        put("ownrefused", "");
+impl Row<'_> {
+    fn cells(&self) -> &[Cell] {
+        &self.strip.cells[self.range.clone()]
     }
-    if cell.changed {
+
+    fn draw(&self, out: &mut String, clock: Clock, last: bool) {
+        let Heights { row, over, cell } = self.heights;
+        let base = self.y + over + cell - 3.0;
+        let prn = self.strip.prn;
+        let size = (row * 0.5).min(29.0);
         let _ = writeln!(
             out,
-            "<use href=\"#changed\" x=\"{:.1}\" y=\"{:.1}\" width=\"17\" height=\"17\"/>",
-            x + (width - 19.0) / 2.0,
-            y - 19.0
+            "<g data-strip=\"E{prn:02}\"><text x=\"0\" y=\"{base:.1}\" class=\"name\" font-size=\"{size:.0}\">E{prn:02}</text>",
         );
+        self.over(out);
+        for (cell, (head, &x)) in self
+            .cells()
+            .iter()
+            .zip(self.columns.heads.iter().zip(&self.columns.x))
+        {
+            let title = format!("E{prn:02}, {}: {}", clock.say(head.first), cell.told());
+            self.cell(out, cell, x, &title);
+        }
+        self.heard(out);
+        let mut end = |x: f64, class: &str, text: &str| {
+            let _ = writeln!(
+                out,
+                "<text x=\"{x}\" y=\"{base:.1}\" class=\"{class}\" font-size=\"{size:.0}\" text-anchor=\"end\">{text}</text>"
+            );
+        };
+        if let (true, Some((iodnav, check))) = (last, &self.strip.at_end) {
+            end(ISSUE, "issue", &iodnav.to_string());
+            end(CHECK, "check", check);
+        } else if last && self.strip.last_heard.is_none() {
+            end(CHECK, "issue", "not heard");
+        }
+        out.push_str("</g>\n");
+    }
+
+    /// The line over the cells: from where a read gives a set, with its IODnav.
+    fn over(&self, out: &mut String) {
+        let (strip, columns) = (self.strip, self.columns);
+        let before = strip.cells[..self.range.start].iter().rev();
+        let from_before = before.filter_map(|cell| cell.marked).next();
+        let here = self.cells().iter().zip(&columns.x);
+        let begins = here.filter_map(|(cell, &x)| Some((cell.marked?, x)));
+        let mut sets: Vec<(u16, f64)> = begins.collect();
+        if let Some(iodnav) = from_before {
+            if sets.first().is_none_or(|&(_, x)| x > LEFT) {
+                sets.insert(0, (iodnav, LEFT));
+            }
+        }
+        let line = self.y + self.heights.over - 2.0;
+        let mut free = 0.0;
+        for (n, &(iodnav, x)) in sets.iter().enumerate() {
+            let to = sets.get(n + 1).map_or(columns.end(), |next| next.1);
+            let _ = write!(
+                out,
+                "<path d=\"M{x:.1} {line:.1}H{:.1}\" class=\"held\"/>",
+                to - 4.0
+            );
+            if x >= free {
+                let _ = writeln!(
+                    out,
+                    "<text x=\"{x:.1}\" y=\"{:.1}\" class=\"set\" font-size=\"{:.0}\">{iodnav}</text>",
+                    line - 3.5,
+                    self.heights.row / 3.0
+                );
+                free = x + 45.0;
+            }
+        }
+    }
+
+    fn cell(&self, out: &mut String, cell: &Cell, x: f64, title: &str) {
+        let (y, inner, height) = (
+            self.y + self.heights.over + 1.0,
+            self.columns.width - 2.0,
+            self.heights.cell,
+        );
+        let mut put = |name: &str, title: &str| {
+            let title = match title {
+                "" => String::new(),
+                title => format!("<title>{title}</title>"),
+            };
+            let _ = writeln!(
+                out,
+                "<use href=\"#{name}\" x=\"{x:.1}\" y=\"{y:.1}\" width=\"{inner:.1}\" height=\"{height:.1}\">{title}</use>"
+            );
+        };
+        put(sign(cell.said()), title);
+        if cell.section_refused && cell.said() != Said::Refused {
+            put("ownrefused", "");
+        }
+        if cell.changed {
+            let size = self.heights.over * 0.68;
+            let _ = writeln!(
+                out,
+                "<use href=\"#changed\" x=\"{:.1}\" y=\"{:.1}\" width=\"{size:.1}\" height=\"{size:.1}\"/>",
+                x + (inner - size) / 2.0,
+                y - size - 1.0
+            );
+        }
+    }
+
+    /// The line under the cells in which the satellite was heard itself; in a cell of several half
+    /// minutes it is as long as they are many.
+    fn heard(&self, out: &mut String) {
+        let part = |(cell, head): (&Cell, &ColumnHead)| {
+            let part = f64::from(cell.heard) / f64::from(head.half_minutes.max(1));
+            (part.min(1.0) * 100.0).round() as u32
+        };
+        let parts: Vec<u32> = self
+            .cells()
+            .iter()
+            .zip(self.columns.heads)
+            .map(part)
+            .collect();
+        let y = self.y + self.heights.over + self.heights.cell + 4.0;
+        let mut path = |from: usize, len: usize, end: f64| {
+            let _ = writeln!(
+                out,
+                "<path d=\"M{:.1} {y:.1}H{end:.1}\" class=\"heard\" data-from=\"{from}\" data-cells=\"{len}\"/>",
+                self.columns.x[from]
+            );
+        };
+        for (from, len, part) in stretches(&parts) {
+            let x = |n: usize| self.columns.x[n];
+            match part {
+                0 => {}
+                100 => path(from, len, x(from + len - 1) + self.columns.width - 2.0),
+                _ => (from..from + len)
+                    .for_each(|n| path(n, 1, x(n) + self.columns.width * f64::from(part) / 100.0)),
+            }
+        }
     }
 }

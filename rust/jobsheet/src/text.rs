@@ -1,10 +1,12 @@
 //! The sheet as text for a terminal.
 
+use crate::boom::{LIMITS, NEEDED};
 use crate::html::grouped;
 use crate::phone;
-use crate::sheet::{MarkedSet, RunSheet, Said, Sheet, Strip, RESTS_ON};
-use crate::time;
-use crate::warnings::{Grade, Table};
+use crate::sheet::{MarkedSet, RunSheet, Sheet, Strip, Strips, RESTS_ON};
+use crate::time::{Clock, SUBFRAME};
+use crate::timeline::{Cell, Said};
+use crate::warnings::{Grade, Table, Warning};
 use std::fmt::Write;
 
 /// Columns of a line of text.
@@ -58,44 +60,82 @@ pub fn summary(sheet: &Sheet) -> String {
 
 fn told(sheet: &Sheet, with_bytes: bool) -> String {
     let mut out = String::new();
+    if let Some((cut, rest)) = &sheet.cut {
+        wrapped(&mut out, "", "", &format!("{cut}. {rest}"));
+        out.push('\n');
+    }
     let _ = writeln!(
         out,
-        "Job sheet of {} ({} records)",
-        sheet.name, sheet.records
+        "JOB SHEET of {} ({} records)\nSHA-256 {}\nby {}",
+        sheet.name,
+        sheet.records,
+        sheet.sha256,
+        Sheet::made_by()
     );
     for remark in &sheet.remarks {
-        wrapped(&mut out, "", "", remark);
+        wrapped(&mut out, "", "  ", remark);
     }
-    for (n, run) in sheet.runs.iter().enumerate() {
-        if sheet.runs.len() > 1 {
-            let _ = writeln!(out, "\nPART {} OF {}", n + 1, sheet.runs.len());
+    for run in &sheet.runs {
+        if let Some((n, of)) = run.part {
+            let _ = writeln!(out, "\nPART {n} OF {of}");
         }
-        let _ = writeln!(
-            out,
-            "{} of {} satellites marked at the end.",
-            run.marked_at_end(),
-            run.strips.len()
-        );
-        warnings(&mut out, run);
-        head(&mut out, run);
-        strips(&mut out, run);
+        finding(&mut out, run);
+        shown(&mut out, run.clock, &run.overview);
+        events(&mut out, run);
+        out.push_str("\nWARNINGS\n");
+        if let Some(none) = run.no_warning() {
+            let _ = writeln!(out, "  {none}");
+        }
+        warnings(&mut out, &run.front);
+        if let Some(detail) = &run.detail {
+            shown(&mut out, run.clock, detail);
+        }
         if with_bytes {
+            back(&mut out, run);
             marked(&mut out, run);
         }
     }
     out
 }
 
-fn warnings(out: &mut String, run: &RunSheet) {
-    out.push_str("\nWARNINGS\n");
-    if run
-        .warnings
-        .iter()
-        .all(|warning| warning.grade == Grade::Note)
-    {
-        out.push_str("  Nothing to warn of.\n");
+fn finding(out: &mut String, run: &RunSheet) {
+    let finding = &run.finding;
+    out.push('\n');
+    let sign = if finding.good { "  " } else { "! " };
+    wrapped(out, sign, "  ", &finding.title);
+    wrapped(out, "  ", "  ", &finding.text.join(" "));
+    wrapped(out, "  ", "  ", &format!("Do: {}", finding.to_do));
+    let _ = writeln!(
+        out,
+        "\n  {} satellites heard, {} marked at the end. {}",
+        run.heard,
+        run.marked_at_end(),
+        run.span
+    );
+    wrapped(out, "  ", "  ", &format!("Times are {}.", run.clock.told()));
+}
+
+fn events(out: &mut String, run: &RunSheet) {
+    if run.events.is_empty() {
+        return;
     }
-    for warning in &run.warnings {
+    out.push_str("\nEVENTS\n");
+    for event in &run.events {
+        let sign = match event.grade {
+            Grade::Warning => "! ",
+            Grade::Note => "  ",
+        };
+        wrapped(
+            out,
+            &format!("{sign}{}  ", event.when),
+            "            ",
+            &event.what,
+        );
+    }
+}
+
+fn warnings(out: &mut String, all: &[Warning]) {
+    for warning in all {
         let sign = match warning.grade {
             Grade::Warning => "! ",
             Grade::Note => "  ",
@@ -134,51 +174,91 @@ fn rows(out: &mut String, table: &Table) {
     }
 }
 
-fn head(out: &mut String, run: &RunSheet) {
-    out.push_str("\nRECORDING (times are Galileo System Time)\n");
-    for (what, value) in &run.head {
-        wrapped(out, &format!("  {what:<20} "), &" ".repeat(23), value);
+fn back(out: &mut String, run: &RunSheet) {
+    out.push_str("\nFOR THE ENGINEER\n");
+    for (what, value) in &run.facts {
+        wrapped(out, &format!("  {what:<25} "), &" ".repeat(28), value);
     }
+    warnings(out, &run.back);
 }
 
-fn strips(out: &mut String, run: &RunSheet) {
-    if run.times.is_empty() {
+fn shown(out: &mut String, clock: Clock, strips: &Strips) {
+    if strips.columns.is_empty() {
         return;
     }
-    out.push_str("\nWHAT WAS AUTHENTIC WHEN (one sign a half minute)\n  ");
+    let _ = write!(
+        out,
+        "\nWHAT WAS AUTHENTIC WHEN (one sign: a {})\n  ",
+        strips.cell_told()
+    );
     for said in Said::ALL {
         let _ = write!(out, "{} {}   ", letter(said), said.words().0);
     }
-    out.push_str("\n  v under the line above: words changed while a slow tag waited\n");
-    let mut from = 0;
-    while from < run.times.len() {
-        let to = (from + CELLS).min(run.times.len());
+    let [few, more] = LIMITS.map(|limit| limit * SUBFRAME / 60);
+    let _ = writeln!(
+        out,
+        "\n  . no tag, but heard   v data changed while a slow tag waited\n  \
+         {few}m, {more}m: satellites with a mark at most so old (+ ten and more); the boom needs {NEEDED}"
+    );
+    for from in (0..strips.columns.len()).step_by(CELLS) {
+        let to = (from + CELLS).min(strips.columns.len());
         let _ = writeln!(
             out,
-            "\n  {} {} to {}",
-            time::Date::of(run.times[from]),
-            time::clock(run.times[from]),
-            run.clock.say(run.times[to - 1])
+            "\n  {}",
+            clock
+                .dated()
+                .range(strips.columns[from].first, strips.columns[to - 1].last)
         );
-        for strip in &run.strips {
-            row(out, strip, from, to, to == run.times.len());
+        lately(out, strips, from, to);
+        for strip in &strips.rows {
+            row(out, clock, strip, from, to, to == strips.columns.len());
         }
-        from = to;
     }
 }
 
-fn row(out: &mut String, strip: &Strip, from: usize, to: usize, last: bool) {
+/// How many satellites were marked lately: a digit each, + for ten and more.
+fn lately(out: &mut String, strips: &Strips, from: usize, to: usize) {
+    for (n, limit) in LIMITS.iter().enumerate() {
+        let sign = |count: u8| char::from_digit(count.into(), 10).unwrap_or('+');
+        let columns = strips.columns[from..to].iter();
+        let counts = columns.map(|column| column.marked_lately.map_or(' ', |all| sign(all[n])));
+        let _ = writeln!(
+            out,
+            "  {:>2}m  {}  marked, {} min",
+            limit * SUBFRAME / 60,
+            counts.collect::<String>(),
+            limit * SUBFRAME / 60
+        );
+    }
+}
+
+/// The letter of a cell; a blank where nothing came from the satellite or for it.
+fn of_cell(cell: &Cell) -> char {
+    match cell.said() {
+        Said::Nothing if cell.heard == 0 => ' ',
+        said => letter(said),
+    }
+}
+
+fn row(out: &mut String, clock: Clock, strip: &Strip, from: usize, to: usize, last: bool) {
     let cells = &strip.cells[from..to];
-    let line: String = cells.iter().map(|cell| letter(cell.said)).collect();
+    let line: String = cells.iter().map(of_cell).collect();
     if cells.iter().any(|cell| cell.changed) {
         let sign = |changed| if changed { 'v' } else { ' ' };
         let marks: String = cells.iter().map(|cell| sign(cell.changed)).collect();
         let _ = writeln!(out, "       {}", marks.trim_end());
     }
-    let end = match &strip.at_end {
-        Some((iodnav, check)) if last => format!("  IODnav {iodnav:>4}  {check}"),
-        _ => String::new(),
-    };
+    let silent = strip.cells.last().is_some_and(|cell| cell.heard == 0);
+    let mut end = String::new();
+    if let (true, Some((iodnav, check))) = (last, &strip.at_end) {
+        end = format!("  issue {iodnav:>4}  {check}");
+    }
+    if last && silent {
+        let told = strip.last_heard.map_or("not heard".into(), |at| {
+            format!("heard to {}", clock.time_of_day(at))
+        });
+        let _ = write!(end, "  {told}");
+    }
     let _ = writeln!(out, "  E{:02}  {line}{end}", strip.prn);
 }
 

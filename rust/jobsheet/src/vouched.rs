@@ -6,6 +6,7 @@
 
 use crate::time::{self, SUBFRAME};
 use osnma::{Gst, TagRecord, MESSAGE_LEN};
+use std::sync::Arc;
 
 /// Bits of a key by KS's code (000, table 12).
 const KEY_BITS: [u16; 9] = [96, 104, 112, 120, 128, 160, 192, 224, 256];
@@ -57,8 +58,6 @@ pub struct Root {
     pub hour: u8,
     /// The verdict that put it in force.
     pub vouch: Vouch,
-    /// Later verdicts on equal contents.
-    pub again: Vec<Vouch>,
 }
 
 impl Root {
@@ -81,7 +80,6 @@ impl Root {
             hour: c[5],
             contents,
             vouch,
-            again: Vec::new(),
         }
     }
 
@@ -134,19 +132,32 @@ pub enum Change {
     },
 }
 
-/// Every root put in force since the start.
+/// Whether a chain is in force.
+#[derive(Clone, Copy, Debug, Default, PartialEq, Eq, PartialOrd, Ord)]
+pub enum Keys {
+    /// None has been since the start.
+    #[default]
+    NotYet,
+    /// One is.
+    InForce,
+    /// The last was dropped.
+    Withdrawn,
+}
+
+/// The chain in force since the start.
 #[derive(Clone, Debug, Default)]
 pub struct Vouched {
-    /// In the order in which they came.
-    pub roots: Vec<Root>,
-    /// The place in `roots` of the one in force.
-    pub in_force: Option<usize>,
+    root: Option<Arc<Root>>,
+    /// Whether a chain is in force.
+    pub keys: Keys,
+    /// The last good verdict with status 1 or 2.
+    pub last: Option<Vouch>,
 }
 
 impl Vouched {
     /// The root in force.
-    pub fn root(&self) -> Option<&Root> {
-        self.roots.get(self.in_force?)
+    pub fn root(&self) -> Option<&Arc<Root>> {
+        self.root.as_ref()
     }
 
     /// Takes in a good verdict that the core answered 0: by row 11 its status is 3 with the CID in
@@ -154,18 +165,19 @@ impl Vouched {
     pub fn good_verdict(&mut self, message: &[u8; MESSAGE_LEN], vouch: Vouch) -> Change {
         let [header, contents @ ..] = *message;
         if header >> 6 == 3 {
-            self.in_force = None;
+            self.root = None;
+            self.keys = Keys::Withdrawn;
             return Change::Dropped;
         }
-        let old = self.in_force.and_then(|at| self.roots.get_mut(at));
-        if let Some(root) = old.filter(|root| root.contents == contents) {
-            root.again.push(vouch);
+        self.last = Some(vouch);
+        let old = self.root.as_ref();
+        if old.is_some_and(|root| root.contents == contents) {
             return Change::Again;
         }
         let root = Root::of(contents, vouch);
-        let same_chain = self.root().is_some_and(|old| old.chain == root.chain);
-        self.in_force = Some(self.roots.len());
-        self.roots.push(root);
+        let same_chain = old.is_some_and(|old| old.chain == root.chain);
+        self.root = Some(Arc::new(root));
+        self.keys = Keys::InForce;
         Change::Root { same_chain }
     }
 
@@ -176,7 +188,8 @@ impl Vouched {
             Change::Again => true,
             Change::Dropped | Change::Root { same_chain: false } => false,
             Change::Root { same_chain: true } => self
-                .root()
+                .root
+                .as_ref()
                 .zip(key_second(tag))
                 .is_some_and(|(root, second)| second >= root.start()),
         }

@@ -1,8 +1,12 @@
-//! What somebody should look at, in plain words.
+//! What somebody should look at: on the front in the fitter's words, on the back in the engineer's.
 
-use crate::history::{Part, Refused, Run, Tag, WordsChanged};
+use crate::finding::{self, STORY};
+use crate::history::{Became, Run, Tally, WordsChanged};
+use crate::refused::{Part, Refused};
 use crate::time::Clock;
-use osnma::{Gst, Outcome, Refusal, TagRecord};
+use crate::vouched::Keys;
+use crate::words::{capital, count, issue, issues, satellites, span, which};
+use osnma::{Gst, Outcome, Refusal};
 use std::collections::{BTreeMap, BTreeSet};
 
 /// How much it matters.
@@ -50,184 +54,258 @@ impl Warning {
 /// Satellites whose data changes are said one by one; with more, those of one time are joined.
 const SINGLE_ROWS: usize = 16;
 
-/// `1 tag`, `2 tags`.
-pub fn count(n: usize, what: &str) -> String {
-    format!("{n} {what}{}", if n == 1 { "" } else { "s" })
-}
-
-/// `E04, E11 and E27`, `E01 to E35 and E36`: neighbours are joined where they are three or more.
-pub fn satellites(prns: &BTreeSet<u8>) -> String {
-    let mut spans: Vec<(u8, u8)> = Vec::new();
-    for &prn in prns {
-        match spans.last_mut() {
-            Some((_, last)) if prn - *last == 1 => *last = prn,
-            _ => spans.push((prn, prn)),
-        }
-    }
-    let name = |prn: u8| format!("E{prn:02}");
-    let names: Vec<String> = spans
-        .into_iter()
-        .flat_map(|(first, last)| match last - first {
-            0 => vec![name(first)],
-            1 => vec![name(first), name(last)],
-            _ => vec![format!("{} to {}", name(first), name(last))],
-        })
-        .collect();
-    match names.split_last() {
-        Some((last, [])) => last.clone(),
-        Some((last, others)) => format!("{} and {last}", others.join(", ")),
-        None => "none".into(),
-    }
-}
-
-/// The satellites of a run, by name where they are few.
-fn which(run: &Run, prns: &BTreeSet<u8>) -> String {
-    if prns.len() > 8 && *prns == run.heard {
-        format!("all {} satellites", prns.len())
-    } else {
-        satellites(prns)
-    }
-}
-
-/// The different IODnav, by number where they are few.
-fn issues(of: impl Iterator<Item = u16>) -> String {
-    let all: BTreeSet<u16> = of.collect();
-    match all.len() {
-        0 => "none".into(),
-        1..=4 => {
-            let all: Vec<String> = all.iter().map(u16::to_string).collect();
-            format!("IODnav {}", all.join(", "))
-        }
-        n => format!("{n} IODnav"),
-    }
-}
-
-fn issue(iodnav: Option<u16>) -> String {
-    iodnav.map_or("mixed".into(), |n| n.to_string())
-}
-
-/// IODnav of the sets of a satellite that were marked.
-fn marked(run: &Run, prn: u8) -> String {
-    let sets = run.marked.get(&prn).into_iter().flatten();
-    issues(sets.map(|set| set.iodnav))
-}
-
-fn first_and_last(times: impl Iterator<Item = Gst> + Clone) -> Option<(Gst, Gst)> {
-    Some((times.clone().min()?, times.max()?))
-}
-
-fn span(clock: Clock, times: impl Iterator<Item = Gst> + Clone) -> String {
-    first_and_last(times).map_or(String::new(), |(a, b)| clock.span(a, b))
-}
-
-/// All of a run: what is wrong first, then notes.
-pub fn of(run: &Run, clock: Clock) -> Vec<Warning> {
-    let mut all = Vec::new();
-    all.extend(stopped(run, clock));
-    all.extend(wrong(run, clock));
-    all.extend(changed(run, clock));
-    all.extend(not_marked(run));
-    all.extend(no_place(run, clock));
-    all.extend(not_taken(run, clock));
-    all.extend(refusals(run, clock));
-    all.extend(fields_missing(run, clock));
-    all.extend(bits_missing(run, clock));
-    all.extend(given_up(run));
-    // A stable sort: the order above within each grade.
+fn by_grade(mut all: Vec<Warning>) -> Vec<Warning> {
+    // A stable sort: the order in which they came within each grade.
     all.sort_by_key(|warning| warning.grade == Grade::Note);
     all
 }
 
-fn stopped(run: &Run, clock: Clock) -> Option<Warning> {
-    let (place, at) = run.stopped?;
-    let after = run.last_place - place;
-    Some(Warning::new(
-        Grade::Warning,
-        format!("The core stopped at {} (record {place}).", clock.say(at)),
-        format!(
-            "An emergency message of the system, proved by the tree of public keys, stopped it. \
-             What is marked below was marked before. After it came {}; a stopped core takes none.",
-            count(after as usize, "record")
-        ),
-    ))
+/// The front's: what is wrong first, then notes.
+pub fn front(run: &Run, clock: Clock) -> Vec<Warning> {
+    let mut all = Vec::new();
+    all.extend(wrong(run, clock));
+    all.extend(disputed(run));
+    all.extend(not_marked(run));
+    all.extend(foreign_keys(run, clock));
+    all.extend(others_refused(run));
+    all.extend(without_keys(run, clock));
+    all.extend(silent(run, clock));
+    all.extend(pages_lost(run, clock));
+    all.extend(no_place(run, clock));
+    by_grade(all)
 }
 
-/// The tags with this outcome.
-fn with(run: &Run, outcome: Outcome) -> impl Iterator<Item = &TagRecord> + Clone {
-    let tags = run.tags.iter().map(|tag| &tag.record);
-    tags.filter(move |record| record.outcome == outcome)
+/// The back's.
+pub fn back(run: &Run, clock: Clock) -> Vec<Warning> {
+    let mut all = Vec::new();
+    all.extend(changed(run, clock));
+    all.extend(not_taken(run, clock));
+    all.extend(refusals(run, clock));
+    all.extend(bits_missing(run, clock));
+    all.extend(given_up(run));
+    by_grade(all)
 }
 
 fn wrong(run: &Run, clock: Clock) -> Option<Warning> {
-    let prns: BTreeSet<u8> = with(run, Outcome::Wrong).map(|tag| tag.prn).collect();
-    let rows = prns.iter().map(|&prn| {
-        let tags = with(run, Outcome::Wrong).filter(move |tag| tag.prn == prn);
-        vec![
-            format!("E{prn:02}"),
-            tags.clone().count().to_string(),
-            span(clock, tags.clone().map(|tag| tag.time)).replace("from ", ""),
-            issues(tags.map(|tag| tag.iodnav)),
-            marked(run, prn),
-        ]
-    });
+    let prns: BTreeSet<u8> = run.wrong.keys().copied().collect();
+    let rows = prns
+        .iter()
+        .filter_map(|prn| finding::story(run, clock, *prn));
     let table = Table {
-        head: vec![
-            "Satellite",
-            "Wrong tags",
-            "Came",
-            "Data compared",
-            "Data marked in this run",
-        ],
+        head: STORY.to_vec(),
         rows: rows.collect(),
     };
     (!prns.is_empty()).then(|| Warning {
         table: Some(table),
         ..Warning::new(
             Grade::Warning,
-            format!("Wrong tags for {}.", which(run, &prns)),
-            "The data heard is not the data that the system signed: a repeater, or bad reception. \
-             A wrong tag marks nothing.",
+            format!("Wrong data for {}.", which(run, &prns)),
+            "What was heard is not what the system signed. A wrong tag marks nothing. Data is \
+             given by its issue number; marked data with the time of its tag.",
         )
     })
 }
 
-/// What became of tags that waited: `3 authentic (IODnav 68), 1 waits`.
-fn became<'a>(tags: impl Iterator<Item = &'a Tag> + Clone) -> String {
-    let some = |what: &str, is: &dyn Fn(&Tag) -> bool, named: bool| {
-        let of = || tags.clone().filter(|tag| is(tag));
-        let name = match (of().count(), named) {
-            (0, _) => return None,
-            (_, false) => String::new(),
-            _ => format!(" ({})", issues(of().map(|tag| tag.record.iodnav))),
-        };
-        Some(format!("{} {what}{name}", of().count()))
+fn disputed(run: &Run) -> Option<Warning> {
+    let prns = finding::disputed(run);
+    (!prns.is_empty()).then(|| {
+        Warning::new(
+            Grade::Warning,
+            format!("The same data called both authentic and wrong: {}.", which(run, &prns)),
+            "Some tags matched it and some did not. A short tag matches wrong data by chance now and \
+             then; a damaged tag fails on right data. Do not rely on this mark.",
+        )
+    })
+}
+
+/// Satellites without a marked set: those whose words came, and those that sent none.
+fn not_marked(run: &Run) -> Vec<Warning> {
+    let heard = run.heard.keys().copied();
+    let without: BTreeSet<u8> = heard.filter(|prn| !run.data.contains_key(prn)).collect();
+    let warning = |grade, prns: BTreeSet<u8>, why: &str| {
+        let title = format!("Nothing marked for {}.", which(run, &prns));
+        (!prns.is_empty()).then(|| Warning::new(grade, title, why))
     };
-    let outcome = |outcome| move |tag: &Tag| tag.record.outcome == outcome;
+    let told = [
+        warning(
+            Grade::Warning,
+            finding::unmarked(run),
+            "Data was heard, but no tag has shown it to be authentic.",
+        ),
+        warning(Grade::Note, without, "Heard, but without orbit data."),
+    ];
+    told.into_iter().flatten().collect()
+}
+
+/// Keys that the core refused as not the system's.
+fn foreign_keys(run: &Run, clock: Clock) -> Option<Warning> {
+    let refused = || {
+        let sections = run.refused.of(Part::Section, Refusal::KeyUnfit);
+        sections.chain(run.refused.of(Part::Message, Refusal::TreeUnfit))
+    };
+    let n = refused().map(|sum| sum.count).sum();
+    let prns: BTreeSet<u8> = refused().flat_map(|sum| &sum.prns).copied().collect();
+    let first = refused().filter_map(|sum| Some(sum.span?.0)).min();
+    let last = refused().filter_map(|sum| Some(sum.span?.1)).max();
+    (n > 0).then(|| {
+        Warning::new(
+            Grade::Warning,
+            format!(
+                "Keys that are not the system's came in {}.",
+                count(n, "time")
+            ),
+            format!(
+                "Damaged on the way, or forged; they were refused. Sent as {}, {}.",
+                which(run, &prns),
+                span(clock, first.zip(last))
+            ),
+        )
+    })
+}
+
+/// Refusals that have no line of their own on the front.
+fn others_refused(run: &Run) -> Option<Warning> {
+    let own_line = |sum: &Refused| {
+        matches!(
+            (sum.part, sum.refusal),
+            (Part::Section, Refusal::KeyUnfit | Refusal::FieldsMissing)
+                | (Part::Message, Refusal::TreeUnfit | Refusal::FieldsMissing)
+                | (_, Refusal::Stopped)
+        ) || is_without_keys(sum)
+    };
+    let others = run.refused.all().filter(|sum| !own_line(sum));
+    let n = others
+        .filter(|sum| why(sum).0 == Grade::Warning)
+        .map(|sum| sum.count)
+        .sum();
+    (n > 0).then(|| {
+        Warning::new(
+            Grade::Warning,
+            format!("{} of the input refused.", capital(count(n, "part"))),
+            "It changed nothing. The reasons stand on the back, for the engineer.",
+        )
+    })
+}
+
+/// Sections that came while no chain was in force.
+fn is_without_keys(sum: &Refused) -> bool {
+    let section = sum.part == Part::Section && sum.refusal == Refusal::NotInForce;
+    section && sum.keys != Keys::InForce
+}
+
+/// Before the first keys, and after they were withdrawn.
+fn without_keys(run: &Run, clock: Clock) -> Vec<Warning> {
+    let told = |sum: &Refused| {
+        let when = capital(span(clock, sum.span));
+        match sum.keys {
+            Keys::Withdrawn => Warning::new(
+                Grade::Warning,
+                format!("{when} the keys were withdrawn."),
+                format!("Of {} the tags could not be judged.", satellites(&sum.prns)),
+            ),
+            _ => Warning::new(
+                Grade::Note,
+                format!("{when} no keys were in force yet."),
+                "Ordinary after switching on.",
+            ),
+        }
+    };
+    run.refused
+        .all()
+        .filter(|sum| is_without_keys(sum))
+        .map(told)
+        .collect()
+}
+
+fn silent(run: &Run, clock: Clock) -> Option<Warning> {
+    let silent = finding::silent(run);
+    let mut by_time: BTreeMap<Gst, BTreeSet<u8>> = BTreeMap::new();
+    for (prn, last) in &silent {
+        by_time.entry(*last).or_default().insert(*prn);
+    }
+    let told = |(last, prns): (&Gst, &BTreeSet<u8>)| {
+        format!("{} at {}", which(run, prns), clock.say(*last))
+    };
+    let all: BTreeSet<u8> = silent.iter().map(|(prn, _)| *prn).collect();
+    (!all.is_empty()).then(|| {
+        Warning::new(
+            Grade::Note,
+            format!("Not heard to the end: {}.", which(run, &all)),
+            format!(
+                "Last heard: {}. Tags that others send still judge the data that it sent before.",
+                Vec::from_iter(by_time.iter().map(told)).join("; ")
+            ),
+        )
+    })
+}
+
+/// Sub-frames of which fields were lost: both halves in one.
+fn pages_lost(run: &Run, clock: Clock) -> Option<Warning> {
+    // One lost field is enough for this half.
+    let lost = run
+        .refused
+        .of(Part::Message, Refusal::FieldsMissing)
+        .next()?;
+    let sections = run.refused.of(Part::Section, Refusal::FieldsMissing);
+    Some(Warning::new(
+        Grade::Note,
+        format!(
+            "Reception was broken in {} of {} half minutes of satellites.",
+            lost.count, run.counts.0
+        ),
+        format!(
+            "Ordinary under trees. What came was used{}. {}, {}.",
+            match sections.map(|sum| sum.count).sum() {
+                0 => String::new(),
+                n => format!("; of {n} the part with the tags could not be"),
+            },
+            capital(which(run, &lost.prns)),
+            span(clock, lost.span)
+        ),
+    ))
+}
+
+fn no_place(run: &Run, clock: Clock) -> Option<Warning> {
+    let tags = run.tally(Outcome::NoPlace);
+    (tags.count > 0).then(|| {
+        Warning::new(
+            Grade::Note,
+            format!("No place for {}.", count(tags.count, "slow tag")),
+            format!(
+                "256 were waiting already. These say nothing for or against the data of {}, {}.",
+                which(run, &tags.prns),
+                span(clock, tags.span)
+            ),
+        )
+    })
+}
+
+/// What became of tags that waited: `3 authentic (68), 1 still waiting`.
+fn became(all: &Became) -> String {
+    let named = |what: &str, tags: &Tally| {
+        let text = format!("{} {what} (IODnav {})", tags.count, issues(&tags.issues));
+        (tags.count > 0).then_some(text)
+    };
+    let counted = |what: &str, n: u64| (n > 0).then(|| format!("{n} {what}"));
     let parts = [
-        some("authentic", &outcome(Outcome::Authentic), true),
-        some("wrong", &outcome(Outcome::Wrong), true),
-        some("still waiting", &|tag| tag.waits(), false),
-        some("given up", &|tag| tag.given_up, false),
+        named("authentic", &all.authentic),
+        named("wrong", &all.wrong),
+        counted("still waiting", all.waits),
+        counted("given up", all.given_up),
     ];
     Vec::from_iter(parts.into_iter().flatten()).join(", ")
 }
 
 fn changed(run: &Run, clock: Clock) -> Option<Warning> {
-    let changes: Vec<&WordsChanged> = run
+    let prns: BTreeSet<u8> = run.changed.iter().map(|change| change.prn).collect();
+    let any_wrong = run
         .changed
         .iter()
-        .filter(|change| !change.waited.is_empty())
-        .collect();
-    let prns: BTreeSet<u8> = changes.iter().map(|change| change.prn).collect();
-    let waited = |change: &&WordsChanged| change.waited.clone().into_iter();
-    let any_wrong = changes
-        .iter()
-        .flat_map(waited)
-        .any(|tag| run.tags[tag].record.outcome == Outcome::Wrong);
+        .any(|change| change.waited.wrong.count > 0);
     let rows = if prns.len() <= SINGLE_ROWS {
-        single_rows(run, clock, &changes)
+        single_rows(run, clock)
     } else {
-        joined_rows(run, clock, &changes)
+        joined_rows(run, clock)
     };
     let table = Table {
         head: vec![
@@ -243,6 +321,10 @@ fn changed(run: &Run, clock: Clock) -> Option<Warning> {
     } else {
         Grade::Note
     };
+    let more = match run.changes_left_out {
+        0 => String::new(),
+        n => format!(" {} not shown.", capital(count(n, "later change"))),
+    };
     (!prns.is_empty()).then(|| Warning {
         table: Some(table),
         ..Warning::new(
@@ -251,94 +333,56 @@ fn changed(run: &Run, clock: Clock) -> Option<Warning> {
                 "Data changed while slow tags waited: {}.",
                 which(run, &prns)
             ),
-            "Each slow tag was judged by the data held when it came, never by what came after: it \
-             can mark that data alone.",
+            format!(
+                "Each slow tag was judged by the data held when it came, never by what came after: \
+                 it can mark that data alone.{more}"
+            ),
         )
     })
 }
 
 /// A row a satellite.
-fn single_rows(run: &Run, clock: Clock, changes: &[&WordsChanged]) -> Vec<Vec<String>> {
+fn single_rows(run: &Run, clock: Clock) -> Vec<Vec<String>> {
     let mut satellites: BTreeMap<u8, Vec<&WordsChanged>> = BTreeMap::new();
-    for change in changes {
+    for change in &run.changed {
         satellites.entry(change.prn).or_default().push(change);
     }
     let when = |change: &&WordsChanged| {
         let (from, to) = (issue(change.from), issue(change.to));
         format!("{} ({from} to {to})", clock.say(change.at))
     };
-    let then = |change: &&WordsChanged| became(change.waited.iter().map(|&tag| &run.tags[tag]));
+    let then = |change: &&WordsChanged| became(&change.waited);
     let row = |(prn, changes): (u8, Vec<&WordsChanged>)| {
-        let last = run.marked_last(prn).map(|set| set.iodnav);
+        let last = run
+            .marked_last(prn)
+            .map(|set| format!("IODnav {}", set.iodnav));
         vec![
             format!("E{prn:02}"),
             Vec::from_iter(changes.iter().map(when)).join("\n"),
             Vec::from_iter(changes.iter().map(then)).join("\n"),
-            issues(last.into_iter()),
+            last.unwrap_or("none".into()),
         ]
     };
     satellites.into_iter().map(row).collect()
 }
 
 /// A row for all changes of one half minute.
-fn joined_rows(run: &Run, clock: Clock, changes: &[&WordsChanged]) -> Vec<Vec<String>> {
-    let mut times: BTreeMap<Gst, Vec<&WordsChanged>> = BTreeMap::new();
-    for change in changes {
-        times.entry(change.at).or_default().push(change);
+fn joined_rows(run: &Run, clock: Clock) -> Vec<Vec<String>> {
+    let mut times: BTreeMap<Gst, (BTreeSet<u8>, Became)> = BTreeMap::new();
+    for change in &run.changed {
+        let (prns, all) = times.entry(change.at).or_default();
+        prns.insert(change.prn);
+        all.join(&change.waited);
     }
-    let row = |(at, changes): (Gst, Vec<&WordsChanged>)| {
-        let prns: BTreeSet<u8> = changes.iter().map(|change| change.prn).collect();
-        let tags = changes.iter().flat_map(|change| &change.waited);
+    let row = |(at, (prns, all)): (Gst, (BTreeSet<u8>, Became))| {
         vec![
             which(run, &prns),
             clock.say(at),
-            became(tags.map(|&tag| &run.tags[tag])),
+            became(&all),
             "see the strips".into(),
         ]
     };
     times.into_iter().map(row).collect()
-}
-
-/// Satellites without a marked set: those whose words came, and those that sent none.
-fn not_marked(run: &Run) -> Vec<Warning> {
-    let of = |words: bool| -> BTreeSet<u8> {
-        let unmarked = |prn: &u8| !run.marked.contains_key(prn) && run.has_words(*prn) == words;
-        run.heard.iter().copied().filter(unmarked).collect()
-    };
-    let warning = |grade, words, why: &str| {
-        let prns = of(words);
-        let title = format!("Nothing marked for {}.", which(run, &prns));
-        (!prns.is_empty()).then(|| Warning::new(grade, title, why))
-    };
-    let told = [
-        warning(
-            Grade::Warning,
-            true,
-            "Its data was heard, but no tag has shown it to be authentic.",
-        ),
-        warning(
-            Grade::Note,
-            false,
-            "Heard, but without any of its words 1 to 5.",
-        ),
-    ];
-    told.into_iter().flatten().collect()
-}
-
-fn no_place(run: &Run, clock: Clock) -> Option<Warning> {
-    let tags = with(run, Outcome::NoPlace);
-    let prns: BTreeSet<u8> = tags.clone().map(|tag| tag.prn).collect();
-    (!prns.is_empty()).then(|| {
-        Warning::new(
-            Grade::Warning,
-            format!("No place for {}.", count(tags.clone().count(), "slow tag")),
-            format!(
-                "256 were waiting already. These say nothing of their satellites: {}, {}.",
-                which(run, &prns),
-                span(clock, tags.map(|tag| tag.time))
-            ),
-        )
-    })
 }
 
 fn not_taken(run: &Run, clock: Clock) -> Vec<Warning> {
@@ -353,17 +397,15 @@ fn not_taken(run: &Run, clock: Clock) -> Vec<Warning> {
         ),
     ];
     let warning = |(outcome, why): (Outcome, &str)| {
-        let tags = with(run, outcome);
-        let prns: BTreeSet<u8> = tags.clone().map(|tag| tag.sender).collect();
-        let n = tags.clone().count();
-        (n > 0).then(|| {
+        let tags = run.tally(outcome);
+        (tags.count > 0).then(|| {
             Warning::new(
                 Grade::Warning,
-                format!("{} not taken.", count(n, "tag")),
+                format!("{} not taken.", count(tags.count, "tag")),
                 format!(
                     "{why}: sent by {}, {}.",
-                    which(run, &prns),
-                    span(clock, tags.map(|tag| tag.time))
+                    which(run, &tags.senders),
+                    span(clock, tags.span)
                 ),
             )
         })
@@ -371,134 +413,110 @@ fn not_taken(run: &Run, clock: Clock) -> Vec<Warning> {
     reasons.into_iter().filter_map(warning).collect()
 }
 
-/// Sub-frames of which fields were lost: both halves in one.
-fn fields_missing(run: &Run, clock: Clock) -> Option<Warning> {
-    let lost = |part: Part| {
-        let of = move |r: &&Refused| r.part == part && r.refusal == Refusal::FieldsMissing;
-        run.refused.iter().filter(of)
-    };
-    // One lost field is enough for this half.
-    let (all, sections) = (lost(Part::Message), lost(Part::Section).count());
-    let prns: BTreeSet<u8> = all.clone().filter_map(|refused| refused.prn).collect();
-    let n = all.clone().count();
-    (n > 0).then(|| {
-        Warning::new(
-            Grade::Note,
-            format!("Fields missing in {}.", count(n, "sub-frame")),
-            format!(
-                "Ordinary under trees. Their message blocks were not taken (number 17){}. The rest \
-                 of each was used. {}, {}.",
-                match sections {
-                    0 => String::new(),
-                    _ => format!(
-                        "; nor {} whose first field was lost",
-                        count(sections, "section")
-                    ),
-                },
-                capital(which(run, &prns)),
-                span(clock, all.filter_map(|refused| refused.at))
-            ),
-        )
-    })
-}
-
 /// Tags that could not be judged for want of bits.
 fn bits_missing(run: &Run, clock: Clock) -> Option<Warning> {
-    let tags = with(run, Outcome::BitsMissing);
-    let senders: BTreeSet<u8> = tags.clone().map(|tag| tag.sender).collect();
-    let n = tags.clone().count();
-    (n > 0).then(|| {
+    let tags = run.tally(Outcome::BitsMissing);
+    (tags.count > 0).then(|| {
         Warning::new(
             Grade::Note,
-            format!("Bits missing of {}.", count(n, "tag")),
+            format!("Bits missing of {}.", count(tags.count, "tag")),
             format!(
                 "They, their key or their places in the section were lost, so that they say \
                  nothing for or against any data: sent by {}, {}.",
-                which(run, &senders),
-                span(clock, tags.map(|tag| tag.time))
+                which(run, &tags.senders),
+                span(clock, tags.span)
             ),
         )
     })
 }
 
-fn capital(mut text: String) -> String {
-    if let Some(first) = text.get_mut(..1) {
-        first.make_ascii_uppercase();
-    }
-    text
-}
-
 fn given_up(run: &Run) -> Option<Warning> {
-    let n = run.tags.iter().filter(|tag| tag.given_up).count();
-    (n > 0).then(|| {
+    (run.given_up > 0).then(|| {
         Warning::new(
             Grade::Note,
-            format!("{} given up.", count(n, "slow tag")),
+            format!("{} given up.", count(run.given_up, "slow tag")),
             "Their chain was dropped, or a new chain or a later root came before their keys.",
         )
     })
 }
 
-/// Refusals of one kind: what, why, and whether a chain was in force.
+/// Refusals by what and why; all of a stop in one.
 fn refusals(run: &Run, clock: Clock) -> Vec<Warning> {
-    let mut groups: BTreeMap<(Part, u32, bool), Vec<&Refused>> = BTreeMap::new();
-    // Missing fields are told by themselves.
-    let told = |refused: &&Refused| refused.refusal != Refusal::FieldsMissing;
-    for refused in run.refused.iter().filter(told) {
-        // Whether a chain was in force says something of a section alone.
-        let chain = refused.part == Part::Section && refused.chain;
-        let group = (refused.part, refused.refusal.number(), chain);
-        groups.entry(group).or_default().push(refused);
-    }
-    let groups = groups.into_values();
-    groups.map(|group| refusal(run, clock, &group)).collect()
+    let (stop, others): (Vec<&Refused>, Vec<&Refused>) = run
+        .refused
+        .all()
+        .partition(|sum| sum.refusal == Refusal::Stopped);
+    let mut all: Vec<Warning> = others
+        .into_iter()
+        .map(|sum| refusal(run, clock, sum))
+        .collect();
+    all.extend(after_stop(run, &stop));
+    all
 }
 
-fn refusal(run: &Run, clock: Clock, group: &[&Refused]) -> Warning {
-    let one = group[0];
-    let prns: BTreeSet<u8> = group.iter().filter_map(|refused| refused.prn).collect();
-    let when = span(clock, group.iter().filter_map(|refused| refused.at));
+fn after_stop(run: &Run, refused: &[&Refused]) -> Option<Warning> {
+    let (place, _) = run.stopped?;
+    let parts: Vec<String> = refused
+        .iter()
+        .map(|sum| count(sum.count, sum.part.name()))
+        .collect();
+    (!parts.is_empty()).then(|| {
+        Warning::new(
+            Grade::Warning,
+            format!("The core stopped in record {place}."),
+            format!(
+                "An emergency message, proved by the tree of public keys, stopped it. After it {} \
+                 came, and were refused (number 4).",
+                crate::words::listed(&parts)
+            ),
+        )
+    })
+}
+
+fn refusal(run: &Run, clock: Clock, sum: &Refused) -> Warning {
     let mut place = Vec::new();
-    if !prns.is_empty() {
-        place.push(which(run, &prns));
+    if !sum.prns.is_empty() {
+        place.push(which(run, &sum.prns));
     }
-    if !when.is_empty() {
-        place.push(when);
+    if sum.span.is_some() {
+        place.push(span(clock, sum.span));
     }
-    if group.len() == 1 || place.is_empty() {
-        place.push(format!("record {}", one.place));
+    if sum.count == 1 || place.is_empty() {
+        place.push(format!("record {}", sum.place));
     }
-    let place = capital(place.join(", "));
-    let (grade, why) = why(one);
-    let what = match one.part {
-        Part::Subframe => "sub-frame",
-        Part::Section => "section",
-        Part::Message => "message block",
-        Part::Verdict => "verdict",
-        Part::Word => "word",
-        Part::Start => "start",
-        Part::Kind => "record",
-    };
+    let (grade, why) = why(sum);
     Warning::new(
         grade,
-        format!("{} refused.", count(group.len(), what)),
-        format!("{why} (number {}). {}.", one.refusal.number(), place),
+        format!("{} refused.", count(sum.count, sum.part.name())),
+        format!(
+            "{why} (number {}). {}.",
+            sum.refusal.number(),
+            capital(place.join(", "))
+        ),
     )
 }
 
-/// A refusal in plain words.
-fn why(refused: &Refused) -> (Grade, &'static str) {
+/// A refusal in the engineer's words.
+fn why(sum: &Refused) -> (Grade, &'static str) {
     use Grade::{Note, Warning};
     use Part::{Kind, Message, Section, Start, Subframe, Verdict};
-    match (refused.part, refused.refusal) {
-        (Section, Refusal::NotInForce) if !refused.chain => (
-            Note,
-            "No chain was in force yet; a root must be vouched for first",
-        ),
-        (Section, Refusal::NotInForce) => (
-            Warning,
-            "It does not go with the chain in force, or its status says not to use it",
-        ),
+    match (sum.part, sum.refusal) {
+        (Section, Refusal::NotInForce) => match sum.keys {
+            Keys::NotYet => (
+                Note,
+                "No chain was in force yet; a root must be vouched for first",
+            ),
+            Keys::Withdrawn => (
+                Warning,
+                "The chain was dropped by status 3; a later root must be vouched for",
+            ),
+            Keys::InForce => (
+                Warning,
+                "It does not go with the chain in force, or its status says not to use it",
+            ),
+        },
+        (Message, Refusal::FieldsMissing) => (Note, "A field of the sub-frame was lost"),
+        (Section, Refusal::FieldsMissing) => (Note, "The first field of the sub-frame was lost"),
         (_, Refusal::KeyUnfit) => (
             Warning,
             "A key does not hash down to the one proved before, or a spare bit is set: damaged or \
@@ -546,27 +564,5 @@ fn why(refused: &Refused) -> (Grade, &'static str) {
         ),
         (Message, Refusal::NotNewer) => (Warning, "A public key that is not newer than those held"),
         _ => (Warning, "Refused"),
-    }
-}
-
-#[cfg(test)]
-mod tests {
-    use super::*;
-
-    #[test]
-    fn names() {
-        let of = |prns: &[u8]| satellites(&prns.iter().copied().collect());
-        assert_eq!(of(&[]), "none");
-        assert_eq!(of(&[4]), "E04");
-        assert_eq!(of(&[4, 11, 12, 27]), "E04, E11, E12 and E27");
-        assert_eq!(of(&[1, 2, 3, 4, 36]), "E01 to E04 and E36");
-        assert_eq!(of(&[0, 255]), "E00 and E255");
-    }
-
-    #[test]
-    fn issues_by_number() {
-        assert_eq!(issues([].into_iter()), "none");
-        assert_eq!(issues([110, 73, 110].into_iter()), "IODnav 73, 110");
-        assert_eq!(issues(0..5), "5 IODnav");
     }
 }

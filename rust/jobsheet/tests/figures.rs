@@ -3,16 +3,18 @@
 
 mod common;
 
-use common::{history, of_run, recording, recordings, second, Line};
-use jobsheet::history::History;
+use common::{history, lines, lines_of_run, of_run, recording, recordings, rows, second, Line};
+use jobsheet::history::{History, Reads};
 use jobsheet::receiver::{Answer, Receiver};
 use jobsheet::recording::{Reader, Record, RECORD_LEN};
 use jobsheet::sheet::Sheet;
+use jobsheet::time::Clock;
 use jobsheet::{csv, html, phone, text, time};
-use osnma::{Marks, Outcome, Refusal, TagRecord};
+use osnma::{AuthenticSet, Gst, Marks, Outcome, Refusal, TagRecord, WaitingMessage};
 use second_receiver::navdata::SET_LEN;
 use std::collections::{BTreeMap, BTreeSet};
 use std::fmt::Write;
+use std::sync::OnceLock;
 
 fn number(answer: Result<(), Refusal>) -> u32 {
     answer.err().map_or(0, Refusal::number)
@@ -46,22 +48,23 @@ fn answers_are_the_replays() {
     }
 }
 
-/// The recordings that have a sheet.
-fn shown() -> impl Iterator<Item = (&'static str, &'static [u8], History)> {
-    recordings().iter().filter_map(|(name, bytes)| {
-        let all = jobsheet::replay(&bytes[..], |_| ()).ok()?;
-        Some((name.as_str(), &bytes[..], all))
-    })
+/// The recordings that have a sheet, each with what the core answered.
+fn shown() -> impl Iterator<Item = (&'static str, &'static [u8], &'static History)> {
+    static ALL: OnceLock<Vec<Option<History>>> = OnceLock::new();
+    let replayed = |(_, bytes): &(String, Vec<u8>)| jobsheet::replay(&bytes[..], |_| ()).ok();
+    let all = ALL.get_or_init(|| recordings().iter().map(replayed).collect());
+    let both = recordings().iter().zip(all);
+    both.filter_map(|((name, bytes), all)| Some((name.as_str(), &bytes[..], all.as_ref()?)))
 }
 
 #[test]
 fn csv_has_every_tag_record() {
     let mut records = 0;
-    for (name, bytes, all) in shown() {
-        let text = csv::sheet(&all);
+    for (name, bytes, _) in shown() {
+        let text = rows(bytes);
         let mut rows = text.lines();
         assert_eq!(rows.next(), Some(csv::HEAD));
-        for line in second(bytes).1 {
+        for line in lines(name) {
             for tag in &line.tags {
                 let row: Vec<&str> = rows.next().unwrap().split(',').collect();
                 let n = |at: usize| row[at].parse::<u32>().unwrap();
@@ -112,13 +115,18 @@ fn sets(page: &str, class: &str) -> Vec<Shown> {
     all
 }
 
-/// Page and text of one run of a recording.
-fn run_page(name: &str, all: &History, run: usize) -> (String, String) {
+/// The sheet of one run of a recording.
+fn sheet_of(name: &str, all: &History, run: usize) -> Sheet {
     let one = History {
         runs: vec![all.runs[run].clone()],
         ..History::default()
     };
-    let sheet = Sheet::of(name, &one);
+    Sheet::of(name, &one, None)
+}
+
+/// Its page and text.
+fn run_page(name: &str, all: &History, run: usize) -> (String, String) {
+    let sheet = sheet_of(name, all, run);
     (html::page(&sheet), text::sheet(&sheet))
 }
 
@@ -128,8 +136,8 @@ fn marked_bytes_are_the_reads() {
     let mut compared = 0;
     for (name, bytes, all) in shown() {
         for run in 0..all.runs.len() {
-            let (_, _, receiver) = second(of_run(bytes, &all, run));
-            let (page, text) = run_page(name, &all, run);
+            let (_, _, receiver) = second(of_run(bytes, all, run));
+            let (page, text) = run_page(name, all, run);
             let mut shown = sets(&page, "set").into_iter();
             for prn in 1..=36 {
                 let mut set = [0; SET_LEN];
@@ -159,26 +167,38 @@ fn marked_bytes_are_the_reads() {
     assert!(compared > 200);
 }
 
-// Other bits under the same IODnav are another set: it has an entry of its own. The core's memory is
-// written by hand here, since no scenario marks such a set.
+/// Reads that give this set of every satellite.
+struct Given(AuthenticSet);
+
+impl Reads for Given {
+    fn set(&self, _: u8) -> Option<AuthenticSet> {
+        Some(self.0.clone())
+    }
+
+    fn message(&self) -> Option<WaitingMessage> {
+        None
+    }
+}
+
+// Other bits under the same IODnav are another set: it has an entry of its own. The read is made by
+// hand here, since no scenario marks such a set.
 #[test]
 fn same_iodnav_other_bits() {
     let bytes = recording("nominal");
     let (mut receiver, mut all) = (Receiver::new(), History::default());
+    let mut tags: Vec<TagRecord> = Vec::new();
     for record in Reader::new(&bytes[..]) {
         let record = record.unwrap();
         let answer = receiver.answer(&record);
         all.note(&record, &answer, receiver.core());
+        tags.extend(&answer.tags);
     }
     let set = receiver.core().read_set(18).unwrap();
-    let before = all.runs[0].marked[&18].len();
-    let judged = all.runs[0].judged.iter().rev();
-    let is = |tag: &TagRecord| tag.prn == 18 && tag.outcome == Outcome::Authentic;
-    let record = judged
-        .map(|j| j.record)
-        .find(|tag| is(tag) && tag.time == set.time);
-    let mut other = receiver.core().clone();
-    other.regions_mut().sets[17 * SET_LEN + 40] ^= 1;
+    let before = all.runs[0].marked[&18].kept.len();
+    let is = |tag: &&TagRecord| tag.prn == 18 && tag.outcome == Outcome::Authentic;
+    let record = tags.iter().rfind(|tag| is(tag) && tag.time == set.time);
+    let mut other = set.clone();
+    other.bytes[40] ^= 1;
     let subframe = Record::Subframe {
         prn: 1,
         time: set.time,
@@ -188,13 +208,13 @@ fn same_iodnav_other_bits() {
     let answer = Answer {
         first: Ok(()),
         second: Ok(()),
-        tags: vec![record.unwrap()],
+        tags: vec![*record.unwrap()],
     };
-    all.note(&subframe, &answer, &other);
-    let sets = &all.runs[0].marked[&18];
+    all.note(&subframe, &answer, &Given(other.clone()));
+    let sets = &all.runs[0].marked[&18].kept;
     assert_eq!(sets.len(), before + 1);
     assert_eq!(sets[before].iodnav, sets[before - 1].iodnav);
-    assert_eq!(sets[before].bytes, other.read_set(18).unwrap().bytes);
+    assert_eq!(sets[before].bytes, other.bytes);
     assert_eq!(sets[before - 1].bytes, set.bytes);
 }
 
@@ -241,7 +261,11 @@ fn what_a_mark_rests_on() {
                 shown[2].starts_with(&format!("slot {slot}; judged ")),
                 "{name}: {shown:?}"
             );
-            assert!(shown[2].contains(&time::clock(at)), "{name}: {shown:?}");
+            let clock = Clock::default();
+            assert!(
+                shown[2].contains(&clock.time_of_day(at)),
+                "{name}: {shown:?}"
+            );
             assert!(
                 shown[2].ends_with(&format!("record {place}")),
                 "{name}: {shown:?}"
@@ -296,7 +320,7 @@ fn chain_in_force() {
             ((p.cid, p.mf), p.nmack, bits, p.alpha, start, key)
         });
         assert_eq!(mine, other, "{name}");
-        let (page, text) = run_page(name, &all, all.runs.len() - 1);
+        let (page, text) = run_page(name, all, all.runs.len() - 1);
         let told = receiver
             .chain()
             .map_or("none in force at the end".into(), |chain| {
@@ -342,10 +366,22 @@ fn tags_that_stay() {
     assert!(verdicts > 10);
 }
 
-/// The signs of a satellite's strip in the page, without those laid over them.
-fn signs(page: &str, prn: u8) -> Vec<String> {
+/// The drawings of a page: those of the front, and all where the front has an overview.
+fn drawings(page: &str) -> (&str, &str) {
+    let (front, rest) = page
+        .split_once("<section class=\"back\">")
+        .unwrap_or((page, ""));
+    assert!(!rest.contains("data-strip"));
+    let (front, detail) = front
+        .split_once("<section class=\"detail\">")
+        .unwrap_or((front, front));
+    (front, detail)
+}
+
+/// The signs of a satellite's strip, without those laid over them.
+fn signs(drawings: &str, prn: u8) -> Vec<String> {
     let mut all = Vec::new();
-    let mut rest = page;
+    let mut rest = drawings;
     while let Some((mut strip, after)) = between(rest, &format!("data-strip=\"E{prn:02}\""), "</g>")
     {
         while let Some((sign, after)) = between(strip, "href=\"#", "\"") {
@@ -380,50 +416,102 @@ fn expected(outcomes: &[u8], refused: bool) -> &'static str {
 }
 
 /// What the strips of a run must show, from the second receiver's lines alone.
+#[derive(Default)]
 struct Expected {
     /// By arrival, sender, block and position: each tag's satellite and last outcome.
-    tags: BTreeMap<(u32, u8, u8, u8), (u8, u8)>,
+    tags: ByTag<(u8, u8)>,
     /// Satellites and times of sections that were refused.
     refused: BTreeSet<(u8, u32)>,
     times: BTreeSet<u32>,
+    /// Satellites with the times of their words and sub-frames.
+    heard: BTreeSet<(u8, u32)>,
+    /// After the last sub-frame of each time: when the tag of each satellite's set came.
+    marked: BTreeMap<u32, BTreeMap<u8, u32>>,
 }
 
 impl Expected {
-    fn of(run: &[u8]) -> Expected {
-        let mut all = Expected {
-            tags: BTreeMap::new(),
-            refused: BTreeSet::new(),
-            times: BTreeSet::new(),
-        };
-        for (line, bytes) in second(run).1.iter().zip(run.chunks_exact(RECORD_LEN)) {
-            match Record::of(bytes.try_into().unwrap()) {
-                Record::Subframe { prn, time, .. } if ![2, 3, 4].contains(&line.first) => {
-                    all.times.insert(time.bits());
-                    if line.second != 0 {
-                        all.refused.insert((prn, time.bits()));
-                    }
-                }
-                Record::Word { time, .. } if line.first == 0 => {
-                    all.times.insert(time.bits());
-                }
-                _ => {}
-            }
+    fn of(lines: &[Line], run: &[u8]) -> Expected {
+        let mut all = Expected::default();
+        let mut marked: BTreeMap<u8, u32> = BTreeMap::new();
+        for (line, bytes) in lines.iter().zip(run.chunks_exact(RECORD_LEN)) {
             for t in &line.tags {
                 let time = u32::from_be_bytes([t[8], t[9], t[10], t[11]]);
                 all.tags.insert((time, t[1], t[4], t[5]), (t[2], t[0]));
+                if t[0] == 1 {
+                    let last = marked.entry(t[2]).or_default();
+                    *last = time.max(*last);
+                }
+            }
+            match Record::of(bytes.try_into().unwrap()) {
+                Record::Subframe { prn, time, .. } if ![2, 3, 4].contains(&line.first) => {
+                    all.times.insert(time.bits());
+                    all.heard.insert((prn, time.bits()));
+                    if ![0, 4].contains(&line.second) {
+                        all.refused.insert((prn, time.bits()));
+                    }
+                    all.marked.insert(time.bits(), marked.clone());
+                }
+                Record::Word { prn, time, .. } if line.first == 0 => {
+                    all.times.insert(time.bits());
+                    all.heard.insert((prn, time.bits()));
+                }
+                _ => {}
             }
         }
         all
     }
 
-    fn signs(&self, prn: u8) -> Vec<&'static str> {
-        let sign = |&time: &u32| {
-            let at = self.tags.range((time, 0, 0, 0)..=(time, 255, 255, 255));
-            let of = at.filter(|(_, tag)| tag.0 == prn);
+    fn of_run(name: &str, bytes: &[u8], all: &History, run: usize) -> Expected {
+        Expected::of(lines_of_run(name, all, run), of_run(bytes, all, run))
+    }
+
+    /// The half minutes in cells of so many.
+    fn cells(&self, step: u64) -> Vec<Vec<u32>> {
+        let mut cells: BTreeMap<u64, Vec<u32>> = BTreeMap::new();
+        for &time in &self.times {
+            let number = time::seconds(Gst::from_bits(time)) / 30 / step;
+            cells.entry(number).or_default().push(time);
+        }
+        cells.into_values().collect()
+    }
+
+    fn signs(&self, prn: u8, step: u64) -> Vec<&'static str> {
+        let sign = |times: &Vec<u32>| {
+            let at = |&time: &u32| self.tags.range((time, 0, 0, 0)..=(time, 255, 255, 255));
+            let of = times.iter().flat_map(at).filter(|(_, tag)| tag.0 == prn);
             let outcomes: Vec<u8> = of.map(|(_, tag)| tag.1).collect();
-            expected(&outcomes, self.refused.contains(&(prn, time)))
+            let refused = times
+                .iter()
+                .any(|&time| self.refused.contains(&(prn, time)));
+            expected(&outcomes, refused)
         };
-        self.times.iter().map(sign).collect()
+        self.cells(step).iter().map(sign).collect()
+    }
+
+    /// How many half minutes of each cell a satellite was heard in, of how many.
+    fn heard(&self, prn: u8, step: u64) -> Vec<(usize, usize)> {
+        let heard = |times: &Vec<u32>| {
+            let own = times
+                .iter()
+                .filter(|&&time| self.heard.contains(&(prn, time)));
+            (own.count(), times.len())
+        };
+        self.cells(step).iter().map(heard).collect()
+    }
+
+    /// How many sets are at most so many half minutes old, at the least of each cell.
+    fn lately(&self, limit: u64, step: u64) -> Vec<Option<usize>> {
+        let seconds = |time: u32| time::seconds(Gst::from_bits(time));
+        let count = |time: &u32| {
+            let tags = self.marked.get(time)?.values();
+            let young = |tag: &&u32| (seconds(*time) - seconds(**tag)) / 30 <= limit;
+            Some(tags.filter(young).count())
+        };
+        let cells = self.cells(step);
+        cells
+            .iter()
+            .map(|times| times.iter().filter_map(count).min())
+            .collect()
     }
 }
 
@@ -445,12 +533,20 @@ fn letter(sign: &str) -> char {
 #[test]
 fn strips_are_the_replays_outcomes() {
     let mut seen: BTreeMap<&str, usize> = BTreeMap::new();
+    let mut overviews = 0;
     for (name, bytes, all) in shown() {
         for run in 0..all.runs.len() {
-            let right = Expected::of(of_run(bytes, &all, run));
-            let (page, text) = run_page(name, &all, run);
+            let right = Expected::of_run(name, bytes, all, run);
+            let (page, text) = run_page(name, all, run);
+            let shown = &sheet_of(name, all, run).runs[0];
+            let (front, detail) = drawings(&page);
+            // In the text a satellite that is not heard has blanks.
+            let text = text.replace(' ', ".");
+            let step = shown.overview.step;
+            overviews += usize::from(step > 1);
             for prn in 1..=36 {
-                let (right, shown) = (right.signs(prn), signs(&page, prn));
+                let few = right.signs(prn, step);
+                let (right, shown) = (right.signs(prn, 1), signs(detail, prn));
                 if shown.is_empty() {
                     assert!(
                         right.iter().all(|&sign| sign == "nothing"),
@@ -459,13 +555,14 @@ fn strips_are_the_replays_outcomes() {
                     continue;
                 }
                 assert_eq!(shown, right, "{name}, E{prn:02}");
+                assert_eq!(signs(front, prn), few, "{name}, E{prn:02}, overview");
                 right
                     .iter()
                     .for_each(|sign| *seen.entry(sign).or_default() += 1);
                 for row in right.chunks(60) {
                     let row: String = row.iter().map(|sign| letter(sign)).collect();
                     assert!(
-                        text.contains(&format!("  E{prn:02}  {row}")),
+                        text.contains(&format!("..E{prn:02}..{row}")),
                         "{name}, E{prn:02}"
                     );
                 }
@@ -473,4 +570,197 @@ fn strips_are_the_replays_outcomes() {
         }
     }
     assert_eq!(seen.len(), 9, "{seen:?}");
+    assert!(overviews > 0);
+}
+
+/// A number in an attribute.
+fn attribute(text: &str, name: &str) -> Option<usize> {
+    between(text, &format!("{name}=\"")[..], "\"")?
+        .0
+        .parse()
+        .ok()
+}
+
+// The rows over the strips: how many satellites were marked in the last 5 and 10 minutes.
+#[test]
+fn marked_lately() {
+    let mut counts = BTreeSet::new();
+    for (name, bytes, all) in shown() {
+        for run in 0..all.runs.len() {
+            let right = Expected::of_run(name, bytes, all, run);
+            let (page, _) = run_page(name, all, run);
+            let step = sheet_of(name, all, run).runs[0].overview.step;
+            let (front, detail) = drawings(&page);
+            for (drawings, step) in [(front, step), (detail, 1)] {
+                for limit in [10, 20] {
+                    let mut shown = Vec::new();
+                    let mut rest = drawings;
+                    while let Some((row, after)) =
+                        between(rest, &format!("data-lately=\"{limit}\""), "</g>")
+                    {
+                        for rect in row.split("<rect ").skip(1) {
+                            let count = attribute(rect, "data-count");
+                            let told = between(rect, "<text ", "</text>").unwrap().0;
+                            let told = told.split_once('>').unwrap().1;
+                            assert_eq!(told, count.map_or(String::new(), |n| n.to_string()));
+                            let few =
+                                rect.contains("class=\"few\"") || rect.contains("class=\"just\"");
+                            assert_eq!(few, count.is_some_and(|n| n <= 4), "{name}: {rect}");
+                            shown.extend(vec![count; attribute(rect, "data-cells").unwrap()]);
+                        }
+                        rest = after;
+                    }
+                    assert_eq!(
+                        shown,
+                        right.lately(limit, step),
+                        "{name}, run {run}, {limit}"
+                    );
+                    counts.extend(shown);
+                }
+            }
+        }
+    }
+    assert!(counts.len() > 8, "{counts:?}");
+}
+
+// The line under the cells: when the satellite was heard itself.
+#[test]
+fn heard_itself() {
+    let mut silent = 0;
+    for (name, bytes, all) in shown() {
+        for run in 0..all.runs.len() {
+            let right = Expected::of_run(name, bytes, all, run);
+            let sheet = sheet_of(name, all, run);
+            let (page, _) = run_page(name, all, run);
+            let (front, _) = drawings(&page);
+            let overview = &sheet.runs[0].overview;
+            let heard: BTreeSet<u8> = right.heard.iter().map(|(prn, _)| *prn).collect();
+            assert_eq!(sheet.runs[0].heard, heard.len(), "{name}");
+            assert!(
+                page.contains(&format!("<b>{} satellite", heard.len())),
+                "{name}"
+            );
+            for strip in &overview.rows {
+                let right = right.heard(strip.prn, overview.step);
+                let cells = strip.cells.iter().zip(&overview.columns);
+                let told: Vec<(usize, usize)> = cells
+                    .map(|(cell, head)| (cell.heard as usize, head.half_minutes as usize))
+                    .collect();
+                assert_eq!(told, right, "{name}, E{:02}", strip.prn);
+                // Lines drawn under the cells of the page.
+                let mut drawn = vec![false; right.len()];
+                let row = between(front, &format!("data-strip=\"E{:02}\"", strip.prn), "</g>")
+                    .unwrap()
+                    .0;
+                for line in row.split("class=\"heard\"").skip(1) {
+                    let from = attribute(line, "data-from").unwrap();
+                    drawn[from..from + attribute(line, "data-cells").unwrap()].fill(true);
+                }
+                let any: Vec<bool> = right.iter().map(|(own, _)| *own > 0).collect();
+                assert_eq!(drawn, any, "{name}, E{:02}", strip.prn);
+                silent += any.iter().filter(|heard| !**heard).count();
+            }
+        }
+    }
+    assert!(silent > 100);
+}
+
+// The table of wrong data: how many tags, when they came, what they were compared with, and what was
+// marked when the first came, when the last came, and at the end.
+#[test]
+fn story_of_wrong_data() {
+    let mut rows = 0;
+    for (name, _, all) in shown() {
+        for run in 0..all.runs.len() {
+            let shown = sheet_of(name, all, run);
+            let shown = &shown.runs[0];
+            let told = shown
+                .front
+                .iter()
+                .find(|warning| warning.title.starts_with("Wrong data for"));
+            let told = told.map_or(Vec::new(), |warning| warning.table.clone().unwrap().rows);
+            let right = story(lines_of_run(name, all, run), shown.clock);
+            assert_eq!(told, right, "{name}, run {run}");
+            let (page, text) = run_page(name, all, run);
+            for row in &right {
+                let fields: Vec<String> = row
+                    .iter()
+                    .map(|field| format!("<td>{field}</td>"))
+                    .collect();
+                assert!(page.contains(&fields.concat()), "{name}: {row:?}");
+                assert!(text.contains(&row[4]), "{name}");
+            }
+            rows += right.len();
+            // What the box says of it.
+            let of = format!("for {} of {} satellite", right.len(), shown.heard);
+            let wrong = shown.finding.title.contains("WRONG DATA")
+                || shown.finding.text.join(" ").contains("WRONG DATA");
+            assert_eq!(wrong, !right.is_empty(), "{name}: {:?}", shown.finding);
+            if wrong {
+                let words = format!("{} {}", shown.finding.title, shown.finding.text.join(" "));
+                assert!(words.contains(&of), "{name}: {words}");
+            }
+        }
+    }
+    assert!(rows > 20, "{rows}");
+}
+
+/// A set as a read gives it: IODnav and the time of its tag.
+type Set = (u16, u32);
+/// A wrong tag: its arrival, the IODnav that it was compared with, and the set then.
+type WrongTag = (u32, u16, Option<Set>);
+/// By arrival, sender, block and position.
+type ByTag<T> = BTreeMap<(u32, u8, u8, u8), T>;
+
+/// The rows of the table of wrong data, from the second receiver's lines.
+fn story(lines: &[Line], clock: Clock) -> Vec<Vec<String>> {
+    let mark = |mark: Option<Set>| {
+        mark.map_or("none".into(), |(iodnav, time)| {
+            format!("{iodnav} ({})", clock.say(Gst::from_bits(time)))
+        })
+    };
+    // Of each satellite: its set's IODnav and tag; what it was when each tag came; its wrong tags.
+    let mut marked: BTreeMap<u8, Set> = BTreeMap::new();
+    let mut then: ByTag<Option<Set>> = BTreeMap::new();
+    let mut wrong: BTreeMap<u8, Vec<WrongTag>> = BTreeMap::new();
+    for line in lines {
+        let before = marked.clone();
+        for t in &line.tags {
+            let time = u32::from_be_bytes([t[8], t[9], t[10], t[11]]);
+            let iodnav = u16::from_be_bytes([t[6], t[7]]);
+            let tag = (time, t[1], t[4], t[5]);
+            let known = *then.entry(tag).or_insert(before.get(&t[2]).copied());
+            if t[0] == 1 && marked.get(&t[2]).is_none_or(|set| set.1 <= time) {
+                marked.insert(t[2], (iodnav, time));
+            }
+            if t[0] == 2 {
+                wrong.entry(t[2]).or_default().push((time, iodnav, known));
+            }
+        }
+    }
+    let row = |(prn, tags): (u8, Vec<WrongTag>)| {
+        let first = tags.iter().min_by_key(|tag| tag.0).unwrap();
+        // Of those that came last the first judged.
+        let last = tags.iter().rev().max_by_key(|tag| tag.0).unwrap();
+        let (a, b) = (Gst::from_bits(first.0), Gst::from_bits(last.0));
+        let issues: BTreeSet<u16> = tags.iter().map(|tag| tag.1).collect();
+        let issues = match issues.len() {
+            1..=4 => Vec::from_iter(issues.iter().map(u16::to_string)).join(", "),
+            n => format!("{n} issues"),
+        };
+        vec![
+            format!("E{prn:02}"),
+            tags.len().to_string(),
+            if a == b {
+                clock.say(a)
+            } else {
+                clock.range(a, b)
+            },
+            issues,
+            mark(first.2),
+            mark(last.2),
+            mark(marked.get(&prn).copied()),
+        ]
+    };
+    wrong.into_iter().map(row).collect()
 }

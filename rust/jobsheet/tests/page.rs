@@ -3,19 +3,26 @@
 mod common;
 
 use common::{history, recording, recordings};
+use jobsheet::history::WordsChanged;
+use jobsheet::recording::RECORD_LEN;
 use jobsheet::sheet::Sheet;
+use jobsheet::time::Zone;
 use jobsheet::warnings::Grade;
 use jobsheet::{html, text};
+use std::collections::BTreeSet;
 use std::time::{Duration, Instant};
 
 fn sheet(name: &str) -> Sheet {
-    Sheet::of(name, &history(&recording(name)))
+    Sheet::of(name, &history(&recording(name)), None)
 }
 
-/// Titles and texts of the warnings of this grade.
+/// Titles and texts of the warnings of this grade, front and back.
 fn told(name: &str, grade: Grade) -> Vec<String> {
     let sheet = sheet(name);
-    let warnings = sheet.runs.iter().flat_map(|run| &run.warnings);
+    let warnings = sheet
+        .runs
+        .iter()
+        .flat_map(|run| run.front.iter().chain(&run.back));
     warnings
         .filter(|warning| warning.grade == grade)
         .map(|warning| format!("{} {}", warning.title, warning.text))
@@ -37,7 +44,7 @@ fn data_changed_while_a_slow_tag_waited() {
     let sheet = sheet("data_change");
     let run = &sheet.runs[0];
     let warning = run
-        .warnings
+        .back
         .iter()
         .find(|warning| warning.title == "Data changed while slow tags waited: E02.")
         .unwrap();
@@ -46,35 +53,49 @@ fn data_changed_while_a_slow_tag_waited() {
     assert!(row[1].ends_with("(66 to 500)"), "{row:?}");
     assert!(row[2].contains("authentic (IODnav 66)"), "{row:?}");
     assert_eq!(row[3], "IODnav 66");
-    let strip = run.strips.iter().find(|strip| strip.prn == 2).unwrap();
+    let strip = run
+        .overview
+        .rows
+        .iter()
+        .find(|strip| strip.prn == 2)
+        .unwrap();
     assert_eq!(strip.cells.iter().filter(|cell| cell.changed).count(), 1);
     assert!(run.marked.iter().all(|set| set.set.iodnav != 500));
     says(
         &told("data_change", Grade::Warning),
-        &["Wrong tags for E02."],
+        &["Wrong data for E02."],
     );
 }
 
 // A data change without a slow tag is no warning: with tags of ADKD 0 alone nothing waits.
 #[test]
 fn changes_are_marked_only_where_tags_waited() {
+    let mut changes = 0;
     for (name, bytes) in recordings() {
         let Ok(all) = jobsheet::replay(&bytes[..], |_| ()) else {
             continue;
         };
-        for (run, shown) in all.runs.iter().zip(&Sheet::of(name, &all).runs) {
-            let marks = shown.strips.iter().flat_map(|strip| &strip.cells);
-            let waited = run.changed.iter().filter(|c| !c.waited.is_empty());
+        for (run, shown) in all.runs.iter().zip(&Sheet::of(name, &all, None).runs) {
+            let strips = shown.detail.as_ref().unwrap_or(&shown.overview);
+            let marks = strips.rows.iter().flat_map(|strip| &strip.cells);
             assert_eq!(
                 marks.filter(|cell| cell.changed).count(),
-                waited
+                run.changed
+                    .iter()
                     .map(|c| (c.prn, c.at))
-                    .collect::<std::collections::BTreeSet<_>>()
+                    .collect::<BTreeSet<_>>()
                     .len(),
                 "{name}"
             );
+            let waited = |c: &WordsChanged| {
+                let w = &c.waited;
+                w.authentic.count + w.wrong.count + w.waits + w.given_up
+            };
+            assert!(run.changed.iter().all(|c| waited(c) > 0), "{name}");
+            changes += run.changed.len();
         }
     }
+    assert!(changes > 50);
 }
 
 #[test]
@@ -82,16 +103,17 @@ fn plain_words() {
     let warnings = |name| told(name, Grade::Warning);
     says(
         &warnings("fitter"),
-        &["Wrong tags for E04, E11, E19 and E27."],
+        &["Wrong data for E04, E11, E19 and E27."],
+    );
+    let notes = told("fitter", Grade::Note);
+    says(&notes, &["24 sections refused.", "All 12 satellites"]);
+    says(
+        &notes,
+        &["From 00:00:00 to 00:00:30 no keys were in force yet. Ordinary after switching on."],
     );
     says(
-        &told("fitter", Grade::Note),
-        &["24 sections refused.", "All 12 satellites"],
-    );
-    says(&warnings("full_sky"), &["No place for 1422 slow tags."]);
-    says(
-        &warnings("stopped"),
-        &["The core stopped at", "emergency message"],
+        &told("full_sky", Grade::Note),
+        &["No place for 1422 slow tags."],
     );
     says(&warnings("verdicts"), &["The signature chip said NO"]);
     says(&told("chain_renewal", Grade::Note), &["given up"]);
@@ -101,7 +123,271 @@ fn plain_words() {
     assert!(text::sheet(&sheet("nominal")).contains("Nothing to warn of."));
 }
 
-// Half an hour under trees: nothing to warn of, two notes on what was lost, and a sign of its own.
+/// The box of each part: title, text and what to do.
+fn boxes(bytes: &[u8]) -> Vec<String> {
+    let sheet = Sheet::of("x", &history(bytes), None);
+    let page = html::page(&sheet);
+    let told = |run: &jobsheet::sheet::RunSheet| {
+        let f = &run.finding;
+        let class = if f.good { "good" } else { "bad" };
+        assert!(page.contains(&format!("<section class=\"finding {class}\">")));
+        assert!(page.contains(&html::escaped(&f.title)));
+        format!("{} {} Do: {}", f.title, f.text.join(" "), f.to_do)
+    };
+    sheet.runs.iter().map(told).collect()
+}
+
+fn records(name: &str) -> Vec<Vec<u8>> {
+    let bytes = recording(name);
+    bytes.chunks_exact(RECORD_LEN).map(<[u8]>::to_vec).collect()
+}
+
+// The first words of the sheet, for what can happen in the field.
+#[test]
+fn findings() {
+    says(
+        &boxes(&recording("fitter")),
+        &[
+            "WRONG DATA came in from 00:12:30 to 00:17:00 for 4 of 12 satellites (E04, E11, E19 and E27). \
+             It was not taken: what was marked before stayed.",
+            "From 00:01:00 on never fewer than 12 satellites had a mark of the last 5 minutes; the boom needs 4.",
+            "Do: keep the recording.",
+            "repeater",
+        ],
+    );
+    for name in ["nominal", "trees"] {
+        let told = boxes(&recording(name));
+        says(
+            &told,
+            &["All data heard was authentic. 8 satellites with data, all marked."],
+        );
+        assert!(!told[0].contains("WRONG"), "{told:?}");
+    }
+    let told = boxes(&recording("emergency"));
+    says(
+        &told[..1],
+        &[
+            "STOPPED at 2017-10-20 00:01:30",
+            "nothing was taken (6 records)",
+            "do not spray",
+        ],
+    );
+    says(
+        &told[1..],
+        &["NOTHING WAS JUDGED: the system's keys were not heard whole."],
+    );
+    says(
+        &boxes(&recording("chain_revoked")),
+        &[
+            "THE SYSTEM WITHDREW ITS KEYS at 2017-10-20 00:02:00. New ones were taken at 2017-10-20 00:04:30.",
+            "3 satellites with data, all marked. E01 to E08 sent none.",
+            "At no time 4 satellites had a mark",
+        ],
+    );
+    let fitter = records("fitter");
+    says(
+        &boxes(&fitter[0]),
+        &["NOTHING WAS HEARD.", "Do: check the antenna"],
+    );
+    // A chip that never answers, and one that says no.
+    let without: Vec<u8> = fitter
+        .iter()
+        .filter(|r| r[0] != 4)
+        .flatten()
+        .copied()
+        .collect();
+    says(
+        &boxes(&without),
+        &["NOTHING WAS JUDGED: the system's keys have waited for the signature chip since 00:00:30."],
+    );
+    let no = |record: &Vec<u8>| {
+        let mut record = record.clone();
+        record[1] &= if record[0] == 4 { 0 } else { 255 };
+        record
+    };
+    let refused = fitter.iter().take(200).flat_map(no);
+    says(
+        &boxes(&Vec::from_iter(refused)),
+        &[
+            "NOTHING WAS JUDGED: the signature chip said NO to the keys, last at 00:00:30.",
+            "Keys have waited for the chip again since 00:01:00.",
+        ],
+    );
+    // The last root is dropped and none comes after it.
+    let revoked = records("chain_revoked");
+    let place = revoked
+        .iter()
+        .position(|r| r[0] == 4 && r[3] >> 6 == 3)
+        .unwrap();
+    says(
+        &boxes(&revoked[..=place].concat()),
+        &["THE SYSTEM WITHDREW ITS KEYS at 2017-10-20 00:02:00, and no new ones came."],
+    );
+    // Words without a tag for them.
+    let few: Vec<u8> = fitter[..140].concat();
+    says(&boxes(&few), &["NO DATA WAS PROVED."]);
+}
+
+// A tag that matches data which others call wrong: the page does not call that data proved. Every tag of
+// E04 that comes with the repeater's words is wrong but for one, made to match by the words of one satellite.
+#[test]
+fn disputed_data() {
+    let mut all = history(&recording("fitter"));
+    assert!(jobsheet::finding::disputed(&all.runs[0]).is_empty());
+    let data = all.runs[0].data.get_mut(&4).unwrap();
+    let wrong = (1..=data.now()).find(|n| data.stretches().nth(*n as usize - 1).unwrap().wrong > 0);
+    data.judge(wrong.unwrap(), true);
+    let sheet = Sheet::of("fitter", &all, None);
+    let text = sheet.runs[0].finding.text.join(" ");
+    assert!(
+        text.contains("For E04 a tag also MATCHED the data that others called wrong"),
+        "{text}"
+    );
+    assert!(!text.contains("It was not taken"), "{text}");
+    assert!(html::page(&sheet).contains("The same data called both authentic and wrong: E04."));
+}
+
+/// Times and words of the events.
+fn events(name: &str) -> Vec<String> {
+    let sheet = sheet(name);
+    let events = sheet.runs.iter().flat_map(|run| &run.events);
+    events
+        .map(|event| format!("{} {}", event.when, event.what))
+        .collect()
+}
+
+#[test]
+fn events_have_a_line_each() {
+    let told = events("chain_revoked");
+    assert_eq!(told.len(), 3, "{told:?}");
+    assert!(
+        told[0].starts_with("2017-10-19 23:59:30 Keys in force"),
+        "{told:?}"
+    );
+    assert!(
+        told[1].starts_with("2017-10-20 00:02:00 KEYS WITHDRAWN"),
+        "{told:?}"
+    );
+    assert!(
+        told[2].starts_with("2017-10-20 00:04:30 New keys in force: tags are judged again"),
+        "{told:?}"
+    );
+    says(
+        &events("chain_renewal"),
+        &["New keys in force, in place of the old ones."],
+    );
+    says(
+        &events("floating_root"),
+        &["The system signed the keys in force anew."],
+    );
+    says(&events("new_public_key"), &["New public key (9) in use"]);
+    says(
+        &events("stopped"),
+        &["STOPPED by the system's emergency message"],
+    );
+    says(&events("verdicts"), &["The signature chip said NO"]);
+    let page = html::page(&sheet("chain_revoked"));
+    assert!(page.contains(
+        "<dt class=\"alert\">2017-10-20 00:02:00</dt><dd class=\"alert\">KEYS WITHDRAWN"
+    ));
+    assert!(!page.contains("<h2>All events</h2>"));
+    // Many events: those that warn on the front, all on the back.
+    let mut many = sheet("chain_revoked");
+    let run = &mut many.runs[0];
+    run.events = [&run.events[..], &run.events, &run.events].concat();
+    let page = html::page(&many);
+    let (front, back) = page.split_once("<section class=\"back\">").unwrap();
+    assert_eq!(
+        front.matches("<dd class=\"alert\">KEYS WITHDRAWN").count(),
+        3
+    );
+    assert!(!front.contains("Keys in force") && front.contains("9 in all: see the back."));
+    let (_, all) = back.split_once("<h2>All events</h2>").unwrap();
+    assert_eq!(all.matches("<dd>Keys in force").count(), 3);
+}
+
+// Sections without a chain: before the first root ordinary, after a drop a warning.
+#[test]
+fn without_keys() {
+    let (warnings, notes) = (
+        told("chain_revoked", Grade::Warning),
+        told("chain_revoked", Grade::Note),
+    );
+    says(
+        &warnings,
+        &["From 2017-10-20 00:02:30 to 00:04:30 the keys were withdrawn."],
+    );
+    says(
+        &notes,
+        &["At 2017-10-19 23:59:30 no keys were in force yet. Ordinary after switching on."],
+    );
+    says(&warnings, &["The chain was dropped by status 3"]);
+}
+
+// What a stop refuses is one line: words, sub-frames and verdicts together.
+#[test]
+fn one_line_for_a_stop() {
+    let stop = records("stopped");
+    let mut bytes = stop.concat();
+    let last = |kind: u8| stop.iter().rfind(|r| r[0] == kind).unwrap();
+    for kind in [2, 3, 4] {
+        bytes.extend(last(kind));
+    }
+    let sheet = Sheet::of("stopped", &history(&bytes), None);
+    let run = sheet.runs.last().unwrap();
+    let lines: Vec<_> = run
+        .front
+        .iter()
+        .chain(&run.back)
+        .filter(|w| w.text.contains("number 4") || w.title.contains("stopped"))
+        .collect();
+    assert_eq!(lines.len(), 1, "{lines:#?}");
+    for part in ["sub-frame", "word", "1 verdict"] {
+        assert!(lines[0].text.contains(part), "{lines:?}");
+    }
+    let stops = run
+        .events
+        .iter()
+        .filter(|event| event.what.contains("STOPPED"));
+    assert_eq!(stops.count(), 1);
+}
+
+// A satellite that falls silent after five minutes: the line under its cells ends, and a note says so.
+#[test]
+fn silent_satellite() {
+    let mut records = records("fitter");
+    let time = |r: &[u8]| u32::from_be_bytes([r[2], r[3], r[4], r[5]]);
+    let begin = records
+        .iter()
+        .filter(|r| r[0] == 3)
+        .map(|r| time(r))
+        .min()
+        .unwrap();
+    records.retain(|r| ![2, 3].contains(&r[0]) || r[1] != 1 || time(r) < begin + 300);
+    let bytes = records.concat();
+    let sheet = Sheet::of("silent", &history(&bytes), None);
+    let run = &sheet.runs[0];
+    let strip = &run.overview.rows[0];
+    let heard = strip.cells.iter().map(|cell| cell.heard);
+    assert_eq!(
+        (strip.prn, heard.collect::<Vec<_>>()),
+        (1, [[1; 10].as_slice(), &[0; 50]].concat())
+    );
+    let note = run
+        .front
+        .iter()
+        .find(|w| w.title == "Not heard to the end: E01.")
+        .unwrap();
+    assert!(note.text.contains("E01 at 00:04:30"), "{note:?}");
+    let text = text::sheet(&sheet);
+    let row = text
+        .lines()
+        .find(|line| line.starts_with("  E01  "))
+        .unwrap();
+    assert!(row.ends_with("heard to 00:04:30"), "{row}");
+}
+
+// Half an hour under trees: nothing to warn of, two notes on what was lost.
 #[test]
 fn lost_fields() {
     for name in ["trees", "trees_1", "trees_3"] {
@@ -110,26 +396,78 @@ fn lost_fields() {
         says(
             &notes,
             &[
-                "Fields missing in",
-                "sub-frames. Ordinary under trees.",
-                "(number 17); nor ",
-                "sections whose first field was lost. The rest",
+                "Reception was broken in ",
+                "half minutes of satellites. Ordinary under trees. What came was used; of ",
+                "the part with the tags could not be.",
             ],
         );
         says(&notes, &["Bits missing of", "tags."]);
-        assert_eq!(notes.iter().filter(|t| t.contains("issing")).count(), 2);
-        assert!(notes.iter().all(|t| !t.contains("blocks refused")));
+        says(
+            &notes,
+            &["message blocks refused. A field of the sub-frame was lost (number 17)."],
+        );
         let sheet = sheet(name);
         let page = html::page(&sheet);
         assert!(page.contains("<use href=\"#missing\""), "{name}");
         assert!(page.contains("with bits missing</dd>"), "{name}");
         assert!(text::sheet(&sheet).contains(": missing"));
-        let csv = jobsheet::csv::sheet(&history(&recording(name)));
+        let csv = common::rows(&recording(name));
         assert!(csv.contains(",8,bits missing,"), "{name}");
     }
     // Where nothing is lost nothing is said of it.
     let page = html::page(&sheet("nominal"));
-    assert!(!page.contains("bits missing<") && !page.contains("Fields missing"));
+    assert!(!page.contains("bits missing<") && !page.contains("Reception was broken"));
+}
+
+// Local time by a zone: every time on the sheet moves, and what they are is said once.
+#[test]
+fn local_time() {
+    let all = history(&recording("fitter"));
+    let zone: Zone = "+02:00".parse().unwrap();
+    let page = html::page(&Sheet::of("fitter", &all, Some(zone)));
+    assert!(page.contains("WRONG DATA came in from 02:12:12 to 02:16:42 for 4 of 12"));
+    assert!(page.contains("2017-10-20 01:59:42 to 02:29:12"));
+    assert!(page.contains("class=\"axis\">02:05</text>"));
+    assert_eq!(page.matches("UTC + 18").count(), 1);
+    assert!(page.contains("local time (UTC+02:00)"));
+    assert!(!page.contains("00:12:30"));
+    let gst = html::page(&Sheet::of("fitter", &all, None));
+    assert_eq!(gst.matches("UTC + 18").count(), 1);
+    assert!(gst.contains("class=\"axis\">00:05</text>"));
+}
+
+// On the front no word that only the papers explain; the back has them.
+#[test]
+fn front_in_plain_words() {
+    for (name, bytes) in recordings() {
+        let Ok(all) = jobsheet::replay(&bytes[..], |_| ()) else {
+            continue;
+        };
+        let page = html::page(&Sheet::of("x", &all, None));
+        for part in page.split("<main>").skip(1) {
+            let (front, back) = part.split_once("<section class=\"back\">").unwrap();
+            let words = front.replace("<section", "").replace("</section", "");
+            for word in [
+                "root",
+                "chain",
+                "MACLT",
+                "CID",
+                "IODnav",
+                "sub-frame",
+                "section",
+                "MACK",
+                "DSM",
+                "ADKD",
+                "verdict",
+                "number 1",
+                "slot",
+                "status",
+            ] {
+                assert!(!words.contains(word), "{name}: {word}");
+            }
+            assert!(back.contains("MACLT"), "{name}");
+        }
+    }
 }
 
 // The strips and tables of the fitter's half hour, and of one under trees, fit a terminal of 100 columns.
@@ -142,14 +480,25 @@ fn text_is_narrow() {
     }
 }
 
-// Warnings come before everything but the title.
+// What it comes to stands first, then the strips, what happened, and at last the back.
 #[test]
-fn warnings_first() {
+fn front_before_back() {
     let page = html::page(&sheet("fitter"));
-    let at = |part: &str| page.find(part).unwrap();
-    assert!(at("<h2>Warnings") < at("<h2>Recording"));
-    assert!(at("<h2>Recording") < at("<h2>What was authentic when"));
-    assert!(at("<h2>What was authentic when") < at("<h2>Marked bytes"));
+    let order = [
+        "<h1>Job sheet</h1>",
+        "<section class=\"finding bad\">",
+        "<h2>What was authentic when",
+        "<h2>Events",
+        "<h2>Warnings",
+        "<h2>For the engineer",
+        "<h2>Marked bytes",
+    ];
+    let places: Vec<usize> = order.iter().map(|part| page.find(part).unwrap()).collect();
+    assert!(places.is_sorted(), "{places:?}");
+    // Counts are of satellites heard, not of those that others' tags name.
+    let revoked = html::page(&sheet("outcomes"));
+    let heard = history(&recording("outcomes")).runs[0].heard.len();
+    assert!(revoked.contains(&format!("<b>{heard} satellite")));
 }
 
 // No network, no script; a name cannot leave its place; every element that is opened is closed.
@@ -163,7 +512,7 @@ fn page_stands_alone() {
         "records",
         "trees",
     ] {
-        let sheet = Sheet::of("<a&\"'b>.rec", &history(&recording(name)));
+        let sheet = Sheet::of("<a&\"'b>.rec", &history(&recording(name)), None);
         let page = html::page(&sheet);
         assert!(page.contains("&lt;a&amp;&quot;&#39;b&gt;.rec"));
         for foreign in [
@@ -181,14 +530,112 @@ fn page_stands_alone() {
     }
 }
 
-// A core that was started again: a part for each start.
+// A receiver that was started again: a part for each start, and all that they come to on the first page.
 #[test]
 fn several_starts() {
-    let sheet = sheet("emergency");
-    assert_eq!(sheet.runs.len(), 2);
-    let page = html::page(&sheet);
+    let first = sheet("emergency");
+    assert_eq!(first.runs.len(), 2);
+    let page = html::page(&first);
     assert!(page.contains("Part 1 of 2") && page.contains("Part 2 of 2"));
-    assert!(page.contains("The core was started 2 times."));
+    assert!(page.contains("The receiver was started 2 times."));
+    let front = page.split("</ul>").next().unwrap();
+    assert!(front.contains("Part 1: STOPPED at 2017-10-20 00:01:30"));
+    assert!(front.contains("Part 2: NOTHING WAS JUDGED"));
+}
+
+// More starts than parts: the last have one, and what the others came to is said.
+#[test]
+fn many_starts() {
+    let three = [recording("emergency"), recording("data_change")].concat();
+    let all = history(&three.repeat(30));
+    assert_eq!((all.runs.len(), all.left_out.runs), (64, 26));
+    assert_eq!(all.left_out.stopped, 9);
+    let sheet = Sheet::of("many", &all, None);
+    let page = html::page(&sheet);
+    assert!(page.contains("Part 27 of 90") && page.contains("Part 90 of 90"));
+    assert!(!page.contains("Part 26 of 90"));
+    let told = format!(
+        "Parts 1 to 26 are left out: {} wrong tags in them, 9 of them stopped.",
+        all.left_out.wrong_tags
+    );
+    assert!(
+        all.left_out.wrong_tags > 0 && page.contains(&told),
+        "{told}"
+    );
+}
+
+// A recording that ends in a record: a bar over every part, and the same in every foot.
+#[test]
+fn cut_short() {
+    let whole = recording("emergency");
+    let all = history(&whole[..whole.len() - 100]);
+    let sheet = Sheet::of("cut", &all, None);
+    let page = html::page(&sheet);
+    assert_eq!(all.records, 71);
+    assert_eq!(
+        page.matches(
+            "<p class=\"cut\"><b>CUT SHORT in record 72.</b> It ends after 156 of 256 bytes."
+        )
+        .count(),
+        2
+    );
+    assert_eq!(page.matches("<footer>CUT SHORT in record 72 ").count(), 2);
+    assert!(page.contains("@bottom-left { content: \"CUT SHORT in record 72 "));
+    assert!(text::sheet(&sheet).starts_with("CUT SHORT in record 72."));
+    assert!(!html::page(&Sheet::of("whole", &history(&whole), None)).contains("CUT SHORT"));
+}
+
+// Which recording it is: SHA-256 of all its bytes, also those of a record that is not whole.
+#[test]
+fn hash_of_the_recording() {
+    let whole = recording("nominal");
+    for bytes in [&whole[..], &whole[..whole.len() - 7]] {
+        let sheet = Sheet::of("x", &history(bytes), None);
+        let right: String = portable_hash::sha256(bytes)
+            .iter()
+            .map(|b| format!("{b:02X}"))
+            .collect();
+        assert_eq!(sheet.sha256, right);
+        let foot = format!(
+            "jobsheet {0}, osnma {0} \u{b7} recording's SHA-256 {right}",
+            env!("CARGO_PKG_VERSION")
+        );
+        let page = html::page(&sheet);
+        assert!(page.contains(&format!("{foot}\"")), "foot on paper");
+        assert!(page.contains(&html::escaped(&foot)), "foot on the screen");
+        assert!(text::sheet(&sheet).contains(&right));
+    }
+}
+
+// However much comes, what is kept is bounded.
+#[test]
+fn bounded() {
+    let start = records("fitter")[0].clone();
+    // Records of no kind, words of times far apart, sub-frames with another time each, starts.
+    let mut word = [0; RECORD_LEN];
+    let mut other = Vec::from_iter((0..20_000).map(|_| [0u8; RECORD_LEN]));
+    for n in 0..20_000u32 {
+        let time = (n / 700) << 20 | (n % 700) * 840;
+        word[..2].copy_from_slice(&[2, (n % 36) as u8 + 1]);
+        word[2..6].copy_from_slice(&time.to_be_bytes());
+        word[6..8].copy_from_slice(&[4, n as u8]);
+        other.push(word);
+        let mut subframe = word;
+        subframe[0] = 3;
+        other.push(subframe);
+    }
+    let bytes = [start, other.concat()].concat();
+    let all = history(&bytes);
+    let run = &all.runs[0];
+    assert!(run.timeline.len() <= jobsheet::timeline::COLUMNS && run.timeline.step() > 1);
+    assert!(run.refused.all().count() < 10, "{:?}", run.refused);
+    assert!(run
+        .data
+        .values()
+        .all(|data| data.stretches().count() <= jobsheet::data::STRETCHES));
+    let sheet = Sheet::of("x", &all, None);
+    assert!(sheet.runs[0].overview.columns.len() <= jobsheet::sheet::FRONT_COLUMNS);
+    assert!(html::page(&sheet).len() < 12 << 20);
 }
 
 // Half an hour of 36 satellites in under two seconds, page and all.
@@ -196,7 +643,7 @@ fn several_starts() {
 fn full_sky_is_quick() {
     let bytes = recording("full_sky");
     let began = Instant::now();
-    let page = html::page(&Sheet::of("full_sky", &history(&bytes)));
+    let page = html::page(&Sheet::of("full_sky", &history(&bytes), None));
     let took = began.elapsed();
     assert!(page.len() > 100_000);
     assert!(

@@ -2,12 +2,14 @@
 
 mod common;
 
-use common::{history, recording};
+use common::{history, recording, rows};
 use jobsheet::sheet::Sheet;
-use jobsheet::{csv, html, text};
+use jobsheet::{html, text};
 use std::fs;
+use std::os::unix::fs::{lchown, symlink, FileTypeExt, MetadataExt, PermissionsExt};
+use std::os::unix::process::CommandExt;
 use std::path::{Path, PathBuf};
-use std::process::{Command, Output};
+use std::process::{Command, Output, Stdio};
 
 /// A folder of this test's own.
 fn folder(test: &str) -> PathBuf {
@@ -37,7 +39,7 @@ fn forms_and_outputs() {
     let bytes = recording("nominal");
     fs::write(folder.join("run.rec"), &bytes).unwrap();
     let all = history(&bytes);
-    let sheet = Sheet::of("run.rec", &all);
+    let sheet = Sheet::of("run.rec", &all, None);
 
     let output = jobsheet(&folder, &["run.rec"]);
     assert!(output.status.success() && output.stdout.is_empty());
@@ -50,10 +52,23 @@ fn forms_and_outputs() {
     assert_eq!(output.stdout, text::sheet(&sheet).as_bytes());
     let output = jobsheet(&folder, &["--csv", "run.rec", "-o", "tags.csv"]);
     assert!(output.status.success());
-    let rows = fs::read_to_string(folder.join("tags.csv")).unwrap();
-    assert_eq!(rows, csv::sheet(&all));
+    let written = fs::read_to_string(folder.join("tags.csv")).unwrap();
+    assert_eq!(written, rows(&bytes));
+    let output = jobsheet(&folder, &["run.rec", "--text", "--zone", "-3"]);
+    let local = Sheet::of("run.rec", &all, "-3".parse().ok());
+    assert_eq!(output.stdout, text::sheet(&local).as_bytes());
     assert_eq!(names(&folder), ["run.html", "run.rec", "tags.csv"]);
-    assert!(jobsheet(&folder, &["--help"]).status.success());
+    let help = jobsheet(&folder, &["--help"]);
+    assert!(help.status.success());
+    let help = String::from_utf8(help.stdout).unwrap();
+    for part in [
+        "--zone",
+        "Exit status: 0",
+        "3 it is written",
+        "Memory: at most",
+    ] {
+        assert!(help.contains(part), "{part}");
+    }
 }
 
 // Exit status 2, a message that names the file, and nothing written; what was there stays.
@@ -61,12 +76,11 @@ fn forms_and_outputs() {
 fn bad_input() {
     let folder = folder("bad");
     let good = recording("nominal");
-    let short = &good[..good.len() - 1];
     let mut no_start = recording("nominal");
     no_start[1] = 37;
     let cases: [(&str, &[u8], &str); 6] = [
         ("empty", b"", "is empty"),
-        ("short", short, "ends in the middle of record"),
+        ("cut_text", &[b'<'; 700], "is no recording"),
         (
             "tiny",
             &good[..5],
@@ -120,10 +134,187 @@ fn files_that_cannot_be_read_or_written() {
     assert_eq!(names(&folder), ["folder", "run.rec"]);
 }
 
+// Exit status 3: the whole records of a recording that is cut short have a sheet, and it says so.
+#[test]
+fn cut_short() {
+    let folder = folder("cut");
+    let good = recording("nominal");
+    let cut = &good[..good.len() - 1];
+    fs::write(folder.join("cut.rec"), cut).unwrap();
+    let sheet = Sheet::of("cut.rec", &history(cut), None);
+    let output = jobsheet(&folder, &["cut.rec"]);
+    let message = String::from_utf8(output.stderr).unwrap();
+    let place = good.len() / 256;
+    assert_eq!(output.status.code(), Some(3), "{message}");
+    assert!(
+        message.contains(&format!("cut.rec is CUT SHORT in record {place}")),
+        "{message}"
+    );
+    let page = fs::read_to_string(folder.join("cut.html")).unwrap();
+    assert_eq!(page, html::page(&sheet));
+    let output = jobsheet(&folder, &["cut.rec", "--csv"]);
+    assert_eq!(
+        (output.status.code(), output.stdout),
+        (Some(3), rows(cut).into_bytes())
+    );
+    let output = jobsheet(&folder, &["cut.rec", "--text"]);
+    assert_eq!(output.status.code(), Some(3));
+    assert!(output.stdout.starts_with(b"CUT SHORT in record "));
+}
+
+// Links are followed, and a file keeps its mode.
+#[test]
+fn links_and_modes() {
+    let folder = folder("links");
+    fs::write(folder.join("run.rec"), recording("nominal")).unwrap();
+    let page = jobsheet(&folder, &["run.rec", "-o", "-"]).stdout;
+    fs::create_dir(folder.join("sheets")).unwrap();
+    let old = folder.join("sheets/old.html");
+    fs::write(&old, "from before").unwrap();
+    fs::set_permissions(&old, fs::Permissions::from_mode(0o640)).unwrap();
+    symlink("sheets/old.html", folder.join("link.html")).unwrap();
+    symlink("link.html", folder.join("second.html")).unwrap();
+    symlink("sheets/new.html", folder.join("nowhere.html")).unwrap();
+    for (link, target) in [
+        ("link.html", "old"),
+        ("second.html", "old"),
+        ("nowhere.html", "new"),
+    ] {
+        let output = jobsheet(&folder, &["run.rec", "-o", link]);
+        assert!(output.status.success(), "{output:?}");
+        assert!(
+            fs::symlink_metadata(folder.join(link))
+                .unwrap()
+                .is_symlink(),
+            "{link}"
+        );
+        let target = folder.join(format!("sheets/{target}.html"));
+        assert_eq!(fs::read(&target).unwrap(), page, "{link}");
+        fs::write(&target, "from before").unwrap();
+    }
+    let mode = fs::metadata(&old).unwrap().permissions().mode();
+    assert_eq!(mode & 0o7777, 0o640);
+    assert_eq!(names(&folder.join("sheets")), ["new.html", "old.html"]);
+    symlink("round.html", folder.join("round.html")).unwrap();
+    let output = jobsheet(&folder, &["run.rec", "-o", "round.html"]);
+    assert_eq!(output.status.code(), Some(1), "{output:?}");
+}
+
+/// The same program as an ordinary user. Where this is root, the program is copied into the folder,
+/// which every user reaches, and all of it is made that user's.
+fn as_ordinary_user(folder: &Path, args: &[&str]) -> Command {
+    const NOBODY: u32 = 65_534;
+    if !is_root() {
+        let mut command = Command::new(env!("CARGO_BIN_EXE_jobsheet"));
+        command.current_dir(folder).args(args);
+        return command;
+    }
+    let program = folder.join("jobsheet");
+    fs::copy(env!("CARGO_BIN_EXE_jobsheet"), &program).unwrap();
+    for name in names(folder).iter().map(Path::new).chain([Path::new("")]) {
+        lchown(folder.join(name), Some(NOBODY), Some(NOBODY)).unwrap();
+    }
+    let mut command = Command::new(program);
+    command
+        .current_dir(folder)
+        .args(args)
+        .uid(NOBODY)
+        .gid(NOBODY);
+    command
+}
+
+fn is_root() -> bool {
+    fs::metadata("/proc/self").is_ok_and(|own| own.uid() == 0)
+}
+
+// A device and a pipe are written into, by an ordinary user too, and stay what they are.
+#[test]
+fn devices_and_pipes() {
+    // A folder that every user reaches.
+    let folder = std::env::temp_dir().join(format!("jobsheet-{}", std::process::id()));
+    fs::create_dir_all(&folder).unwrap();
+    fs::write(folder.join("run.rec"), recording("nominal")).unwrap();
+    let page = jobsheet(&folder, &["run.rec", "-o", "-"]).stdout;
+    let made = Command::new("mkfifo")
+        .arg(folder.join("pipe"))
+        .status()
+        .unwrap();
+    assert!(made.success());
+    symlink("pipe", folder.join("to_pipe")).unwrap();
+
+    let output = as_ordinary_user(&folder, &["run.rec", "-o", "/dev/null"])
+        .output()
+        .unwrap();
+    assert!(output.status.success(), "{output:?}");
+    assert!(fs::metadata("/dev/null")
+        .unwrap()
+        .file_type()
+        .is_char_device());
+
+    for name in ["pipe", "to_pipe"] {
+        for (form, right) in [
+            (&[][..], &page),
+            (&["--csv"], &rows(&recording("nominal")).into_bytes()),
+        ] {
+            let args = [&["run.rec", "-o", name], form].concat();
+            let mut child = as_ordinary_user(&folder, &args)
+                .stderr(Stdio::piped())
+                .spawn()
+                .unwrap();
+            let read = fs::read(folder.join("pipe")).unwrap();
+            assert!(child.wait().unwrap().success());
+            assert_eq!(read.len(), right.len(), "{name}");
+            assert!(&read == right, "{name}");
+        }
+        assert!(fs::metadata(folder.join(name))
+            .unwrap()
+            .file_type()
+            .is_fifo());
+    }
+    fs::remove_dir_all(&folder).unwrap();
+}
+
+// A reader that goes away is no panic: status 1 and a message.
+#[test]
+fn closed_pipe() {
+    let folder = folder("closed");
+    fs::write(folder.join("run.rec"), recording("nominal")).unwrap();
+    for args in [
+        &["run.rec", "--text"][..],
+        &["run.rec", "--csv"],
+        &["run.rec", "-o", "-"],
+        &["--help"],
+    ] {
+        let (reader, writer) = std::io::pipe().unwrap();
+        drop(reader);
+        let mut command = Command::new(env!("CARGO_BIN_EXE_jobsheet"));
+        command.current_dir(&folder).args(args).stdout(writer);
+        let output = command.output().unwrap();
+        let message = String::from_utf8(output.stderr).unwrap();
+        assert_eq!(output.status.code(), Some(1), "{args:?}: {message}");
+        assert!(
+            message.contains("standard output") && !message.contains("panicked"),
+            "{message}"
+        );
+        // Nor is a closed standard error.
+        let (reader, writer) = std::io::pipe().unwrap();
+        drop(reader);
+        let mut command = Command::new(env!("CARGO_BIN_EXE_jobsheet"));
+        command
+            .current_dir(&folder)
+            .args(["nothing.rec"])
+            .stderr(writer);
+        assert_eq!(command.status().unwrap().code(), Some(2));
+    }
+}
+
 #[test]
 fn usage() {
     let folder = folder("usage");
-    let wrong: [&[&str]; 6] = [
+    let wrong: [&[&str]; 9] = [
+        &["a", "--zone"],
+        &["a", "--zone", "CET"],
+        &["a", "--zone", "+1", "--zone", "+2"],
         &[],
         &["a", "b"],
         &["a", "-o"],

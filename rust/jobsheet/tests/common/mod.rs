@@ -3,11 +3,13 @@
 // Each test file uses some of this.
 #![allow(dead_code)]
 
+use jobsheet::csv::Rows;
 use jobsheet::history::History;
 use jobsheet::recording::RECORD_LEN;
 use second_receiver::replay::replay;
 use second_receiver::Receiver;
 use signal::scenario::{self, SEED};
+use std::collections::BTreeMap;
 use std::sync::OnceLock;
 
 /// Chains of a million slots and more, which other tests walk.
@@ -43,8 +45,15 @@ pub fn history(recording: &[u8]) -> History {
     jobsheet::replay(recording, |_| ()).unwrap()
 }
 
+/// The rows of a recording, through the program's own library.
+pub fn rows(recording: &[u8]) -> String {
+    let mut rows = Rows::new(Vec::new());
+    jobsheet::replay(recording, |history| rows.note(history)).unwrap();
+    String::from_utf8(rows.finish().unwrap()).unwrap()
+}
+
 /// One line of the second receiver's replay and the tag records under it.
-#[derive(Debug)]
+#[derive(Clone, Debug)]
 pub struct Line {
     pub place: u64,
     pub first: u32,
@@ -77,6 +86,25 @@ pub fn second(recording: &[u8]) -> (String, Vec<Line>, Receiver) {
         }
     }
     (text, lines, receiver)
+}
+
+/// The second receiver's lines of each of [`recordings`], replayed once.
+pub fn lines(name: &str) -> &'static [Line] {
+    static ALL: OnceLock<BTreeMap<&str, Vec<Line>>> = OnceLock::new();
+    let replayed = |(name, bytes): &'static (String, Vec<u8>)| (name.as_str(), second(bytes).1);
+    let all = ALL.get_or_init(|| recordings().iter().map(replayed).collect());
+    &all[name]
+}
+
+/// The lines of one run.
+pub fn lines_of_run(name: &str, history: &History, run: usize) -> &'static [Line] {
+    let from = history.runs[run].place as usize - 1;
+    let next = history
+        .runs
+        .get(run + 1)
+        .map(|next| next.place as usize - 1);
+    let lines = lines(name);
+    &lines[from..next.unwrap_or(lines.len())]
 }
 
 /// The records of one run. Its start forgets everything, so they alone are the same run again.

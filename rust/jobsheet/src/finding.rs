@@ -1,0 +1,440 @@
+//! What a run comes to, in a few plain sentences: read first, and without the papers.
+
+use crate::boom::{LIMITS, NEEDED};
+use crate::history::{Event, Mark, Run, What, WrongTags};
+use crate::time::{self, Clock, SUBFRAME};
+use crate::vouched::Keys;
+use crate::words::{capital, count, issues, satellites, which};
+use osnma::Gst;
+use std::collections::{BTreeMap, BTreeSet};
+
+/// The first words of a run's part of the sheet.
+#[derive(Clone, Debug, PartialEq, Eq)]
+pub struct Finding {
+    /// Whether nothing is wrong.
+    pub good: bool,
+    /// What it comes to.
+    pub title: String,
+    /// More of it.
+    pub text: Vec<String>,
+    /// What to do.
+    pub to_do: String,
+}
+
+impl Finding {
+    fn bad(title: String, text: Vec<String>, to_do: impl Into<String>) -> Finding {
+        Finding {
+            good: false,
+            title,
+            text,
+            to_do: to_do.into(),
+        }
+    }
+}
+
+/// The finding of a run: the first that applies.
+pub fn of(run: &Run, clock: Clock) -> Finding {
+    nothing_heard(run)
+        .or_else(|| stopped(run, clock))
+        .or_else(|| wrong(run, clock))
+        .or_else(|| no_keys(run, clock))
+        .or_else(|| withdrawn(run, clock))
+        .or_else(|| not_proved(run, clock))
+        .unwrap_or_else(|| authentic(run, clock))
+}
+
+fn nothing_heard(run: &Run) -> Option<Finding> {
+    run.heard.is_empty().then(|| {
+        Finding::bad(
+            "NOTHING WAS HEARD.".into(),
+            vec!["The receiver was started, but no satellite's data came.".into()],
+            "check the antenna, its cable and the receiver's Galileo setting, then record again.",
+        )
+    })
+}
+
+fn stopped(run: &Run, clock: Clock) -> Option<Finding> {
+    let (place, at) = run.stopped?;
+    let mut text = vec![format!(
+        "{}What is marked was marked before.",
+        match run.last_place - place {
+            0 => String::new(),
+            after => format!(
+                "Of what came after it nothing was taken ({}). ",
+                count(after, "record")
+            ),
+        }
+    )];
+    text.extend(wrong_title(run, clock));
+    Some(Finding::bad(
+        format!(
+            "STOPPED at {} by the system's emergency message.",
+            clock.say(at)
+        ),
+        text,
+        "do not spray by this receiver. It judges nothing until it is started anew with the \
+         system's new keys. Keep the recording.",
+    ))
+}
+
+/// From when to when wrong data came, and for which satellites.
+fn wrong_title(run: &Run, clock: Clock) -> Option<String> {
+    let prns: BTreeSet<u8> = run.wrong.keys().copied().collect();
+    let spans = || run.wrong.values().filter_map(|wrong| wrong.tags.span);
+    let first = spans().map(|(first, _)| first).min()?;
+    let last = spans().map(|(_, last)| last).max()?;
+    Some(format!(
+        "WRONG DATA came in {} for {} of {} ({}).",
+        clock.span(first, last),
+        prns.len(),
+        count(run.heard.len() as u64, "satellite"),
+        satellites(&prns)
+    ))
+}
+
+/// Satellites of which tags both matched and did not match the same data.
+pub fn disputed(run: &Run) -> BTreeSet<u8> {
+    let disputed = run
+        .data
+        .iter()
+        .filter(|(_, data)| data.disputed().next().is_some());
+    disputed.map(|(prn, _)| *prn).collect()
+}
+
+fn wrong(run: &Run, clock: Clock) -> Option<Finding> {
+    let title = wrong_title(run, clock)?;
+    let disputed = disputed(run);
+    let mut text = vec![if disputed.is_empty() {
+        not_taken(run).into()
+    } else {
+        format!(
+            "For {} a tag also MATCHED the data that others called wrong: a short tag can match by \
+             chance, so do not rely on that mark.",
+            satellites(&disputed)
+        )
+    }];
+    text.extend(withdrawn(run, clock).map(|finding| finding.title));
+    text.extend(boom(run, clock));
+    Some(Finding::bad(title, text, where_from(run)))
+}
+
+/// What became of the marks while wrong data came.
+fn not_taken(run: &Run) -> &'static str {
+    let set = |mark: Option<Mark>| mark.map(|mark| mark.set);
+    let stayed =
+        |wrong: &WrongTags| wrong.before.is_some() && set(wrong.before) == set(wrong.meanwhile);
+    if run.wrong.values().all(stayed) {
+        "It was not taken: what was marked before stayed."
+    } else {
+        "It was not taken: no data that a tag called wrong was marked."
+    }
+}
+
+/// What wrong tags point to.
+fn where_from(run: &Run) -> &'static str {
+    let other_issue = run.wrong.iter().filter(|(prn, wrong)| {
+        let marked = run.marked.get(prn).into_iter().flat_map(|sets| &sets.kept);
+        let marked: BTreeSet<u16> = marked.map(|set| set.iodnav).collect();
+        wrong.tags.issues.is_disjoint(&marked)
+    });
+    match (run.wrong.len(), other_issue.count()) {
+        (2.., 2..) => {
+            "keep the recording. Several satellites with data of another issue point to a repeater \
+             or a forged signal near the field: find it before you spray there."
+        }
+        _ => {
+            "keep the recording. If it is one satellite or comes with bad reception, look at the \
+             antenna; if it comes back in the same place, look for a repeater near the field."
+        }
+    }
+}
+
+fn no_keys(run: &Run, clock: Clock) -> Option<Finding> {
+    if run.vouched.keys != Keys::NotYet {
+        return None;
+    }
+    let said_no = run
+        .events
+        .iter()
+        .rfind(|event| event.what == What::ChipSaidNo);
+    let said_no = said_no.and_then(|event| event.at);
+    let waits = run.message_since();
+    let (title, to_do) = match (said_no, waits) {
+        (Some(at), _) => (
+            format!(
+                "the signature chip said NO to the keys, last at {}.",
+                clock.say(at)
+            ),
+            "keep the recording. Keys that the chip refuses are not the system's, or the chip has \
+             another public key than the receiver.",
+        ),
+        (None, Some(since)) => (
+            format!(
+                "the system's keys have waited for the signature chip since {}.",
+                clock.say(since)
+            ),
+            "check the signature chip and its wiring. Without its yes no key is taken.",
+        ),
+        (None, None) => (
+            "the system's keys were not heard whole.".into(),
+            "leave the receiver under open sky for some minutes more, then record again.",
+        ),
+    };
+    let mut text = vec![format!(
+        "{} heard, none marked: without keys no data can be shown to be authentic.",
+        count(run.heard.len() as u64, "satellite")
+    )];
+    if let (Some(_), Some(since)) = (said_no, waits) {
+        text.push(format!(
+            "Keys have waited for the chip again since {}.",
+            clock.say(since)
+        ));
+    }
+    Some(Finding::bad(
+        format!("NOTHING WAS JUDGED: {title}"),
+        text,
+        to_do,
+    ))
+}
+
+fn withdrawn(run: &Run, clock: Clock) -> Option<Finding> {
+    let is = |event: &&Event| event.what == What::Withdrawn;
+    let event = run.events.iter().rfind(is)?;
+    let since = |event: &Event| {
+        event
+            .at
+            .map_or(String::new(), |at| format!(" at {}", clock.say(at)))
+    };
+    let is_new =
+        |later: &&Event| later.place > event.place && matches!(later.what, What::Root { .. });
+    let new = run.events.iter().find(is_new);
+    let mut text = vec![marked_told(run)];
+    let (title, to_do) = match new {
+        None => (
+            format!(
+                "THE SYSTEM WITHDREW ITS KEYS{}, and no new ones came.",
+                since(event)
+            ),
+            "do not rely on older marks. Leave the receiver on until new keys are in force.",
+        ),
+        Some(new) => (
+            format!(
+                "THE SYSTEM WITHDREW ITS KEYS{}. New ones were taken{}.",
+                since(event),
+                since(new)
+            ),
+            "nothing, if the satellites that you need are marked again.",
+        ),
+    };
+    text.extend(boom(run, clock));
+    Some(Finding::bad(title, text, to_do))
+}
+
+/// Satellites whose data was heard and not marked.
+pub fn unmarked(run: &Run) -> BTreeSet<u8> {
+    let unmarked = run.data.keys().filter(|prn| !run.marked.contains_key(prn));
+    unmarked.copied().collect()
+}
+
+fn not_proved(run: &Run, clock: Clock) -> Option<Finding> {
+    let unmarked = unmarked(run);
+    let mut text = Vec::from_iter(boom(run, clock));
+    let to_do =
+        "leave the receiver on for some minutes more. If it stays so, look at its reception.";
+    if run.data.is_empty() {
+        let title = "NO ORBIT DATA WAS HEARD: there was nothing to judge.";
+        return Some(Finding::bad(title.into(), Vec::new(), to_do));
+    }
+    let title = match run.marked.len() {
+        0 => "NO DATA WAS PROVED.".into(),
+        n => format!(
+            "NOT ALL DATA WAS PROVED: {n} of {} marked.",
+            count(run.data.len() as u64, "satellite")
+        ),
+    };
+    text.insert(
+        0,
+        format!(
+            "No tag has shown the data of {} to be authentic; none has shown it to be wrong.",
+            which(run, &unmarked)
+        ),
+    );
+    (!unmarked.is_empty()).then(|| Finding::bad(title, text, to_do))
+}
+
+/// Satellites with data that no tag judged, by the half minute since when they had it.
+fn unjudged(run: &Run) -> BTreeMap<Gst, BTreeSet<u8>> {
+    let mut all: BTreeMap<Gst, BTreeSet<u8>> = BTreeMap::new();
+    for (prn, data) in &run.data {
+        let mut comparable = data
+            .stretches()
+            .filter(|now| now.whole && now.iodnav.is_some());
+        if let Some(now) = comparable.rfind(|now| now.matched == 0) {
+            all.entry(now.from).or_default().insert(*prn);
+        }
+    }
+    all
+}
+
+fn authentic(run: &Run, clock: Clock) -> Finding {
+    let unjudged = unjudged(run);
+    let told = |(since, prns): (&Gst, &BTreeSet<u8>)| {
+        format!("that of {} since {}", which(run, prns), clock.say(*since))
+    };
+    let (title, mut text) = match unjudged.len() {
+        0 => ("All data heard was authentic.", Vec::new()),
+        n => {
+            let some = unjudged.iter().rev().take(3).map(told);
+            let others = if n > 3 { "; and others" } else { "" };
+            let some = Vec::from_iter(some).join("; ");
+            (
+                "All data that was judged was authentic.",
+                vec![format!("Newer data was not judged: {some}{others}.")],
+            )
+        }
+    };
+    text.push(marked_told(run));
+    text.extend(boom(run, clock));
+    Finding {
+        good: true,
+        title: title.into(),
+        text,
+        to_do: "nothing. Clip this sheet to the job.".into(),
+    }
+}
+
+/// How many satellites were heard and marked.
+fn marked_told(run: &Run) -> String {
+    let without: BTreeSet<u8> = run
+        .heard
+        .keys()
+        .copied()
+        .filter(|prn| !run.data.contains_key(prn))
+        .collect();
+    let of = run.data.len() as u64;
+    let marked = match run.marked.len() as u64 {
+        n if n == of => format!("{} with data, all marked.", count(of, "satellite")),
+        n => format!("{} with data, {n} marked.", count(of, "satellite")),
+    };
+    let others = match without.len() {
+        0 => String::new(),
+        _ => format!(" {} sent none.", capital(which(run, &without))),
+    };
+    marked + &others
+}
+
+/// What the boom goes by.
+fn boom(run: &Run, clock: Clock) -> Option<String> {
+    let minutes = LIMITS[0] * SUBFRAME / 60;
+    let [watch, _] = &run.watch;
+    let marks = format!("satellites had a mark of the last {minutes} minutes");
+    let Some(kept) = watch.kept() else {
+        return Some(format!(
+            "At no time {NEEDED} {marks}, which the boom needs."
+        ));
+    };
+    Some(match kept.short {
+        None => format!(
+            "From {} on never fewer than {} {marks}; the boom needs {NEEDED}.",
+            clock.say(kept.since),
+            kept.fewest
+        ),
+        Some((n, first, last)) => format!(
+            "The boom needs {NEEDED} satellites with a mark of the last {minutes} minutes: it had \
+             them from {} on, but fewer ({} at the least) {} ({}).",
+            clock.say(kept.since),
+            kept.fewest,
+            clock.span(first, last),
+            count(n, "half minute")
+        ),
+    })
+}
+
+/// Satellites that were not heard in the last two minutes, each with its last half minute.
+pub fn silent(run: &Run) -> Vec<(u8, Gst)> {
+    const LONG: u64 = 120;
+    let Some((_, end)) = run.timeline.span() else {
+        return Vec::new();
+    };
+    let is = |(_, last): &(&u8, &Gst)| time::seconds(**last) + LONG <= time::seconds(end);
+    let silent = run.heard.iter().filter(is);
+    silent.map(|(prn, last)| (*prn, *last)).collect()
+}
+
+/// An event in plain words, and whether it is a warning.
+pub fn event_told(event: &Event) -> (bool, String) {
+    match &event.what {
+        What::Root {
+            before: Keys::NotYet,
+            ..
+        } => (
+            false,
+            "Keys in force: the signature chip vouched for them, and tags are judged from here on."
+                .into(),
+        ),
+        What::Root {
+            before: Keys::Withdrawn,
+            ..
+        } => (
+            false,
+            "New keys in force: tags are judged again from here on.".into(),
+        ),
+        What::Root {
+            same_chain: true, ..
+        } => (false, "The system signed the keys in force anew.".into()),
+        What::Root { .. } => (false, "New keys in force, in place of the old ones.".into()),
+        What::Withdrawn => (
+            true,
+            "KEYS WITHDRAWN by the system: no tag is judged until new keys come.".into(),
+        ),
+        What::PublicKey(id) => (
+            false,
+            format!("New public key ({id}) in use, in place of the one before."),
+        ),
+        What::ChipSaidNo => (
+            true,
+            "The signature chip said NO: what it was asked about is not the system's.".into(),
+        ),
+        What::Stopped => (
+            true,
+            "STOPPED by the system's emergency message: nothing is judged until a new start."
+                .into(),
+        ),
+    }
+}
+
+/// Wrong data as it came, for one satellite: the fields of a row of [`STORY`].
+pub fn story(run: &Run, clock: Clock, prn: u8) -> Option<Vec<String>> {
+    let wrong = run.wrong.get(&prn)?;
+    let mark = |mark: Option<Mark>| {
+        mark.map_or("none".into(), |mark| {
+            format!("{} ({})", mark.iodnav, clock.say(mark.tag))
+        })
+    };
+    Some(vec![
+        format!("E{prn:02}"),
+        wrong.tags.count.to_string(),
+        wrong
+            .tags
+            .span
+            .map_or(String::new(), |(first, last)| match first == last {
+                true => clock.say(first),
+                false => clock.range(first, last),
+            }),
+        issues(&wrong.tags.issues),
+        mark(wrong.before),
+        mark(wrong.meanwhile),
+        mark(run.mark(prn)),
+    ])
+}
+
+/// The head of the table of wrong data.
+pub const STORY: [&str; 7] = [
+    "Satellite",
+    "Wrong tags",
+    "Came",
+    "Heard",
+    "Marked before",
+    "Meanwhile",
+    "At the end",
+];
