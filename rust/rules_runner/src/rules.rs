@@ -1,4 +1,5 @@
-//! The calls of 01 as the definitions state them (crates/rules/specs/Calls.antt), on a state that is a value.
+//! The calls of 01 and the replay program as the definitions state them (crates/rules/specs/Calls.antt and Replay.antt),
+//! on a state that is a value.
 
 use crate::machine::Machine;
 use crate::program::{Hashes, Program};
@@ -95,10 +96,14 @@ fn bytes(value: &Value) -> Vec<u8> {
     numbers(value).into_iter().map(byte).collect()
 }
 
+fn text(bytes: Vec<u8>) -> String {
+    String::from_utf8(bytes).expect("lines of ASCII")
+}
+
 impl Rules {
     /// Reads the definitions under the folder of crates.
     pub fn load(crates: &Path, hashes: Hashes) -> Result<Rules> {
-        let program = Program::load(crates, "rules", "Calls", hashes)?;
+        let program = Program::load(crates, "rules", "Replay", hashes)?;
         Ok(Rules { program })
     }
 
@@ -195,6 +200,11 @@ impl Rules {
         bytes(&self.call("hmac.Hmac.hmac", vec![list(key), list(message)]))
     }
 
+    /// What the replay program prints for an input.
+    pub fn replayed_whole(&self, input: &[u8]) -> String {
+        text(bytes(&self.call("rules.Replay.replay", vec![list(input)])))
+    }
+
     /// A run from zeros, before any start.
     pub fn run(&self) -> Run<'_> {
         let run = self.run_on(&self.lengths().map(|length| vec![0; length]));
@@ -209,6 +219,47 @@ impl Rules {
             rules: self,
             state: self.state(regions),
             area: zeros(AREA_LEN),
+        }
+    }
+}
+
+/// A replay of the definitions: what the program keeps between records.
+pub struct Replay<'r> {
+    rules: &'r Rules,
+    kept: Value,
+}
+
+impl<'r> Replay<'r> {
+    /// Before the first record.
+    pub fn new(rules: &'r Rules) -> Self {
+        let kept = rules.call("rules.Replay.unread", Vec::new());
+        Replay { rules, kept }
+    }
+
+    /// The lines of the next record.
+    pub fn record(&mut self, record: &[u8]) -> String {
+        let arguments = vec![self.kept.clone(), list(record)];
+        let replayed = self.rules.call("rules.Replay.replayed", arguments);
+        self.kept = self.rules.field(&replayed, "next");
+        text(self.rules.bytes(&replayed, "lines"))
+    }
+
+    fn session(&self) -> Value {
+        self.rules.field(&self.kept, "session")
+    }
+
+    /// Whether a start was accepted.
+    pub fn started(&self) -> bool {
+        self.rules.number(&self.session(), "started") != 0
+    }
+
+    /// The core as the last record left it.
+    pub fn run(&self) -> Run<'r> {
+        let session = self.session();
+        Run {
+            rules: self.rules,
+            state: self.rules.field(&session, "core"),
+            area: self.rules.field(&session, "area"),
         }
     }
 }

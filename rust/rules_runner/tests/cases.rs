@@ -4,7 +4,7 @@ mod common;
 
 use common::{first_difference, with_rules};
 use rules_runner::program::Hashes;
-use rules_runner::replay::replay;
+use rules_runner::replay::{replay, whole};
 use std::collections::BTreeSet;
 use std::fs;
 use std::path::{Path, PathBuf};
@@ -74,6 +74,16 @@ fn recorded_runs() {
 #[ignore = "takes longer than the others"]
 fn long_recorded_runs() {
     check(&LONG);
+}
+
+// The definition of a whole input, where it is short.
+#[test]
+fn whole_inputs() {
+    for name in ["a_empty", "a_example", "a_framing", "a_short_one", "a_words"] {
+        let got = with_rules(Hashes::Portable, |rules| whole(rules, &read(name, "in")));
+        let want = String::from_utf8(read(name, "out")).unwrap();
+        assert_eq!(first_difference(&got, &want), None, "{name}");
+    }
 }
 
 // No recorded input is left out by mistake.

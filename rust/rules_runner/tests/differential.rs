@@ -12,14 +12,13 @@ use signal::scenario;
 use std::collections::HashSet;
 
 /// Named runs that take long here: by their length, or by long ways down the key chain.
-const LONG: [&str; 17] = [
+const LONG: [&str; 16] = [
     "cmac_damaged",
     "every_ns",
     "field_bits",
     "fitter",
     "full_sky",
     "gap_full",
-    "gaps",
     "lost_fields_1",
     "lost_fields_2",
     "message_bits",

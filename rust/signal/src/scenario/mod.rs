@@ -163,6 +163,11 @@ const ALL: &[Scenario] = &[
         refusals::keys_kept,
     ),
     scenario(
+        "key_identities",
+        "public keys of the highest ID, and of the same ID and bytes under another type",
+        refusals::key_identities,
+    ),
+    scenario(
         "emergencies",
         "emergency messages of 11 to 16 blocks",
         refusals::emergencies,
@@ -251,6 +256,11 @@ const ALL: &[Scenario] = &[
         "waiting_tags",
         "slow tags over new roots, new chains, drops and refused sections",
         tags::waiting_tags,
+    ),
+    scenario(
+        "changed_sizes",
+        "MS, NMACK or KS alone changes while slow tags wait",
+        tags::changed_sizes,
     ),
     scenario(
         "sizes_1",

@@ -586,6 +586,40 @@ pub fn keys_kept(name: &str, about: &str, seed: u64) -> Run {
     b.run
 }
 
+/// What makes a key another one: the highest ID there is, and the same ID and bytes under another type.
+pub fn key_identities(name: &str, about: &str, seed: u64) -> Run {
+    let mut b = Bench::new(name, about, seed);
+    let mut leaves: Vec<Vec<u8>> = (0..16).map(|i| b.tree.leaf(i).to_vec()).collect();
+    // Zeros fill a short key's place, so a longer key can have the same bytes there.
+    let mut longer = b.start.key.clone();
+    longer.resize(dsm::KEY_LEN[2], 0);
+    leaves[6] = dsm::leaf(2, START_KEY, &longer);
+    leaves[14] = dsm::leaf(1, 15, &b.rng.bytes(dsm::KEY_LEN[1]));
+    b.tree = Tree::new(leaves);
+    b.start.tree_root = b.tree.root();
+    let chain = plain_chain(&mut b, 400);
+    let later = Rc::new(chain.floating(1));
+    fresh(&mut b, &chain);
+    let [same, other_type, highest, lower] = [4, 6, 14, 9].map(|leaf| b.tree.pkr(leaf));
+    b.deliver(b.header, 12, &same, 0);
+    b.deliver(b.header, 12, &other_type, 9);
+    // Above ID 15 there is none.
+    b.deliver(b.header, 12, &highest, 0);
+    b.deliver(b.header, 12, &lower, 9);
+    b.deliver(b.header, 12, &highest, 0);
+    // A root under it drops all others.
+    let root = b.root_under(b.header, &later, 15, 1);
+    b.deliver(b.header, 1, &root.dsm, 0);
+    b.verdict(&root.verdict, 0);
+    b.force = Some(later.clone());
+    b.deliver(b.header, 12, &lower, 9);
+    let root = b.root(b.header, &later);
+    b.deliver(b.header, 1, &root.dsm, 7);
+    let root = b.root_under(b.header, &later, 15, 1);
+    b.deliver(b.header, 1, &root.dsm, 0);
+    b.run
+}
+
 /// A verdict on a message that waits, and the message.
 struct VerdictCall {
     verdict: Vec<fn(&mut Verdict)>,

@@ -554,3 +554,39 @@ pub fn waiting_tags(name: &str, about: &str, seed: u64) -> Run {
     b.send_fields(2, &quiet, &[&[1][..], &plain].concat());
     b.run
 }
+
+/// One size of the chain alone changes while slow tags wait: it is another chain, and none of them stays.
+pub fn changed_sizes(name: &str, about: &str, seed: u64) -> Run {
+    let mut b = Bench::new(name, about, seed);
+    let adkds = [0, 0, 12, 0, 0, 0];
+    let chain = six_fields(&mut b, adkds, adkds);
+    let slow = adkds.map(|adkd| Info::new(1, adkd, 0));
+    let changes: [fn(&mut Params); 3] = [|p| p.ms = 8, |p| p.nmack = 2, |p| p.ks = 1];
+    for change in changes {
+        fresh(&mut b, &chain);
+        b.now = chain.start().plus(110);
+        b.send_fields(1, &slow, &[1, 1, 5, 1, 1, 1]);
+        b.step();
+        // A later root an hour on, of the same keys where they fit.
+        let mut later = chain.floating(1);
+        change(&mut later.params);
+        if later.params.nmack != chain.params.nmack || later.params.ks != chain.params.ks {
+            let (seed, top) = (b.rng.bytes(32), 4000);
+            later = Chain::new(later.params, later.ns, later.week, later.hour, top, &seed);
+        }
+        let later = Rc::new(later);
+        let root = b.root(b.header, &later);
+        b.deliver(b.header, 1, &root.dsm, 0);
+        b.verdict(&root.verdict, 0);
+        b.force = Some(later.clone());
+        // The keys of the tags that waited come in sub-frames 0 and 1 of the new root.
+        b.now = later.start();
+        let fields = b.layout().fields();
+        let own: Vec<u8> = (0..fields).map(|n| if n == 2 { 4 } else { 1 }).collect();
+        for _ in 0..2 {
+            b.send_fields(1, &vec![Info::new(1, 0, 0); fields], &own);
+            b.step();
+        }
+    }
+    b.run
+}
