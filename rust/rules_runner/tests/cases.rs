@@ -79,7 +79,13 @@ fn long_recorded_runs() {
 // The definition of a whole input, where it is short.
 #[test]
 fn whole_inputs() {
-    for name in ["a_empty", "a_example", "a_framing", "a_short_one", "a_words"] {
+    for name in [
+        "a_empty",
+        "a_example",
+        "a_framing",
+        "a_short_one",
+        "a_words",
+    ] {
         let got = with_rules(Hashes::Portable, |rules| whole(rules, &read(name, "in")));
         let want = String::from_utf8(read(name, "out")).unwrap();
         assert_eq!(first_difference(&got, &want), None, "{name}");
