@@ -22,17 +22,6 @@ impl Chain {
         self.slots.in_range() && (12..=32).contains(&self.width)
     }
 
-    fn key_bits(&self) -> u64 {
-        8 * self.width as u64
-    }
-
-    /// Fields of a MACK block; none where the block is too short for one.
-    pub(crate) fn fields(&self) -> Option<u64> {
-        let left = (480 / self.slots.nmack).checked_sub(self.key_bits())?;
-        let fields = left / (self.ms + 16);
-        (self.ms <= 40 && fields > 0).then_some(fields)
-    }
-
     /// The key of slot `m + n` becomes the key of slot `m`.
     pub fn walk(&self, n: u64, m: u64, key: &mut [u8; 32]) -> Option<()> {
         let Slots { ns, nmack, root } = self.slots;
