@@ -89,7 +89,7 @@ static inline uint32_t osnma_page_time(uint32_t week, uint32_t second)
 /** The place of that page in its sub-frame, 0 to 14. */
 static inline uint32_t osnma_page_number(uint32_t second)
 {
-    return (second + 29u) % 30u / 2u;
+    return second % 30u / 2u;
 }
 
 /** Nothing is collected, nothing was lent. */

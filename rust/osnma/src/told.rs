@@ -42,3 +42,45 @@ impl Told {
         self.call(answer)
     }
 }
+
+#[cfg(test)]
+mod tests {
+    use super::*;
+
+    const OPERATIONAL: u8 = 0x82;
+    const DONT_USE: u8 = 0xC2;
+
+    // A stop stays through every other answer but an accepted start's.
+    #[test]
+    fn stopped() {
+        let (mut told, stop) = (Told::NOTHING, Err(Refusal::Stopped));
+        assert_eq!(told.call(Ok(())), Ok(()));
+        assert!(!told.stopped);
+        assert_eq!(told.call(stop), stop);
+        for answer in [Err(Refusal::OutOfRange), stop, Ok(())] {
+            assert_eq!(told.call(answer), answer);
+            assert!(told.stopped);
+        }
+        assert_eq!(told.verdict(OPERATIONAL, stop), stop);
+        assert!(told.stopped && !told.chain_in_force);
+        let refused = told.start(Err(Refusal::OutOfRange));
+        assert_eq!((refused, told.stopped), (Err(Refusal::OutOfRange), true));
+        assert_eq!((told.start(Ok(())), told), (Ok(()), Told::NOTHING));
+    }
+
+    #[test]
+    fn chain_in_force() {
+        let mut told = Told::NOTHING;
+        for (header, answer, in_force) in [
+            (OPERATIONAL, Err(Refusal::VerdictBad), false),
+            (OPERATIONAL, Ok(()), true),
+            (DONT_USE, Err(Refusal::NotInForce), true),
+            (DONT_USE, Ok(()), false),
+            (0x42, Ok(()), true),
+        ] {
+            assert_eq!(told.verdict(header, answer), answer);
+            assert_eq!(told.chain_in_force, in_force, "{header:02X} {answer:?}");
+        }
+        assert_eq!((told.start(Ok(())), told), (Ok(()), Told::NOTHING));
+    }
+}

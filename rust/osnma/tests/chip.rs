@@ -3,7 +3,7 @@
 
 mod compiled;
 
-use compiled::{cpp_compilers, run, top, Program, C99, CPP17};
+use compiled::{cpp_compilers, run, skipped, top, Program, C99, CPP17};
 use std::io::Write;
 use std::process::{Command, Stdio};
 
@@ -34,7 +34,7 @@ fn published_signature() {
     let openssl_3 = "#include <openssl/core_names.h>\n#include <openssl/evp.h>\n\
          int main(void) { return EVP_PKEY_CTX_new_from_name(0, \"EC\", 0) == 0; }\n";
     if !compiles(openssl_3) {
-        println!("skipped: OpenSSL 3 is not there to compile with (Debian: libssl-dev)");
+        skipped("OpenSSL 3 is not there to compile examples/chip.c with (Debian: libssl-dev)");
         return;
     }
     let cpp = cpp_compilers()
@@ -85,7 +85,7 @@ fn letters_of_the_key() {
         })
         .collect();
     if found.is_empty() {
-        println!("skipped: the openssl program is not there");
+        skipped("the openssl program is not there to look at the annex's key");
         return;
     }
     let right: Vec<usize> = found.iter().filter(|f| f.1).map(|f| f.0).collect();

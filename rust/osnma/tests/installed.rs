@@ -2,7 +2,7 @@
 
 mod compiled;
 
-use compiled::{top, Program, C99};
+use compiled::{skipped, top, Program, C99};
 use std::fs;
 use std::path::Path;
 use std::process::Command;
@@ -18,7 +18,7 @@ fn told(command: &mut Command) -> Option<String> {
 fn from_where_it_is_installed() {
     for tool in ["make", "pkg-config"] {
         if told(Command::new(tool).arg("--version")).is_none() {
-            println!("skipped: {tool} is not there");
+            skipped(&format!("{tool} is not there to install with"));
             return;
         }
     }

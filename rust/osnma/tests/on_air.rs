@@ -10,7 +10,7 @@ use compiled::{build, cpp_compilers, run, C99, CPP17};
 use second_receiver::replay::replay;
 use signal::air::{cut, END, FIELD, PAGE};
 use signal::replay::RECORD;
-use signal::scenario::{all, find, Scenario, SEED};
+use signal::scenario::{all, find, SEED};
 use std::fmt::Write;
 use std::path::Path;
 use std::sync::atomic::{AtomicUsize, Ordering::Relaxed};
@@ -79,10 +79,9 @@ fn count(air: &[u8], kinds: &[u8]) -> usize {
 /// Runs that are as the air is: every sub-frame comes by pages, and no half minute is cut but by the verdict and the end.
 const LIKE_THE_AIR: [&str; 5] = ["fitter", "full_sky", "nominal", "trees", "cmac_256"];
 
-/// Compares one run in both languages; gives how many pages it has, and how many sub-frames that no page can bring.
-fn compare(scenario: &Scenario, program: &Path) -> (usize, usize) {
-    let recording = scenario.run(SEED).bytes;
-    let (want, air, name) = (wanted(&recording), cut(&recording), scenario.name);
+/// Compares a recording in both languages; gives how many pages it has, and how many sub-frames that no page can bring.
+fn compare(name: &str, recording: &[u8], program: &Path) -> (usize, usize) {
+    let (want, air) = (wanted(recording), cut(recording));
     let difference = |got: String| first_difference(&got, &want);
     assert_eq!(difference(in_rust(&air)), None, "{name} in Rust");
     assert_eq!(difference(run(program, &[], &air)), None, "{name} in C");
@@ -101,7 +100,8 @@ fn every_run() {
     let (next, sums) = (AtomicUsize::new(0), Mutex::new((0, 0)));
     let work = || {
         while let Some(scenario) = all().get(next.fetch_add(1, Relaxed)) {
-            let (pages, direct) = compare(scenario, &program);
+            let recording = scenario.run(SEED).bytes;
+            let (pages, direct) = compare(scenario.name, &recording, &program);
             let mut sums = sums.lock().expect("no other thread failed");
             *sums = (sums.0 + pages, sums.1 + direct);
         }
@@ -118,6 +118,19 @@ fn every_run() {
         pages > 15 * 100 * direct,
         "{pages} pages, {direct} sub-frames"
     );
+}
+
+// A chain that was dropped is not in force: recordings that end with each of their verdicts.
+#[test]
+fn after_each_verdict() {
+    let program = build("cc", C99, "examples/receiver.c", "receiver_verdicts");
+    let recording = find("chain_revoked").expect("a scenario").run(SEED).bytes;
+    let kinds = recording.chunks_exact(RECORD).map(|record| record[0]);
+    let verdicts = (1..).zip(kinds).filter(|&(_, kind)| kind == 4);
+    for (records, _) in verdicts {
+        let name = format!("{records} records");
+        compare(&name, &recording[..RECORD * records], &program);
+    }
 }
 
 #[test]

@@ -2,7 +2,7 @@
 
 #![allow(dead_code)]
 
-use std::io::Write;
+use std::io::{self, Write};
 use std::path::{Path, PathBuf};
 use std::process::{Command, Stdio};
 use std::thread;
@@ -17,13 +17,18 @@ pub const C99: &[&str] = &["-std=c99"];
 pub const CPP17: &[&str] = &["-std=c++17", "-x", "c++"];
 const WARNINGS: [&str; 5] = ["-Wall", "-Wextra", "-pedantic", "-Wconversion", "-Werror"];
 
-/// The compilers of C++ that are there. The tests say which are not.
+/// Says what is not tried here and why; a test's own output is shown only where it fails.
+pub fn skipped(why: &str) {
+    let _ = writeln!(io::stderr(), "skipped: {why}");
+}
+
+/// The compilers of C++ that are there.
 pub fn cpp_compilers() -> Vec<&'static str> {
     let (there, missing): (Vec<_>, Vec<_>) = ["g++", "clang++"]
         .into_iter()
         .partition(|compiler| is_there(compiler));
     if !missing.is_empty() {
-        println!("not there, so not tried: {}", missing.join(", "));
+        skipped(&format!("no {}", missing.join(", no ")));
     }
     there
 }
@@ -83,7 +88,7 @@ pub fn build(compiler: &str, language: &[&str], source: &str, name: &str) -> Pat
 /// What the program prints for an input.
 pub fn run(program: &Path, words: &[&str], input: &[u8]) -> String {
     let name = program.display();
-    let failed = |error: std::io::Error| panic!("{name}: {error}");
+    let failed = |error: io::Error| panic!("{name}: {error}");
     let mut child = Command::new(program)
         .args(words)
         .stdin(Stdio::piped())
