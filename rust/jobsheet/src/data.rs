@@ -1,13 +1,11 @@
 //! The data of a satellite as it was heard: words 1 to 5, and the stretches between their changes.
 
-use crate::time;
+use crate::time::{self, SUBFRAME};
 use osnma::{Gst, WORD_LEN};
 use std::collections::VecDeque;
 
 /// Stretches of a satellite that are kept.
 pub const STRETCHES: usize = 128;
-/// Seconds after which a satellite that is not heard is called silent, and its data old.
-pub const LONG: u64 = 120;
 
 /// The last words answered 0 of types 1 to 5 of a satellite.
 #[derive(Clone, Copy, Debug, Default)]
@@ -55,9 +53,13 @@ pub struct Stretch {
 }
 
 impl Stretch {
+    /// Whether tags matched it for a while and then no more: the system sends newer data.
+    pub fn is_older(&self) -> bool {
+        self.matched > 0 && self.wrong > 0 && !self.is_disputed()
+    }
+
     /// Whether tags both matched it and did not, so that the match may be by chance: one came with
-    /// or after a wrong one, or too few came before it. Tags that match right data for a while and
-    /// then no more tell that the system sends newer data.
+    /// or after a wrong one, or too few came before it.
     pub fn is_disputed(&self) -> bool {
         // Four of the shortest tags are 40 bits (02, P4).
         const FEW: u64 = 4;
@@ -149,10 +151,10 @@ impl Data {
         Some(stretch)
     }
 
-    /// Whether no word has come for two minutes at this time.
+    /// Whether no word came in the half minute before this one.
     pub fn is_old(&self, at: Gst) -> bool {
         let last = self.last_word.map(time::seconds);
-        last.is_some_and(|last| last + LONG <= time::seconds(at))
+        last.is_some_and(|last| last + SUBFRAME < time::seconds(at))
     }
 
     /// The stretches that are kept, in the order of time.
@@ -231,15 +233,18 @@ mod tests {
             for &(at, matched) in tags {
                 data.judge(1, gst(at), matched);
             }
-            let stretch = data.stretches().next().unwrap().clone();
-            stretch.is_disputed()
+            let stretch = data.stretches().next().unwrap();
+            (stretch.is_disputed(), stretch.is_older())
         };
         let many = [(1, true), (2, true), (3, true), (4, true)];
-        assert!(!judged(&[]) && !judged(&many) && !judged(&[(1, false)]));
-        assert!(!judged(&[&many[..], &[(5, false), (6, false)]].concat()));
-        assert!(judged(&[&many[..], &[(4, false)]].concat()));
-        assert!(judged(&[&many[..], &[(5, false), (6, true)]].concat()));
-        assert!(judged(&[(1, true), (2, false), (3, false)]));
+        for tags in [&[][..], &many, &[(1, false)]] {
+            assert_eq!(judged(tags), (false, false));
+        }
+        let then = |more: &[(u32, bool)]| judged(&[&many[..], more].concat());
+        assert_eq!(then(&[(5, false), (6, false)]), (false, true));
+        assert_eq!(then(&[(4, false)]), (true, false));
+        assert_eq!(then(&[(5, false), (6, true)]), (true, false));
+        assert_eq!(judged(&[(1, true), (2, false), (3, false)]), (true, false));
     }
 
     #[test]
@@ -247,7 +252,7 @@ mod tests {
         let mut data = Data::default();
         assert!(!data.is_old(gst(9)));
         all(&mut data, 1, 66);
-        assert!(!data.is_old(gst(4)) && data.is_old(gst(5)));
+        assert!(!data.is_old(gst(2)) && data.is_old(gst(3)));
     }
 
     // However often the data changes, a bounded number of stretches.

@@ -1,13 +1,16 @@
 //! What a run comes to, in a few plain sentences: read first, and without the papers.
 
 use crate::boom::{LIMITS, NEEDED};
-use crate::data::{Stretch, LONG};
+use crate::data::Stretch;
 use crate::history::{Event, Mark, Run, What, WrongTags};
 use crate::time::{self, Clock, SUBFRAME};
 use crate::vouched::Keys;
 use crate::words::{capital, count, issues, satellites, which};
 use osnma::Gst;
 use std::collections::{BTreeMap, BTreeSet};
+
+/// Seconds after which a satellite that is not heard is called silent.
+const LONG: u64 = 120;
 
 /// The first words of a run's part of the sheet.
 #[derive(Clone, Debug, PartialEq, Eq)]
@@ -94,25 +97,43 @@ fn wrong_title(run: &Run, clock: Clock) -> Option<String> {
     ))
 }
 
+/// Satellites with wrong tags of which some data is such.
+fn with(run: &Run, such: fn(&Stretch) -> bool) -> BTreeSet<u8> {
+    let of = |prn: &&u8| {
+        run.data
+            .get(prn)
+            .is_some_and(|data| data.stretches().any(such))
+    };
+    run.wrong.keys().filter(of).copied().collect()
+}
+
 /// Satellites of which tags both matched and did not match the same data, so that the match may be
 /// by chance.
 pub fn disputed(run: &Run) -> BTreeSet<u8> {
-    let of = |prn: &&u8| run.data[prn].stretches().any(Stretch::is_disputed);
-    run.wrong.keys().filter(of).copied().collect()
+    with(run, Stretch::is_disputed)
 }
 
 fn wrong(run: &Run, clock: Clock) -> Option<Finding> {
     let title = wrong_title(run, clock)?;
-    let disputed = disputed(run);
-    let mut text = vec![if disputed.is_empty() {
-        not_taken(run).into()
-    } else {
-        format!(
+    let (disputed, older) = (disputed(run), with(run, Stretch::is_older));
+    let mut text = Vec::new();
+    if !disputed.is_empty() {
+        text.push(format!(
             "For {} a tag also MATCHED the data that others called wrong: a short tag can match by \
              chance, so do not rely on that mark.",
             satellites(&disputed)
-        )
-    }];
+        ));
+    }
+    if !older.is_empty() {
+        text.push(format!(
+            "For {} it is data that was right before and is still heard, though the system sends \
+             newer: the older is what is marked.",
+            satellites(&older)
+        ));
+    }
+    if text.is_empty() {
+        text.push(not_taken(run).into());
+    }
     text.extend(withdrawn(run, clock).map(|finding| finding.title));
     text.extend(out_of_date(run, clock).map(|finding| finding.title));
     text.push(boom(run, clock));

@@ -794,7 +794,7 @@ impl Story {
 fn stories(lines: &[Line], run: &[u8]) -> (Story, Story) {
     let (mut wrong, mut old) = (Story::default(), Story::default());
     let mut marked: BTreeMap<u8, Set> = BTreeMap::new();
-    // Of each tag when it came: its satellite's set, and whether no word had come for two minutes.
+    // Of each tag when it came: its satellite's set, and whether no word came in the half minute before.
     let mut then: ByTag<(Option<Set>, bool)> = BTreeMap::new();
     let mut last_word: BTreeMap<u8, Gst> = BTreeMap::new();
     let mut right: BTreeSet<(u8, u16)> = BTreeSet::new();
@@ -809,7 +809,7 @@ fn stories(lines: &[Line], run: &[u8]) -> (Story, Story) {
             let time = u32::from_be_bytes([t[8], t[9], t[10], t[11]]);
             let iodnav = u16::from_be_bytes([t[6], t[7]]);
             let age = |last: &Gst| time::seconds(Gst::from_bits(time)) - time::seconds(*last);
-            let is_old = last_word.get(&t[2]).is_some_and(|last| age(last) >= 120);
+            let is_old = last_word.get(&t[2]).is_some_and(|last| age(last) > 30);
             let known = (before.get(&t[2]).copied(), is_old);
             let (set, is_old) = *then.entry((time, t[1], t[4], t[5])).or_insert(known);
             if t[0] == 1 {

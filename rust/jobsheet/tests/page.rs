@@ -9,7 +9,7 @@ use jobsheet::sheet::Sheet;
 use jobsheet::time::Zone;
 use jobsheet::warnings::Grade;
 use jobsheet::{html, text};
-use std::collections::BTreeSet;
+use std::collections::{BTreeMap, BTreeSet};
 use std::time::{Duration, Instant};
 
 fn sheet(name: &str) -> Sheet {
@@ -142,6 +142,23 @@ fn records(name: &str) -> Vec<Vec<u8>> {
     bytes.chunks_exact(RECORD_LEN).map(<[u8]>::to_vec).collect()
 }
 
+/// The records with the first word of each type of a satellite in place of all that follow, as from a
+/// repeater that is late.
+fn older_words(records: &[Vec<u8>], prn: u8) -> Vec<u8> {
+    let mut first: BTreeMap<u8, Vec<u8>> = BTreeMap::new();
+    let older = |record: &Vec<u8>| {
+        let mut record = record.clone();
+        if record[..2] == [2, prn] {
+            let word = first
+                .entry(record[6] >> 2)
+                .or_insert(record[6..22].to_vec());
+            record[6..22].copy_from_slice(word);
+        }
+        record
+    };
+    records.iter().flat_map(older).collect()
+}
+
 // The first words of the sheet, for what can happen in the field.
 #[test]
 fn findings() {
@@ -235,6 +252,16 @@ fn findings() {
         ],
     );
     assert!(!few[0].contains("WRONG"), "{few:?}");
+    // E09 is heard on, but with its old data: no data that nobody heard, but older than the system's.
+    let older = older_words(&fitter, 9);
+    let told = boxes(&older);
+    says(
+        &told,
+        &[
+            "WRONG DATA came in",
+            "For E09 it is data that was right before and is still heard",
+        ],
+    );
     // All data right, but of two satellites.
     says(
         &boxes(&recording("week_change")),
