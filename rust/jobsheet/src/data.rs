@@ -1,5 +1,6 @@
 //! The data of a satellite as it was heard: words 1 to 5, and the stretches between their changes.
 
+use crate::time::{self, SUBFRAME};
 use osnma::{Gst, WORD_LEN};
 use std::collections::VecDeque;
 
@@ -45,6 +46,26 @@ pub struct Stretch {
     pub matched: u64,
     /// Tags that did not.
     pub wrong: u64,
+    /// When the last that matched came.
+    last_match: Option<Gst>,
+    /// When the first that did not came.
+    first_wrong: Option<Gst>,
+}
+
+impl Stretch {
+    /// Whether tags matched it for a while and then no more: the system sends newer data.
+    pub fn is_older(&self) -> bool {
+        self.matched > 0 && self.wrong > 0 && !self.is_disputed()
+    }
+
+    /// Whether tags both matched it and did not, so that the match may be by chance: one came with
+    /// or after a wrong one, or too few came before it.
+    pub fn is_disputed(&self) -> bool {
+        // Four of the shortest tags are 40 bits (02, P4).
+        const FEW: u64 = 4;
+        let between = self.last_match.zip(self.first_wrong);
+        between.is_some_and(|(last, first)| last >= first || self.matched < FEW)
+    }
 }
 
 /// What a word did to the data of its satellite.
@@ -63,6 +84,7 @@ pub struct Data {
     stretches: VecDeque<Stretch>,
     /// Stretches that are no more kept.
     left_out: u64,
+    last_word: Option<Gst>,
 }
 
 impl Data {
@@ -73,6 +95,7 @@ impl Data {
         let kind @ 1..=5 = (word >> 122) as usize else {
             return None;
         };
+        self.last_word = Some(at);
         let from = self.words.iodnav();
         let changed = self.words.hold(kind, word);
         let to = self.words.iodnav();
@@ -102,6 +125,8 @@ impl Data {
             iodnav: None,
             matched: 0,
             wrong: 0,
+            last_match: None,
+            first_wrong: None,
         });
     }
 
@@ -110,25 +135,31 @@ impl Data {
         self.left_out + self.stretches.len() as u64
     }
 
-    /// A tag that came in the stretch of this number matched, or did not.
-    pub fn judge(&mut self, stretch: u64, matched: bool) {
-        let place = stretch.checked_sub(self.left_out + 1);
-        let stretch = place.and_then(|place| self.stretches.get_mut(place as usize));
-        if let Some(stretch) = stretch {
-            stretch.matched += u64::from(matched);
-            stretch.wrong += u64::from(!matched);
+    /// A tag that came at a time in the stretch of this number matched, or did not. Gives the
+    /// stretch, where it is kept.
+    pub fn judge(&mut self, stretch: u64, at: Gst, matched: bool) -> Option<&Stretch> {
+        let place = stretch.checked_sub(self.left_out + 1)?;
+        let stretch = self.stretches.get_mut(place as usize)?;
+        if matched {
+            stretch.matched += 1;
+            stretch.last_match = stretch.last_match.max(Some(at));
+        } else {
+            stretch.wrong += 1;
+            let first = stretch.first_wrong.map_or(at, |first| first.min(at));
+            stretch.first_wrong = Some(first);
         }
+        Some(stretch)
+    }
+
+    /// Whether no word came in the half minute before this one.
+    pub fn is_old(&self, at: Gst) -> bool {
+        let last = self.last_word.map(time::seconds);
+        last.is_some_and(|last| last + SUBFRAME < time::seconds(at))
     }
 
     /// The stretches that are kept, in the order of time.
     pub fn stretches(&self) -> impl DoubleEndedIterator<Item = &Stretch> {
         self.stretches.iter()
-    }
-
-    /// Stretches that tags both matched and did not.
-    pub fn disputed(&self) -> impl Iterator<Item = &Stretch> {
-        let both = |stretch: &&Stretch| stretch.matched > 0 && stretch.wrong > 0;
-        self.stretches.iter().filter(both)
     }
 }
 
@@ -187,12 +218,41 @@ mod tests {
                 (gst(3), true, Some(67))
             ]
         );
-        data.judge(2, true);
-        data.judge(2, false);
-        data.judge(3, true);
-        data.judge(0, true);
-        data.judge(4, true);
-        assert_eq!(Vec::from_iter(data.disputed().map(|s| s.from)), [gst(2)]);
+        for stretch in [0, 4] {
+            assert_eq!(data.judge(stretch, gst(4), true), None);
+        }
+        assert_eq!(data.judge(3, gst(4), true).unwrap().matched, 1);
+    }
+
+    // A tag that matches with or after a wrong one; one alone before it; many before it.
+    #[test]
+    fn disputed() {
+        let judged = |tags: &[(u32, bool)]| {
+            let mut data = Data::default();
+            all(&mut data, 0, 66);
+            for &(at, matched) in tags {
+                data.judge(1, gst(at), matched);
+            }
+            let stretch = data.stretches().next().unwrap();
+            (stretch.is_disputed(), stretch.is_older())
+        };
+        let many = [(1, true), (2, true), (3, true), (4, true)];
+        for tags in [&[][..], &many, &[(1, false)]] {
+            assert_eq!(judged(tags), (false, false));
+        }
+        let then = |more: &[(u32, bool)]| judged(&[&many[..], more].concat());
+        assert_eq!(then(&[(5, false), (6, false)]), (false, true));
+        assert_eq!(then(&[(4, false)]), (true, false));
+        assert_eq!(then(&[(5, false), (6, true)]), (true, false));
+        assert_eq!(judged(&[(1, true), (2, false), (3, false)]), (true, false));
+    }
+
+    #[test]
+    fn old() {
+        let mut data = Data::default();
+        assert!(!data.is_old(gst(9)));
+        all(&mut data, 1, 66);
+        assert!(!data.is_old(gst(2)) && data.is_old(gst(3)));
     }
 
     // However often the data changes, a bounded number of stretches.
@@ -203,8 +263,8 @@ mod tests {
             all(&mut data, n, n as u16 % 1_024);
         }
         assert_eq!((data.now(), data.stretches().count()), (1_000, STRETCHES));
-        data.judge(1_000, true);
-        data.judge(3, true);
+        data.judge(1_000, gst(1_000), true);
+        data.judge(3, gst(1_000), true);
         let matched: Vec<Gst> = data
             .stretches()
             .filter(|s| s.matched > 0)

@@ -1,12 +1,16 @@
 //! What a run comes to, in a few plain sentences: read first, and without the papers.
 
 use crate::boom::{LIMITS, NEEDED};
+use crate::data::Stretch;
 use crate::history::{Event, Mark, Run, What, WrongTags};
 use crate::time::{self, Clock, SUBFRAME};
 use crate::vouched::Keys;
 use crate::words::{capital, count, issues, satellites, which};
 use osnma::Gst;
 use std::collections::{BTreeMap, BTreeSet};
+
+/// Seconds after which a satellite that is not heard is called silent.
+const LONG: u64 = 120;
 
 /// The first words of a run's part of the sheet.
 #[derive(Clone, Debug, PartialEq, Eq)]
@@ -39,6 +43,7 @@ pub fn of(run: &Run, clock: Clock) -> Finding {
         .or_else(|| wrong(run, clock))
         .or_else(|| no_keys(run, clock))
         .or_else(|| withdrawn(run, clock))
+        .or_else(|| out_of_date(run, clock))
         .or_else(|| not_proved(run, clock))
         .unwrap_or_else(|| authentic(run, clock))
 }
@@ -92,29 +97,46 @@ fn wrong_title(run: &Run, clock: Clock) -> Option<String> {
     ))
 }
 
-/// Satellites of which tags both matched and did not match the same data.
+/// Satellites with wrong tags of which some data is such.
+fn with(run: &Run, such: fn(&Stretch) -> bool) -> BTreeSet<u8> {
+    let of = |prn: &&u8| {
+        run.data
+            .get(prn)
+            .is_some_and(|data| data.stretches().any(such))
+    };
+    run.wrong.keys().filter(of).copied().collect()
+}
+
+/// Satellites of which tags both matched and did not match the same data, so that the match may be
+/// by chance.
 pub fn disputed(run: &Run) -> BTreeSet<u8> {
-    let disputed = run
-        .data
-        .iter()
-        .filter(|(_, data)| data.disputed().next().is_some());
-    disputed.map(|(prn, _)| *prn).collect()
+    with(run, Stretch::is_disputed)
 }
 
 fn wrong(run: &Run, clock: Clock) -> Option<Finding> {
     let title = wrong_title(run, clock)?;
-    let disputed = disputed(run);
-    let mut text = vec![if disputed.is_empty() {
-        not_taken(run).into()
-    } else {
-        format!(
+    let (disputed, older) = (disputed(run), with(run, Stretch::is_older));
+    let mut text = Vec::new();
+    if !disputed.is_empty() {
+        text.push(format!(
             "For {} a tag also MATCHED the data that others called wrong: a short tag can match by \
              chance, so do not rely on that mark.",
             satellites(&disputed)
-        )
-    }];
+        ));
+    }
+    if !older.is_empty() {
+        text.push(format!(
+            "For {} it is data that was right before and is still heard, though the system sends \
+             newer: the older is what is marked.",
+            satellites(&older)
+        ));
+    }
+    if text.is_empty() {
+        text.push(not_taken(run).into());
+    }
     text.extend(withdrawn(run, clock).map(|finding| finding.title));
-    text.extend(boom(run, clock));
+    text.extend(out_of_date(run, clock).map(|finding| finding.title));
+    text.push(boom(run, clock));
     Some(Finding::bad(title, text, where_from(run)))
 }
 
@@ -226,8 +248,30 @@ fn withdrawn(run: &Run, clock: Clock) -> Option<Finding> {
             "nothing, if the satellites that you need are marked again.",
         ),
     };
-    text.extend(boom(run, clock));
+    text.push(boom(run, clock));
     Some(Finding::bad(title, text, to_do))
+}
+
+/// Data of satellites that were not heard any more, and for which the system has newer.
+fn out_of_date(run: &Run, clock: Clock) -> Option<Finding> {
+    let prns: BTreeSet<u8> = run.out_of_date.keys().copied().collect();
+    let spans = run.out_of_date.values().filter_map(|old| old.tags.span);
+    let since = spans.map(|(first, _)| first).min()?;
+    let mut text = vec![format!(
+        "Not heard any more when the system sent newer data, since {}: what is marked is the older.",
+        clock.say(since)
+    )];
+    text.push(boom(run, clock));
+    Some(Finding::bad(
+        format!(
+            "DATA OUT OF DATE for {} of {} ({}).",
+            prns.len(),
+            count(run.heard.len() as u64, "satellite"),
+            satellites(&prns)
+        ),
+        text,
+        "look at the antenna and its view of the sky.",
+    ))
 }
 
 /// Satellites whose data was heard and not marked.
@@ -238,7 +282,7 @@ pub fn unmarked(run: &Run) -> BTreeSet<u8> {
 
 fn not_proved(run: &Run, clock: Clock) -> Option<Finding> {
     let unmarked = unmarked(run);
-    let mut text = Vec::from_iter(boom(run, clock));
+    let mut text = vec![boom(run, clock)];
     let to_do =
         "leave the receiver on for some minutes more. If it stays so, look at its reception.";
     if run.data.is_empty() {
@@ -294,12 +338,19 @@ fn authentic(run: &Run, clock: Clock) -> Finding {
         }
     };
     text.push(marked_told(run));
-    text.extend(boom(run, clock));
-    Finding {
-        good: true,
-        title: title.into(),
-        text,
-        to_do: "nothing. Clip this sheet to the job.".into(),
+    text.push(boom(run, clock));
+    match too_few(run, clock) {
+        None => Finding {
+            good: true,
+            title: title.into(),
+            text,
+            to_do: "nothing. Clip this sheet to the job.".into(),
+        },
+        Some(few) => Finding::bad(
+            format!("{title} {few}"),
+            text,
+            "look at the antenna and its view of the sky.",
+        ),
     }
 }
 
@@ -323,41 +374,55 @@ fn marked_told(run: &Run) -> String {
     marked + &others
 }
 
-/// What the boom goes by.
-fn boom(run: &Run, clock: Clock) -> Option<String> {
-    let minutes = LIMITS[0] * SUBFRAME / 60;
-    let [watch, _] = &run.watch;
-    let marks = format!("satellites had a mark of the last {minutes} minutes");
-    let Some(kept) = watch.kept() else {
-        return Some(format!(
-            "At no time {NEEDED} {marks}, which the boom needs."
-        ));
+/// Where the boom had too few satellites.
+fn too_few(run: &Run, clock: Clock) -> Option<String> {
+    let when = match run.watch[0].kept() {
+        None => ", all the time".into(),
+        Some(kept) => {
+            let (_, first, last) = kept.short?;
+            format!(" {}", clock.span(first, last))
+        }
     };
-    Some(match kept.short {
+    Some(format!("TOO FEW SATELLITES for the boom{when}."))
+}
+
+/// What the boom goes by.
+fn boom(run: &Run, clock: Clock) -> String {
+    let minutes = LIMITS[0] * SUBFRAME / 60;
+    let marks = format!("a mark of the last {minutes} minutes");
+    let Some(kept) = run.watch[0].kept() else {
+        return format!(
+            "At no time did {NEEDED} satellites have {marks}; the boom needs {NEEDED}."
+        );
+    };
+    match kept.short {
         None => format!(
-            "From {} on never fewer than {} {marks}; the boom needs {NEEDED}.",
+            "From {} on never fewer than {} satellites had {marks}; the boom needs {NEEDED}.",
             clock.say(kept.since),
             kept.fewest
         ),
         Some((n, first, last)) => format!(
-            "The boom needs {NEEDED} satellites with a mark of the last {minutes} minutes: it had \
-             them from {} on, but fewer ({} at the least) {} ({}).",
+            "The boom needs {NEEDED} satellites with {marks}: it had them from {} on, but in {} {} \
+             fewer, {} at the least.",
             clock.say(kept.since),
-            kept.fewest,
+            count(n, "half minute"),
             clock.span(first, last),
-            count(n, "half minute")
+            kept.fewest
         ),
-    })
+    }
 }
 
-/// Satellites that were not heard in the last two minutes, each with its last half minute.
+/// Satellites whose data was heard, but nothing in the last two minutes, each with its last half minute.
 pub fn silent(run: &Run) -> Vec<(u8, Gst)> {
-    const LONG: u64 = 120;
     let Some((_, end)) = run.timeline.span() else {
         return Vec::new();
     };
     let is = |(_, last): &(&u8, &Gst)| time::seconds(**last) + LONG <= time::seconds(end);
-    let silent = run.heard.iter().filter(is);
+    let with_data = run
+        .heard
+        .iter()
+        .filter(|(prn, _)| run.data.contains_key(prn));
+    let silent = with_data.filter(is);
     silent.map(|(prn, last)| (*prn, *last)).collect()
 }
 
@@ -403,15 +468,14 @@ pub fn event_told(event: &Event) -> (bool, String) {
     }
 }
 
-/// Wrong data as it came, for one satellite: the fields of a row of [`STORY`].
-pub fn story(run: &Run, clock: Clock, prn: u8) -> Option<Vec<String>> {
-    let wrong = run.wrong.get(&prn)?;
+/// Tags that did not match one satellite's data: the fields of a row of [`STORY`].
+pub fn story(run: &Run, clock: Clock, prn: u8, wrong: &WrongTags) -> Vec<String> {
     let mark = |mark: Option<Mark>| {
         mark.map_or("none".into(), |mark| {
             format!("{} ({})", mark.iodnav, clock.say(mark.tag))
         })
     };
-    Some(vec![
+    vec![
         format!("E{prn:02}"),
         wrong.tags.count.to_string(),
         wrong
@@ -425,7 +489,7 @@ pub fn story(run: &Run, clock: Clock, prn: u8) -> Option<Vec<String>> {
         mark(wrong.before),
         mark(wrong.meanwhile),
         mark(run.mark(prn)),
-    ])
+    ]
 }
 
 /// The head of the table of wrong data.

@@ -242,6 +242,8 @@ struct Waiting {
     stretch: u64,
     /// What was marked of its satellite then.
     mark: Option<Mark>,
+    /// Whether its satellite's words were old then.
+    old: bool,
     /// Changes of data since, by their places in [`Run::changed`].
     changes: Vec<usize>,
 }
@@ -267,6 +269,9 @@ pub struct Run {
     pub given_up: u64,
     /// Wrong tags by the satellite that they name.
     pub wrong: BTreeMap<u8, WrongTags>,
+    /// Those of satellites that were not heard any more, and whose data was right before: they tell
+    /// that the system has newer data.
+    pub out_of_date: BTreeMap<u8, WrongTags>,
     /// The sets of each satellite.
     pub marked: BTreeMap<u8, Sets>,
     /// The data of each satellite whose words came.
@@ -305,6 +310,7 @@ impl Run {
             tallies: BTreeMap::new(),
             given_up: 0,
             wrong: BTreeMap::new(),
+            out_of_date: BTreeMap::new(),
             marked: BTreeMap::new(),
             data: BTreeMap::new(),
             changed: Vec::new(),
@@ -533,10 +539,12 @@ impl Run {
             }
             None => {
                 self.tell(record, |cell| cell.says(said));
+                let data = self.data.get(&record.prn);
                 Waiting {
                     record: *record,
-                    stretch: self.data.get(&record.prn).map_or(0, Data::now),
+                    stretch: data.map_or(0, Data::now),
                     mark: self.mark(record.prn),
+                    old: data.is_some_and(|data| data.is_old(record.time)),
                     changes: Vec::new(),
                 }
             }
@@ -561,11 +569,16 @@ impl Run {
     /// A tag is authentic or wrong now.
     fn judge(&mut self, tag: &Waiting, record: &TagRecord) {
         let matched = record.outcome == Outcome::Authentic;
-        if let Some(data) = self.data.get_mut(&record.prn) {
-            data.judge(tag.stretch, matched);
-        }
+        let data = self.data.get_mut(&record.prn);
+        let stretch = data.and_then(|data| data.judge(tag.stretch, record.time, matched));
         if !matched {
-            let wrong = self.wrong.entry(record.prn).or_default();
+            // Data that is old and was right before is out of date.
+            let was_right = stretch.is_some_and(|stretch| stretch.matched > 0);
+            let wrong = match tag.old && was_right {
+                true => &mut self.out_of_date,
+                false => &mut self.wrong,
+            };
+            let wrong = wrong.entry(record.prn).or_default();
             wrong.add(record, tag.mark);
         }
         for &change in &tag.changes {

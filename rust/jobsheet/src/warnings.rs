@@ -1,11 +1,11 @@
 //! What somebody should look at: on the front in the fitter's words, on the back in the engineer's.
 
 use crate::finding::{self, STORY};
-use crate::history::{Became, Run, Tally, WordsChanged};
+use crate::history::{Became, Run, Tally, WordsChanged, WrongTags};
 use crate::refused::{Part, Refused};
 use crate::time::Clock;
 use crate::vouched::Keys;
-use crate::words::{capital, count, issue, issues, satellites, span, which};
+use crate::words::{capital, count, issue, issues, span, which};
 use osnma::{Gst, Outcome, Refusal};
 use std::collections::{BTreeMap, BTreeSet};
 
@@ -65,6 +65,7 @@ pub fn front(run: &Run, clock: Clock) -> Vec<Warning> {
     let mut all = Vec::new();
     all.extend(wrong(run, clock));
     all.extend(disputed(run));
+    all.extend(out_of_date(run, clock));
     all.extend(not_marked(run));
     all.extend(foreign_keys(run, clock));
     all.extend(others_refused(run));
@@ -86,11 +87,18 @@ pub fn back(run: &Run, clock: Clock) -> Vec<Warning> {
     by_grade(all)
 }
 
-fn wrong(run: &Run, clock: Clock) -> Option<Warning> {
-    let prns: BTreeSet<u8> = run.wrong.keys().copied().collect();
-    let rows = prns
+/// A row for each satellite, after its title.
+fn told_by_story(
+    run: &Run,
+    clock: Clock,
+    all: &BTreeMap<u8, WrongTags>,
+    title: &str,
+    text: &str,
+) -> Option<Warning> {
+    let prns: BTreeSet<u8> = all.keys().copied().collect();
+    let rows = all
         .iter()
-        .filter_map(|prn| finding::story(run, clock, *prn));
+        .map(|(prn, wrong)| finding::story(run, clock, *prn, wrong));
     let table = Table {
         head: STORY.to_vec(),
         rows: rows.collect(),
@@ -99,11 +107,32 @@ fn wrong(run: &Run, clock: Clock) -> Option<Warning> {
         table: Some(table),
         ..Warning::new(
             Grade::Warning,
-            format!("Wrong data for {}.", which(run, &prns)),
-            "What was heard is not what the system signed. A wrong tag marks nothing. Data is \
-             given by its issue number; marked data with the time of its tag.",
+            format!("{title} {}.", which(run, &prns)),
+            text,
         )
     })
+}
+
+fn wrong(run: &Run, clock: Clock) -> Option<Warning> {
+    told_by_story(
+        run,
+        clock,
+        &run.wrong,
+        "Wrong data for",
+        "What was heard is not what the system signed. A wrong tag marks nothing. Data is given by \
+         its issue number; marked data with the time of its tag.",
+    )
+}
+
+fn out_of_date(run: &Run, clock: Clock) -> Option<Warning> {
+    told_by_story(
+        run,
+        clock,
+        &run.out_of_date,
+        "Data out of date for",
+        "Not heard any more while the system sent newer data: the tags are for that. The data that \
+         was heard was right before.",
+    )
 }
 
 fn disputed(run: &Run) -> Option<Warning> {
@@ -113,7 +142,7 @@ fn disputed(run: &Run) -> Option<Warning> {
             Grade::Warning,
             format!("The same data called both authentic and wrong: {}.", which(run, &prns)),
             "Some tags matched it and some did not. A short tag matches wrong data by chance now and \
-             then; a damaged tag fails on right data. Do not rely on this mark.",
+             then. Do not rely on this mark.",
         )
     })
 }
@@ -197,11 +226,16 @@ fn is_without_keys(sum: &Refused) -> bool {
 fn without_keys(run: &Run, clock: Clock) -> Vec<Warning> {
     let told = |sum: &Refused| {
         let when = capital(span(clock, sum.span));
-        match sum.keys {
-            Keys::Withdrawn => Warning::new(
+        match (sum.keys, run.vouched.keys) {
+            (Keys::Withdrawn, _) => Warning::new(
                 Grade::Warning,
                 format!("{when} the keys were withdrawn."),
-                format!("Of {} the tags could not be judged.", satellites(&sum.prns)),
+                format!("The tags of {} could not be judged.", which(run, &sum.prns)),
+            ),
+            (_, Keys::NotYet) => Warning::new(
+                Grade::Warning,
+                format!("{when} no keys were in force."),
+                "No tag could be judged.",
             ),
             _ => Warning::new(
                 Grade::Note,
@@ -210,11 +244,8 @@ fn without_keys(run: &Run, clock: Clock) -> Vec<Warning> {
             ),
         }
     };
-    run.refused
-        .all()
-        .filter(|sum| is_without_keys(sum))
-        .map(told)
-        .collect()
+    let sums = run.refused.all().filter(|sum| is_without_keys(sum));
+    sums.map(told).collect()
 }
 
 fn silent(run: &Run, clock: Clock) -> Option<Warning> {
@@ -224,17 +255,14 @@ fn silent(run: &Run, clock: Clock) -> Option<Warning> {
         by_time.entry(*last).or_default().insert(*prn);
     }
     let told = |(last, prns): (&Gst, &BTreeSet<u8>)| {
-        format!("{} at {}", which(run, prns), clock.say(*last))
+        format!("{} since {}", which(run, prns), clock.say(*last))
     };
-    let all: BTreeSet<u8> = silent.iter().map(|(prn, _)| *prn).collect();
-    (!all.is_empty()).then(|| {
+    let told = Vec::from_iter(by_time.iter().map(told)).join("; ");
+    (!silent.is_empty()).then(|| {
         Warning::new(
             Grade::Note,
-            format!("Not heard to the end: {}.", which(run, &all)),
-            format!(
-                "Last heard: {}. Tags that others send still judge the data that it sent before.",
-                Vec::from_iter(by_time.iter().map(told)).join("; ")
-            ),
+            format!("Not heard to the end: {told}."),
+            "Tags that others send still judge the data heard before.",
         )
     })
 }

@@ -299,6 +299,8 @@ fn chain_in_force() {
         let (_, _, receiver) = second(bytes);
         assert_eq!(run.waiting(), receiver.waiting_tags().len(), "{name}");
         assert_eq!(run.stopped.is_some(), receiver.is_stopped(), "{name}");
+        let waits = receiver.waiting_message().is_some();
+        assert_eq!(run.message_since().is_some(), waits, "{name}");
         let mine = run.vouched.root().map(|root| {
             let chain = &root.chain;
             let bits = (usize::from(chain.key_bits), usize::from(chain.tag_bits));
@@ -669,98 +671,371 @@ fn heard_itself() {
 // marked when the first came, when the last came, and at the end.
 #[test]
 fn story_of_wrong_data() {
-    let mut rows = 0;
-    for (name, _, all) in shown() {
+    let (mut rows, mut old_rows) = (0, 0);
+    for (name, bytes, all) in shown() {
         for run in 0..all.runs.len() {
             let shown = sheet_of(name, all, run);
             let shown = &shown.runs[0];
-            let told = shown
-                .front
-                .iter()
-                .find(|warning| warning.title.starts_with("Wrong data for"));
-            let told = told.map_or(Vec::new(), |warning| warning.table.clone().unwrap().rows);
-            let right = story(lines_of_run(name, all, run), shown.clock);
-            assert_eq!(told, right, "{name}, run {run}");
+            let told = |title: &str| {
+                let found = shown.front.iter().find(|w| w.title.starts_with(title));
+                found.map_or(Vec::new(), |w| w.table.clone().unwrap().rows)
+            };
+            let lines = lines_of_run(name, all, run);
+            let (wrong, old) = stories(lines, of_run(bytes, all, run));
+            let right = wrong.rows(shown.clock);
+            assert_eq!(told("Wrong data for"), right, "{name}, run {run}");
+            let right_old = old.rows(shown.clock);
+            assert_eq!(told("Data out of date for"), right_old, "{name}, run {run}");
             let (page, text) = run_page(name, all, run);
-            for row in &right {
-                let fields: Vec<String> = row
-                    .iter()
-                    .map(|field| format!("<td>{field}</td>"))
-                    .collect();
-                assert!(page.contains(&fields.concat()), "{name}: {row:?}");
+            for row in right.iter().chain(&right_old) {
+                let fields = row.iter().map(|field| format!("<td>{field}</td>"));
+                assert!(
+                    page.contains(&fields.collect::<String>()),
+                    "{name}: {row:?}"
+                );
                 assert!(text.contains(&row[4]), "{name}");
             }
             rows += right.len();
+            old_rows += right_old.len();
             // What the box says of it.
-            let of = format!("for {} of {} satellite", right.len(), shown.heard);
-            let wrong = shown.finding.title.contains("WRONG DATA")
-                || shown.finding.text.join(" ").contains("WRONG DATA");
-            assert_eq!(wrong, !right.is_empty(), "{name}: {:?}", shown.finding);
-            if wrong {
-                let words = format!("{} {}", shown.finding.title, shown.finding.text.join(" "));
-                assert!(words.contains(&of), "{name}: {words}");
+            let words = format!("{} {}", shown.finding.title, shown.finding.text.join(" "));
+            let span = wrong
+                .span()
+                .map(|(first, last)| shown.clock.span(first, last));
+            match span {
+                None => assert!(!words.contains("WRONG DATA"), "{name}: {words}"),
+                Some(span) => {
+                    let of = format!("for {} of {} satellite", right.len(), shown.heard);
+                    assert!(
+                        words.contains(&format!("WRONG DATA came in {span} {of}")),
+                        "{name}: {words}"
+                    );
+                }
             }
+            let old = format!(
+                "OUT OF DATE for {} of {} satellite",
+                right_old.len(),
+                shown.heard
+            );
+            assert!(
+                right_old.is_empty() || words.contains(&old),
+                "{name}: {words}"
+            );
         }
     }
-    assert!(rows > 20, "{rows}");
+    assert!(rows > 20 && old_rows > 0, "{rows}, {old_rows}");
 }
 
 /// A set as a read gives it: IODnav and the time of its tag.
 type Set = (u16, u32);
-/// A wrong tag: its arrival, the IODnav that it was compared with, and the set then.
-type WrongTag = (u32, u16, Option<Set>);
 /// By arrival, sender, block and position.
 type ByTag<T> = BTreeMap<(u32, u8, u8, u8), T>;
 
-/// The rows of the table of wrong data, from the second receiver's lines.
-fn story(lines: &[Line], clock: Clock) -> Vec<Vec<String>> {
-    let mark = |mark: Option<Set>| {
-        mark.map_or("none".into(), |(iodnav, time)| {
-            format!("{iodnav} ({})", clock.say(Gst::from_bits(time)))
-        })
-    };
-    // Of each satellite: its set's IODnav and tag; what it was when each tag came; its wrong tags.
+/// A wrong tag.
+struct WrongTag {
+    time: u32,
+    iodnav: u16,
+    /// Its satellite's set when it came.
+    set: Option<Set>,
+}
+
+/// Wrong tags by satellite, and its set at the end.
+#[derive(Default)]
+struct Story {
+    tags: BTreeMap<u8, Vec<WrongTag>>,
+    at_end: BTreeMap<u8, Set>,
+}
+
+impl Story {
+    fn span(&self) -> Option<(Gst, Gst)> {
+        let times = || {
+            self.tags
+                .values()
+                .flatten()
+                .map(|tag| Gst::from_bits(tag.time))
+        };
+        times().min().zip(times().max())
+    }
+
+    fn rows(&self, clock: Clock) -> Vec<Vec<String>> {
+        let row = |(prn, tags): (&u8, &Vec<WrongTag>)| {
+            let set = |set: Option<Set>| {
+                let told =
+                    |(iodnav, time)| format!("{iodnav} ({})", clock.say(Gst::from_bits(time)));
+                set.map_or("none".into(), told)
+            };
+            let first = tags.iter().min_by_key(|tag| tag.time).unwrap();
+            // Of those that came last the first judged.
+            let last = tags.iter().rev().max_by_key(|tag| tag.time).unwrap();
+            let (a, b) = (Gst::from_bits(first.time), Gst::from_bits(last.time));
+            let issues: BTreeSet<u16> = tags.iter().map(|tag| tag.iodnav).collect();
+            vec![
+                format!("E{prn:02}"),
+                tags.len().to_string(),
+                if a == b {
+                    clock.say(a)
+                } else {
+                    clock.range(a, b)
+                },
+                match issues.len() {
+                    1..=4 => Vec::from_iter(issues.iter().map(u16::to_string)).join(", "),
+                    n => format!("{n} issues"),
+                },
+                set(first.set),
+                set(last.set),
+                set(self.at_end.get(prn).copied()),
+            ]
+        };
+        self.tags.iter().map(row).collect()
+    }
+}
+
+/// Wrong data, and data out of date, from the second receiver's lines.
+fn stories(lines: &[Line], run: &[u8]) -> (Story, Story) {
+    let (mut wrong, mut old) = (Story::default(), Story::default());
     let mut marked: BTreeMap<u8, Set> = BTreeMap::new();
-    let mut then: ByTag<Option<Set>> = BTreeMap::new();
-    let mut wrong: BTreeMap<u8, Vec<WrongTag>> = BTreeMap::new();
-    for line in lines {
+    // Of each tag when it came: its satellite's set, and whether no word came in the half minute before.
+    let mut then: ByTag<(Option<Set>, bool)> = BTreeMap::new();
+    let mut last_word: BTreeMap<u8, Gst> = BTreeMap::new();
+    let mut right: BTreeSet<(u8, u16)> = BTreeSet::new();
+    for (line, record) in lines.iter().zip(run.chunks_exact(RECORD_LEN)) {
+        if let Record::Word { prn, time, word } = Record::of(record.try_into().unwrap()) {
+            if line.first == 0 && (1..=5).contains(&(word[0] >> 2)) {
+                last_word.insert(prn, time);
+            }
+        }
         let before = marked.clone();
         for t in &line.tags {
             let time = u32::from_be_bytes([t[8], t[9], t[10], t[11]]);
             let iodnav = u16::from_be_bytes([t[6], t[7]]);
-            let tag = (time, t[1], t[4], t[5]);
-            let known = *then.entry(tag).or_insert(before.get(&t[2]).copied());
-            if t[0] == 1 && marked.get(&t[2]).is_none_or(|set| set.1 <= time) {
-                marked.insert(t[2], (iodnav, time));
+            let age = |last: &Gst| time::seconds(Gst::from_bits(time)) - time::seconds(*last);
+            let is_old = last_word.get(&t[2]).is_some_and(|last| age(last) > 30);
+            let known = (before.get(&t[2]).copied(), is_old);
+            let (set, is_old) = *then.entry((time, t[1], t[4], t[5])).or_insert(known);
+            if t[0] == 1 {
+                right.insert((t[2], iodnav));
+                if marked.get(&t[2]).is_none_or(|set| set.1 <= time) {
+                    marked.insert(t[2], (iodnav, time));
+                }
             }
             if t[0] == 2 {
-                wrong.entry(t[2]).or_default().push((time, iodnav, known));
+                let story = match is_old && right.contains(&(t[2], iodnav)) {
+                    true => &mut old,
+                    false => &mut wrong,
+                };
+                let tags = story.tags.entry(t[2]).or_default();
+                tags.push(WrongTag { time, iodnav, set });
             }
         }
     }
-    let row = |(prn, tags): (u8, Vec<WrongTag>)| {
-        let first = tags.iter().min_by_key(|tag| tag.0).unwrap();
-        // Of those that came last the first judged.
-        let last = tags.iter().rev().max_by_key(|tag| tag.0).unwrap();
-        let (a, b) = (Gst::from_bits(first.0), Gst::from_bits(last.0));
-        let issues: BTreeSet<u16> = tags.iter().map(|tag| tag.1).collect();
-        let issues = match issues.len() {
-            1..=4 => Vec::from_iter(issues.iter().map(u16::to_string)).join(", "),
-            n => format!("{n} issues"),
+    wrong.at_end = marked.clone();
+    old.at_end = marked;
+    (wrong, old)
+}
+
+// What the box says of the boom: the counts of the first row, at the end of each half minute.
+#[test]
+fn box_counts_for_the_boom() {
+    let (mut never, mut always, mut short) = (0, 0, 0);
+    for (name, bytes, all) in shown() {
+        for run in 0..all.runs.len() {
+            let right = Expected::of_run(name, bytes, all, run);
+            let shown = &sheet_of(name, all, run).runs[0];
+            let words = shown.finding.text.join(" ");
+            if !words.contains("the boom needs 4") && !words.contains("The boom needs 4") {
+                continue;
+            }
+            // Where all data is right, the title says it too.
+            let titled = |few: Option<String>| {
+                let title = &shown.finding.title;
+                let told = title.split_once(" TOO FEW SATELLITES for the boom");
+                let told = told.map(|(_, when)| when.trim_end_matches('.').to_string());
+                assert!(
+                    !title.starts_with("All data") || told == few,
+                    "{name}: {title}"
+                );
+            };
+            let times = right.marked.keys().map(|time| Gst::from_bits(*time));
+            let counts = right.lately(10, 1).into_iter().flatten();
+            let all: Vec<(Gst, usize)> = times.zip(counts).collect();
+            let Some(since) = all.iter().position(|(_, n)| *n >= 4) else {
+                assert!(
+                    words.contains("At no time did 4 satellites have a mark"),
+                    "{name}: {words}"
+                );
+                titled(Some(", all the time".into()));
+                never += 1;
+                continue;
+            };
+            let fewest = all[since..].iter().map(|(_, n)| *n).min().unwrap();
+            let few: Vec<Gst> = all[since..]
+                .iter()
+                .filter(|(_, n)| *n < 4)
+                .map(|(at, _)| *at)
+                .collect();
+            let from = shown.clock.say(all[since].0);
+            match (few.first(), few.last()) {
+                (Some(first), Some(last)) => {
+                    let span = shown.clock.span(*first, *last);
+                    let told = format!("from {from} on, but in {} half minute", few.len());
+                    assert!(
+                        words.contains(&told) && words.contains(&span),
+                        "{name}: {words}"
+                    );
+                    assert!(
+                        words.contains(&format!("fewer, {fewest} at the least")),
+                        "{name}: {words}"
+                    );
+                    titled(Some(format!(" {span}")));
+                    short += 1;
+                }
+                _ => {
+                    let told = format!("From {from} on never fewer than {fewest} satellites");
+                    assert!(words.contains(&told), "{name}: {words}");
+                    titled(None);
+                    always += 1;
+                }
+            }
+        }
+    }
+    assert!(
+        never > 0 && always > 0 && short > 0,
+        "{never}, {always}, {short}"
+    );
+}
+
+// Events: from verdicts and sub-frames by the second receiver's answers.
+#[test]
+fn events_are_the_replays() {
+    let mut seen: BTreeMap<&str, usize> = BTreeMap::new();
+    for (name, bytes, all) in shown() {
+        for run in 0..all.runs.len() {
+            let shown = &sheet_of(name, all, run).runs[0];
+            let records = of_run(bytes, all, run);
+            let right = events(lines_of_run(name, all, run), records);
+            assert_eq!(
+                shown.events.len(),
+                right.len(),
+                "{name}: {:?}",
+                shown.events
+            );
+            let (page, _) = run_page(name, all, run);
+            for (event, (at, what)) in shown.events.iter().zip(right) {
+                let when = at.map_or("at the start".into(), |at| shown.clock.say(at));
+                assert_eq!(event.when, when, "{name}");
+                assert!(event.what.starts_with(what), "{name}: {event:?}, {what}");
+                assert!(page.contains(&html::escaped(&event.what)), "{name}");
+                *seen.entry(what).or_default() += 1;
+            }
+        }
+    }
+    assert_eq!(seen.len(), 8, "{seen:?}");
+}
+
+fn events(lines: &[Line], run: &[u8]) -> Vec<(Option<Gst>, &'static str)> {
+    let mut all = Vec::new();
+    let (mut noted, mut ever) = (None, false);
+    let mut in_force: Option<Vec<u8>> = None;
+    let mut key = run[2];
+    for (line, r) in lines.iter().zip(run.chunks_exact(RECORD_LEN)) {
+        match (r[0], line.first) {
+            (3 | 6, first) if ![2, 3, 4].contains(&first) => {
+                noted = Some(Gst::from_bits(subframe_time(r)));
+                if (first, line.second) == (0, 4) {
+                    all.push((noted, "STOPPED"));
+                }
+            }
+            (4, 15) => all.push((noted, "The signature chip said NO")),
+            (4, 0) if r[3] >> 6 == 3 => {
+                in_force = None;
+                all.push((noted, "KEYS WITHDRAWN"));
+            }
+            (4, 0) => {
+                if std::mem::replace(&mut key, r[2]) != r[2] {
+                    all.push((noted, "New public key"));
+                }
+                let contents = r[4..48].to_vec();
+                // CID and parameters, and α.
+                let chain = |c: &[u8]| (c[..3].to_vec(), c[6..12].to_vec());
+                let what = match &in_force {
+                    Some(old) if *old == contents => None,
+                    Some(old) if chain(old) == chain(&contents) => Some("The system signed"),
+                    Some(_) => Some("New keys in force, in place"),
+                    None if ever => Some("New keys in force: tags are judged again"),
+                    None => Some("Keys in force"),
+                };
+                all.extend(what.map(|what| (noted, what)));
+                (in_force, ever) = (Some(contents), true);
+            }
+            _ => {}
+        }
+    }
+    all
+}
+
+// Counts of tags and refusals on the back.
+#[test]
+fn counts_are_the_replays() {
+    let mut reasons = BTreeSet::new();
+    for (name, bytes, all) in shown() {
+        for (n, run) in all.runs.iter().enumerate() {
+            let right = Expected::of_run(name, bytes, all, n);
+            let (page, _) = run_page(name, all, n);
+            let count = |outcome: u8| right.tags.values().filter(|tag| tag.1 == outcome).count();
+            let (authentic, wrong) = (count(1), count(2));
+            let rest = right.tags.len() - authentic - wrong - run.waiting();
+            let told = format!(
+                "{authentic} authentic, {wrong} wrong, {} wait still, {rest} without judgement",
+                run.waiting()
+            );
+            assert!(page.contains(&told), "{name}: {told}");
+            let refused = refused(lines_of_run(name, all, n), of_run(bytes, all, n));
+            let mut sums: BTreeMap<(&str, u32), u64> = BTreeMap::new();
+            for sum in run.refused.all() {
+                *sums
+                    .entry((sum.part.name(), sum.refusal.number()))
+                    .or_default() += sum.count;
+                let s = if sum.count == 1 { "" } else { "s" };
+                let line = format!("<b>{} {}{s} refused.</b>", sum.count, sum.part.name());
+                let in_stop = format!("{} {}{s}", sum.count, sum.part.name());
+                let stop = sum.refusal == Refusal::Stopped;
+                assert!(
+                    page.contains(if stop { &in_stop } else { &line }),
+                    "{name}: {line}"
+                );
+                reasons.insert(sum.refusal.number());
+            }
+            assert_eq!(sums, refused, "{name}, run {n}");
+            let lost = refused.get(&("message block", 17)).copied().unwrap_or(0);
+            let subframes = lines_of_run(name, all, n)
+                .iter()
+                .zip(of_run(bytes, all, n).chunks_exact(RECORD_LEN));
+            let noted = subframes
+                .filter(|(line, r)| [3, 6].contains(&r[0]) && ![2, 3, 4].contains(&line.first))
+                .count();
+            let told = format!("Reception was broken in {lost} of {noted} half minutes");
+            assert_eq!(page.contains(&told), lost > 0, "{name}: {told}");
+        }
+    }
+    assert!(reasons.len() > 10, "{reasons:?}");
+}
+
+/// How often each part was refused for each reason.
+fn refused(lines: &[Line], run: &[u8]) -> BTreeMap<(&'static str, u32), u64> {
+    let mut all: BTreeMap<(&str, u32), u64> = BTreeMap::new();
+    for (line, r) in lines.iter().zip(run.chunks_exact(RECORD_LEN)) {
+        let parts = match (r[0], line.first, line.second) {
+            (3 | 6, first @ 2..=5, _) => vec![("sub-frame", first)],
+            (3 | 6, 0, 4) => vec![],
+            (3 | 6, first, second) => vec![("message block", first), ("section", second)],
+            (1, first, _) => vec![("start", first)],
+            (2, first, _) => vec![("word", first)],
+            (4, first, _) => vec![("verdict", first)],
+            (_, first, _) => vec![("record", first)],
         };
-        vec![
-            format!("E{prn:02}"),
-            tags.len().to_string(),
-            if a == b {
-                clock.say(a)
-            } else {
-                clock.range(a, b)
-            },
-            issues,
-            mark(first.2),
-            mark(last.2),
-            mark(marked.get(&prn).copied()),
-        ]
-    };
-    wrong.into_iter().map(row).collect()
+        for part in parts.into_iter().filter(|part| part.1 != 0) {
+            *all.entry(part).or_default() += 1;
+        }
+    }
+    all
 }

@@ -9,7 +9,7 @@ use jobsheet::sheet::Sheet;
 use jobsheet::time::Zone;
 use jobsheet::warnings::Grade;
 use jobsheet::{html, text};
-use std::collections::BTreeSet;
+use std::collections::{BTreeMap, BTreeSet};
 use std::time::{Duration, Instant};
 
 fn sheet(name: &str) -> Sheet {
@@ -142,6 +142,23 @@ fn records(name: &str) -> Vec<Vec<u8>> {
     bytes.chunks_exact(RECORD_LEN).map(<[u8]>::to_vec).collect()
 }
 
+/// The records with the first word of each type of a satellite in place of all that follow, as from a
+/// repeater that is late.
+fn older_words(records: &[Vec<u8>], prn: u8) -> Vec<u8> {
+    let mut first: BTreeMap<u8, Vec<u8>> = BTreeMap::new();
+    let older = |record: &Vec<u8>| {
+        let mut record = record.clone();
+        if record[..2] == [2, prn] {
+            let word = first
+                .entry(record[6] >> 2)
+                .or_insert(record[6..22].to_vec());
+            record[6..22].copy_from_slice(word);
+        }
+        record
+    };
+    records.iter().flat_map(older).collect()
+}
+
 // The first words of the sheet, for what can happen in the field.
 #[test]
 fn findings() {
@@ -181,7 +198,7 @@ fn findings() {
         &[
             "THE SYSTEM WITHDREW ITS KEYS at 2017-10-20 00:02:00. New ones were taken at 2017-10-20 00:04:30.",
             "3 satellites with data, all marked. E01 to E08 sent none.",
-            "At no time 4 satellites had a mark",
+            "At no time did 4 satellites have a mark of the last 5 minutes; the boom needs 4.",
         ],
     );
     let fitter = records("fitter");
@@ -223,20 +240,48 @@ fn findings() {
         &boxes(&revoked[..=place].concat()),
         &["THE SYSTEM WITHDREW ITS KEYS at 2017-10-20 00:02:00, and no new ones came."],
     );
+    // Three of twelve satellites are heard from the fifth minute on. E09 has newer data later, which
+    // nobody heard: that is out of date, not wrong.
+    let few = boxes(&common::few_heard());
+    says(
+        &few,
+        &[
+            "DATA OUT OF DATE for 1 of 12 satellites (E09). Not heard any more when the system sent newer \
+             data, since 00:20:30",
+            "never fewer than 11 satellites",
+        ],
+    );
+    assert!(!few[0].contains("WRONG"), "{few:?}");
+    // E09 is heard on, but with its old data: no data that nobody heard, but older than the system's.
+    let older = older_words(&fitter, 9);
+    let told = boxes(&older);
+    says(
+        &told,
+        &[
+            "WRONG DATA came in",
+            "For E09 it is data that was right before and is still heard",
+        ],
+    );
+    // All data right, but of two satellites.
+    says(
+        &boxes(&recording("week_change")),
+        &["All data heard was authentic. TOO FEW SATELLITES for the boom, all the time."],
+    );
     // Words without a tag for them.
     let few: Vec<u8> = fitter[..140].concat();
     says(&boxes(&few), &["NO DATA WAS PROVED."]);
 }
 
-// A tag that matches data which others call wrong: the page does not call that data proved. Every tag of
-// E04 that comes with the repeater's words is wrong but for one, made to match by the words of one satellite.
+// A tag that matches data which others call wrong: the page does not call that data proved. One of the
+// tags that came with the repeater's words is made to match by hand, since in no scenario one does.
 #[test]
 fn disputed_data() {
     let mut all = history(&recording("fitter"));
+    let (first, _) = all.runs[0].timeline.span().unwrap();
     assert!(jobsheet::finding::disputed(&all.runs[0]).is_empty());
     let data = all.runs[0].data.get_mut(&4).unwrap();
     let wrong = (1..=data.now()).find(|n| data.stretches().nth(*n as usize - 1).unwrap().wrong > 0);
-    data.judge(wrong.unwrap(), true);
+    data.judge(wrong.unwrap(), first, true);
     let sheet = Sheet::of("fitter", &all, None);
     let text = sheet.runs[0].finding.text.join(" ");
     assert!(
@@ -373,12 +418,9 @@ fn silent_satellite() {
         (strip.prn, heard.collect::<Vec<_>>()),
         (1, [[1; 10].as_slice(), &[0; 50]].concat())
     );
-    let note = run
-        .front
-        .iter()
-        .find(|w| w.title == "Not heard to the end: E01.")
-        .unwrap();
-    assert!(note.text.contains("E01 at 00:04:30"), "{note:?}");
+    let titles: Vec<&str> = run.front.iter().map(|w| w.title.as_str()).collect();
+    let note = "Not heard to the end: E01 since 00:04:30.";
+    assert!(titles.contains(&note), "{titles:?}");
     let text = text::sheet(&sheet);
     let row = text
         .lines()
@@ -615,7 +657,7 @@ fn bounded() {
     let mut word = [0; RECORD_LEN];
     let mut other = Vec::from_iter((0..20_000).map(|_| [0u8; RECORD_LEN]));
     for n in 0..20_000u32 {
-        let time = (n / 700) << 20 | (n % 700) * 840;
+        let time = ((n / 700) << 20) | ((n % 700) * 840);
         word[..2].copy_from_slice(&[2, (n % 36) as u8 + 1]);
         word[2..6].copy_from_slice(&time.to_be_bytes());
         word[6..8].copy_from_slice(&[4, n as u8]);

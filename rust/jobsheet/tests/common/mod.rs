@@ -23,11 +23,25 @@ fn built() -> Vec<(String, Vec<u8>)> {
     let random = (0..24).map(|seed| (format!("random {seed}"), scenario::random(seed).bytes));
     named
         .chain(random)
+        .chain([("few heard".to_string(), few_heard())])
         .map(|(name, mut bytes)| {
             bytes.truncate(bytes.len() / RECORD_LEN * RECORD_LEN);
             (name, bytes)
         })
         .collect()
+}
+
+/// The fitter's half hour with three of its satellites heard from the fifth minute on: the system goes
+/// on with tags for the others.
+pub fn few_heard() -> Vec<u8> {
+    let bytes = recording("fitter");
+    let time = |r: &[u8]| u32::from_be_bytes([r[2], r[3], r[4], r[5]]);
+    let records = || bytes.chunks_exact(RECORD_LEN);
+    let subframes = records().filter(|r| r[0] == 3);
+    let fifth = subframes.map(time).min().unwrap() + 300;
+    let heard = |r: &&[u8]| ![2, 3].contains(&r[0]) || [25, 31, 36].contains(&r[1]);
+    let kept = records().filter(|r| heard(r) || time(r) < fifth);
+    kept.flatten().copied().collect()
 }
 
 /// Them all, built once.
