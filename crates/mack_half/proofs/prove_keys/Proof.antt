@@ -17,7 +17,7 @@ slot-to-keep-requires c κs =
 
 returns : tie.Need-returns
 returns c =
-    let v = c .before in
+    let v = c .before .before .before in
     let e = c .keys-proved .ensures in
     let b = v .slot-to-keep .ensures in
     let sent = v .before .sent-slot .ensures in (
