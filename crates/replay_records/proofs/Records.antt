@@ -162,5 +162,5 @@ pub given-few : (s next : Session) (first second count : ℕ) (input : List ℕ)
 given-few s next first second count input e = subst (λ (a : Answered). Few (s .area) (a .count)) (sym e) (records-few s input)
 
 -- room for the lines, and the records themselves
-pub room-for : (count lo la la' : ℕ) → room ≤ lo → (count ≤ 270) × (count * 12 ≤ la) → la' ≡ la → (84 + count * 25 ≤ lo) × (count * 12 ≤ la')
-room-for count lo la la' h f e = (omega (arith, f .0), rw e (f .1))
+pub room-for : (count lo la : ℕ) → room ≤ lo → count ≤ 270 → la ≡ 3240 → (84 + count * 25 ≤ lo) × (count * 12 ≤ la)
+room-for count lo la h f e = (omega arith, omega arith)

@@ -1,2 +1,3 @@
 -- what the contracts of the replay library cite
+pub mod Pieces
 pub mod Written

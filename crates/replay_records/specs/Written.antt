@@ -1,12 +1,11 @@
--- One record of the replay program's input into a lent slice: `written` is the definition that `replay_record` equals. The abbreviations write
--- what the functions give from numbers and lent memory at exit.
-use Prim.Native.Nat.{ℕ}
-use mathlib.Core.Bool.{cond, _||_}
+-- Records of the replay program's input into a lent slice: `written` is what `replay_record` gives of one, and `replay_piece` of a piece of the input.
+-- The abbreviations write what the functions give from numbers and lent memory at exit.
+use mathlib.Core.Path.{_≡_}
 use mathlib.Core.List.{List}
-use lib.Dec.{ltb, eqb}
+use Prim.Native.Nat.{ℕ, _+_, _≤_, _<_}
 use lib.ListN.{length}
 use Rattle.laws.specs.Lists.{splice}
-use Rattle.rules.specs.Replay.{Session, Replay, replayed}
+use Rattle.rules.specs.Replay.{Session, Replay, Replayed, recordLength}
 
 abbrev pub replay : Session → ℕ → Replay
 replay s place = record { session = s; place = place }
@@ -20,6 +19,10 @@ pub record Written : Type 0 where
 abbrev pub wrote : ℕ → List ℕ → Replay → Written
 wrote count out next = record { count = count; out = out; next = next }
 
+-- lines from the front of the slice, and nothing else of it changed
+unfoldable pub written : List ℕ → Replayed → Written
+written out p = wrote (length (p .lines)) (splice out 0 (p .lines)) (p .next)
+
 -- room for the lines of any record: 84 bytes for the first, 25 for each of 270 tag records
 abbrev pub room : ℕ
 room = 6834
@@ -28,11 +31,9 @@ room = 6834
 abbrev pub lastPlace : ℕ
 lastPlace = 18446744073709551615
 
--- A record: its lines from the front of the slice, and nothing else of it changed. Where the slice may be too short, or no place is left, the record
--- is not read: no byte is written, and all stays as it is.
-unfoldable pub written : List ℕ → Replay → List ℕ → Written
-written out s r =
-    let p = replayed s r in
-    cond (ltb (length out) room || eqb (s .place) lastPlace)
-    (wrote 0 out s)
-    (wrote (length (p .lines)) (splice out 0 (p .lines)) (p .next))
+-- the end r of the record that begins at place a of an input of n bytes: 256 bytes on, or the input's end
+pub record RecordEnd (a n r : ℕ) : Type 0 where
+  pub past : a < r
+  pub within : r ≤ n
+  pub whole : a + recordLength ≤ n → r ≡ a + recordLength
+  pub short : n < a + recordLength → r ≡ n
