@@ -318,6 +318,11 @@ fn run_sheet(run: &Run, zone: Option<Zone>) -> RunSheet {
     let named = run.timeline.columns().flat_map(|column| column.prns());
     let prns: BTreeSet<u8> = run.heard.keys().copied().chain(named).collect();
     let few = run.timeline.overview(FRONT_COLUMNS);
+    let front = warnings::front(run, clock);
+    let mut finding = finding::of(run, clock);
+    if finding.good && front.iter().any(|warning| warning.grade == Grade::Warning) {
+        finding.to_do = "read the warnings below, then clip this sheet to the job.".into();
+    }
     RunSheet {
         part: None,
         clock,
@@ -325,9 +330,9 @@ fn run_sheet(run: &Run, zone: Option<Zone>) -> RunSheet {
             clock.dated().range(first, last)
         }),
         heard: run.heard.len(),
-        finding: finding::of(run, clock),
+        finding,
         events: events(run, clock),
-        front: warnings::front(run, clock),
+        front,
         back: warnings::back(run, clock),
         facts: facts(run, clock),
         overview: Strips::of(run, &few, &prns),

@@ -262,6 +262,17 @@ fn findings() {
             "For E09 it is data that was right before and is still heard",
         ],
     );
+    // All data right, but a key is damaged on the way.
+    let mut damaged = records("nominal");
+    let last = damaged.iter().rposition(|r| r[0] == 3).unwrap();
+    damaged[last][32] ^= 1;
+    says(
+        &boxes(&damaged.concat()),
+        &[
+            "All data heard was authentic.",
+            "Do: read the warnings below",
+        ],
+    );
     // All data right, but of two satellites.
     says(
         &boxes(&recording("week_change")),
