@@ -594,6 +594,10 @@ fn several_starts() {
     let front = page.split("</ul>").next().unwrap();
     assert!(front.contains("Part 1: STOPPED at 2017-10-20 00:01:30"));
     assert!(front.contains("Part 2: NOTHING WAS JUDGED"));
+    // Neighbours that come to the same have one line.
+    let thrice = Sheet::of("x", &history(&recording("week_change").repeat(3)), None);
+    let told = "Parts 1 to 3: All data heard was authentic. TOO FEW SATELLITES for the boom, all the time.";
+    assert_eq!(thrice.remarks[1..], [told]);
 }
 
 // More starts than parts: the last have one, and what the others came to is said.

@@ -195,6 +195,12 @@ fn links_and_modes() {
     let mode = fs::metadata(&old).unwrap().permissions().mode();
     assert_eq!(mode & 0o7777, 0o640);
     assert_eq!(names(&folder.join("sheets")), ["new.html", "old.html"]);
+    // A link to the recording would replace it.
+    symlink("run.rec", folder.join("self.html")).unwrap();
+    let output = jobsheet(&folder, &["run.rec", "-o", "self.html"]);
+    assert_eq!(output.status.code(), Some(2), "{output:?}");
+    let kept = fs::read(folder.join("run.rec")).unwrap();
+    assert!(kept == recording("nominal"));
     symlink("round.html", folder.join("round.html")).unwrap();
     let output = jobsheet(&folder, &["run.rec", "-o", "round.html"]);
     assert_eq!(output.status.code(), Some(1), "{output:?}");
