@@ -216,7 +216,12 @@ fn as_ordinary_user(folder: &Path, args: &[&str]) -> Command {
         return command;
     }
     let program = folder.join("jobsheet");
-    fs::copy(env!("CARGO_BIN_EXE_jobsheet"), &program).unwrap();
+    if !program.exists() {
+        // Not by this process: a program that another thread's child has open cannot be run.
+        let mut copy = Command::new("cp");
+        copy.arg(env!("CARGO_BIN_EXE_jobsheet")).arg(&program);
+        assert!(copy.status().unwrap().success());
+    }
     for name in names(folder).iter().map(Path::new).chain([Path::new("")]) {
         lchown(folder.join(name), Some(NOBODY), Some(NOBODY)).unwrap();
     }
@@ -267,7 +272,10 @@ fn devices_and_pipes() {
                 .stderr(Stdio::piped())
                 .spawn()
                 .unwrap();
-            let read = fs::read(folder.join("pipe")).unwrap();
+            // A program that fails before it opens the pipe must not hold the test up.
+            let mut reader = Command::new("timeout");
+            reader.args(["60", "cat"]).arg(folder.join("pipe"));
+            let read = reader.output().unwrap().stdout;
             assert!(child.wait().unwrap().success());
             assert_eq!(read.len(), right.len(), "{name}");
             assert!(&read == right, "{name}");
