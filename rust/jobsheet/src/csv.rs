@@ -55,11 +55,6 @@ impl<W: Write> Rows<W> {
         }
     }
 
-    /// Whether writing failed, so that no more is written.
-    pub fn has_failed(&self) -> bool {
-        self.failed.is_err()
-    }
-
     /// The end: gives the output back.
     ///
     /// # Errors

@@ -271,11 +271,12 @@ fn legend(out: &mut String, run: &RunSheet) {
     };
     let _ = writeln!(
         out,
-        "<p class=\"how\">A tag is a short code that the system sends with its data: one that matches \
-         shows that the data is the system\u{2019}s own. A cell is the {} in which tags for that satellite \
-         came{several}; a slow tag, judged five minutes later, stands where it came. The line over the \
-         cells begins when data was marked, with the issue number of that data. The line under them \
-         shows when the satellite was heard itself.</p>\n<ul class=\"legend\">",
+        "<p class=\"how\">A tag is a short code that the system sends with its data: data that it \
+         matches is the system\u{2019}s own, and is marked. A cell is the {} in which tags for that \
+         satellite came{several}; a slow tag, judged five minutes later, stands where it came. The line \
+         over the cells begins when data was marked, with the issue number of that data. The line under \
+         them shows when the satellite was heard itself. Check values are for reading over the phone.\
+         </p>\n<ul class=\"legend\">",
         strips.cell_told()
     );
     for said in Said::ALL {

@@ -296,12 +296,32 @@ fn remarks(history: &History, runs: &[RunSheet]) -> Vec<String> {
             history.runs.first().map_or(0, |run| run.place)
         ));
     }
+    remarks.extend(parts_told(runs));
+    remarks
+}
+
+/// What each part comes to, where there are several: neighbours that come to the same in one line.
+fn parts_told(runs: &[RunSheet]) -> Vec<String> {
+    const LINES: usize = 12;
+    let mut lines: Vec<(u64, u64, &str)> = Vec::new();
     for run in runs {
-        if let Some((number, _)) = run.part {
-            remarks.push(format!("Part {number}: {}", run.finding.title));
+        let (Some((number, _)), title) = (run.part, run.finding.title.as_str()) else {
+            return Vec::new();
+        };
+        match lines.last_mut() {
+            Some((_, last, other)) if *other == title => *last = number,
+            _ => lines.push((number, number, title)),
         }
     }
-    remarks
+    let line = |(first, last, title): &(u64, u64, &str)| match first == last {
+        true => format!("Part {first}: {title}"),
+        false => format!("Parts {first} to {last}: {title}"),
+    };
+    let mut told: Vec<String> = lines.iter().take(LINES).map(line).collect();
+    if lines.len() > LINES {
+        told.push("What the parts after these come to, each says itself.".into());
+    }
+    told
 }
 
 fn run_sheet(run: &Run, zone: Option<Zone>) -> RunSheet {
@@ -318,6 +338,11 @@ fn run_sheet(run: &Run, zone: Option<Zone>) -> RunSheet {
     let named = run.timeline.columns().flat_map(|column| column.prns());
     let prns: BTreeSet<u8> = run.heard.keys().copied().chain(named).collect();
     let few = run.timeline.overview(FRONT_COLUMNS);
+    let front = warnings::front(run, clock);
+    let mut finding = finding::of(run, clock);
+    if finding.good && front.iter().any(|warning| warning.grade == Grade::Warning) {
+        finding.to_do = "read the warnings below, then clip this sheet to the job.".into();
+    }
     RunSheet {
         part: None,
         clock,
@@ -325,9 +350,9 @@ fn run_sheet(run: &Run, zone: Option<Zone>) -> RunSheet {
             clock.dated().range(first, last)
         }),
         heard: run.heard.len(),
-        finding: finding::of(run, clock),
+        finding,
         events: events(run, clock),
-        front: warnings::front(run, clock),
+        front,
         back: warnings::back(run, clock),
         facts: facts(run, clock),
         overview: Strips::of(run, &few, &prns),

@@ -3,7 +3,9 @@
 
 mod common;
 
-use common::{history, lines, lines_of_run, of_run, recording, recordings, rows, second, Line};
+use common::{
+    history, lines, lines_of_run, of_run, recording, recordings, replayed, rows, second, Line,
+};
 use jobsheet::history::{History, Reads};
 use jobsheet::receiver::{Answer, Receiver};
 use jobsheet::recording::{Reader, Record, RECORD_LEN};
@@ -44,7 +46,7 @@ fn answers_are_the_replays() {
                 writeln!(lines, "{:04X}{:08X}", t.iodnav, t.time.bits()).unwrap();
             }
         }
-        assert!(lines == second(bytes).0, "{name}");
+        assert!(lines == replayed(name).0, "{name}");
     }
 }
 
@@ -294,9 +296,9 @@ fn subframe_time(record: &[u8]) -> u32 {
 // The head's chain is the second receiver's, and as many tags wait.
 #[test]
 fn chain_in_force() {
-    for (name, bytes, all) in shown() {
+    for (name, _, all) in shown() {
         let run = all.runs.last().unwrap();
-        let (_, _, receiver) = second(bytes);
+        let (_, _, receiver) = replayed(name);
         assert_eq!(run.waiting(), receiver.waiting_tags().len(), "{name}");
         assert_eq!(run.stopped.is_some(), receiver.is_stopped(), "{name}");
         let waits = receiver.waiting_message().is_some();

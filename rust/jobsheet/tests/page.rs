@@ -262,6 +262,17 @@ fn findings() {
             "For E09 it is data that was right before and is still heard",
         ],
     );
+    // All data right, but a key is damaged on the way.
+    let mut damaged = records("nominal");
+    let last = damaged.iter().rposition(|r| r[0] == 3).unwrap();
+    damaged[last][32] ^= 1;
+    says(
+        &boxes(&damaged.concat()),
+        &[
+            "All data heard was authentic.",
+            "Do: read the warnings below",
+        ],
+    );
     // All data right, but of two satellites.
     says(
         &boxes(&recording("week_change")),
@@ -583,6 +594,10 @@ fn several_starts() {
     let front = page.split("</ul>").next().unwrap();
     assert!(front.contains("Part 1: STOPPED at 2017-10-20 00:01:30"));
     assert!(front.contains("Part 2: NOTHING WAS JUDGED"));
+    // Neighbours that come to the same have one line.
+    let thrice = Sheet::of("x", &history(&recording("week_change").repeat(3)), None);
+    let told = "Parts 1 to 3: All data heard was authentic. TOO FEW SATELLITES for the boom, all the time.";
+    assert_eq!(thrice.remarks[1..], [told]);
 }
 
 // More starts than parts: the last have one, and what the others came to is said.

@@ -195,6 +195,12 @@ fn links_and_modes() {
     let mode = fs::metadata(&old).unwrap().permissions().mode();
     assert_eq!(mode & 0o7777, 0o640);
     assert_eq!(names(&folder.join("sheets")), ["new.html", "old.html"]);
+    // A link to the recording would replace it.
+    symlink("run.rec", folder.join("self.html")).unwrap();
+    let output = jobsheet(&folder, &["run.rec", "-o", "self.html"]);
+    assert_eq!(output.status.code(), Some(2), "{output:?}");
+    let kept = fs::read(folder.join("run.rec")).unwrap();
+    assert!(kept == recording("nominal"));
     symlink("round.html", folder.join("round.html")).unwrap();
     let output = jobsheet(&folder, &["run.rec", "-o", "round.html"]);
     assert_eq!(output.status.code(), Some(1), "{output:?}");
@@ -210,7 +216,12 @@ fn as_ordinary_user(folder: &Path, args: &[&str]) -> Command {
         return command;
     }
     let program = folder.join("jobsheet");
-    fs::copy(env!("CARGO_BIN_EXE_jobsheet"), &program).unwrap();
+    if !program.exists() {
+        // Not by this process: a program that another thread's child has open cannot be run.
+        let mut copy = Command::new("cp");
+        copy.arg(env!("CARGO_BIN_EXE_jobsheet")).arg(&program);
+        assert!(copy.status().unwrap().success());
+    }
     for name in names(folder).iter().map(Path::new).chain([Path::new("")]) {
         lchown(folder.join(name), Some(NOBODY), Some(NOBODY)).unwrap();
     }
@@ -261,7 +272,10 @@ fn devices_and_pipes() {
                 .stderr(Stdio::piped())
                 .spawn()
                 .unwrap();
-            let read = fs::read(folder.join("pipe")).unwrap();
+            // A program that fails before it opens the pipe must not hold the test up.
+            let mut reader = Command::new("timeout");
+            reader.args(["60", "cat"]).arg(folder.join("pipe"));
+            let read = reader.output().unwrap().stdout;
             assert!(child.wait().unwrap().success());
             assert_eq!(read.len(), right.len(), "{name}");
             assert!(&read == right, "{name}");

@@ -76,7 +76,7 @@ pub struct Line {
 }
 
 /// The second receiver's replay: its text, its lines taken apart, and the receiver after them.
-pub fn second(recording: &[u8]) -> (String, Vec<Line>, Receiver) {
+pub fn second(recording: &[u8]) -> Replayed {
     let mut text = Vec::new();
     let receiver = replay(recording, &mut text).unwrap();
     let text = String::from_utf8(text).unwrap();
@@ -102,12 +102,20 @@ pub fn second(recording: &[u8]) -> (String, Vec<Line>, Receiver) {
     (text, lines, receiver)
 }
 
-/// The second receiver's lines of each of [`recordings`], replayed once.
-pub fn lines(name: &str) -> &'static [Line] {
-    static ALL: OnceLock<BTreeMap<&str, Vec<Line>>> = OnceLock::new();
-    let replayed = |(name, bytes): &'static (String, Vec<u8>)| (name.as_str(), second(bytes).1);
+/// What [`second`] gives.
+type Replayed = (String, Vec<Line>, Receiver);
+
+/// The second receiver's replay of each of [`recordings`], done once.
+pub fn replayed(name: &str) -> &'static Replayed {
+    static ALL: OnceLock<BTreeMap<&str, Replayed>> = OnceLock::new();
+    let replayed = |(name, bytes): &'static (String, Vec<u8>)| (name.as_str(), second(bytes));
     let all = ALL.get_or_init(|| recordings().iter().map(replayed).collect());
     &all[name]
+}
+
+/// The lines of it.
+pub fn lines(name: &str) -> &'static [Line] {
+    &replayed(name).1
 }
 
 /// The lines of one run.
