@@ -2,11 +2,8 @@
 
 mod common;
 
-use common::{first_difference, with_rules};
+use common::{beside_second, with_rules};
 use rules_runner::program::Hashes;
-use rules_runner::replay::replay;
-use rules_runner::rules::Rules;
-use second_receiver::replay as second;
 use signal::replay::Run;
 use signal::scenario;
 use std::collections::HashSet;
@@ -39,22 +36,13 @@ fn seed(at: u64) -> u64 {
     at * 1_000_003 + 17
 }
 
-/// Where the two part on a run.
-fn difference(rules: &Rules, run: &Run) -> Option<String> {
-    let (lines, reads) = replay(rules, &run.bytes);
-    let (mut want_lines, mut want_reads) = (Vec::new(), Vec::new());
-    let receiver = second::replay(&run.bytes[..], &mut want_lines).unwrap();
-    second::write_reads(&receiver, &mut want_reads).unwrap();
-    let pairs = [("lines", lines, want_lines), ("reads", reads, want_reads)];
-    pairs.into_iter().find_map(|(what, got, want)| {
-        let difference = first_difference(&got, &String::from_utf8(want).unwrap())?;
-        Some(format!("{}: {what}, {difference}", run.name))
-    })
-}
-
 fn check(runs: impl Iterator<Item = Run> + Send) {
     let differences: Vec<String> = with_rules(Hashes::Portable, |rules| {
-        runs.filter_map(|run| difference(rules, &run)).collect()
+        runs.filter_map(|run| {
+            let difference = beside_second(rules, &run.bytes)?;
+            Some(format!("{}: {difference}", run.name))
+        })
+        .collect()
     });
     assert!(differences.is_empty(), "{}", differences.join("\n"));
 }

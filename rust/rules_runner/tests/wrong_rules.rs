@@ -3,12 +3,10 @@
 
 mod common;
 
-use common::{crates, first_difference};
+use common::{beside_second, crates};
 use rules_runner::machine::with_large_stack;
 use rules_runner::program::Hashes;
-use rules_runner::replay::replay;
 use rules_runner::rules::Rules;
-use second_receiver::replay as second;
 use signal::scenario;
 use std::fs;
 use std::path::{Path, PathBuf};
@@ -82,14 +80,7 @@ impl WrongRule {
         let (folder, input) = (self.crates(), self.input());
         let rules = Rules::load(&folder, Hashes::Portable);
         let rules = rules.unwrap_or_else(|error| panic!("{}: {error}", self.name));
-        let (lines, reads) = replay(&rules, &input);
-        let (mut want_lines, mut want_reads) = (Vec::new(), Vec::new());
-        let receiver = second::replay(&input[..], &mut want_lines).unwrap();
-        second::write_reads(&receiver, &mut want_reads).unwrap();
-        let pairs = [(lines, want_lines), (reads, want_reads)];
-        pairs
-            .into_iter()
-            .any(|(got, want)| first_difference(&got, &String::from_utf8(want).unwrap()).is_some())
+        beside_second(&rules, &input).is_some()
     }
 }
 

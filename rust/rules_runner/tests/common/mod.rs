@@ -2,7 +2,9 @@
 
 use rules_runner::machine::with_large_stack;
 use rules_runner::program::Hashes;
+use rules_runner::replay::replay;
 use rules_runner::rules::Rules;
+use second_receiver::replay as second;
 use std::path::{Path, PathBuf};
 
 pub fn crates() -> PathBuf {
@@ -30,4 +32,18 @@ pub fn first_difference(got: &str, want: &str) -> Option<String> {
         }
     }
     None
+}
+
+/// Where the definitions and the second receiver part on an input: lines, or reads after it.
+#[allow(dead_code)]
+pub fn beside_second(rules: &Rules, input: &[u8]) -> Option<String> {
+    let (lines, reads) = replay(rules, input);
+    let (mut want_lines, mut want_reads) = (Vec::new(), Vec::new());
+    let receiver = second::replay(input, &mut want_lines).unwrap();
+    second::write_reads(&receiver, &mut want_reads).unwrap();
+    let pairs = [("lines", lines, want_lines), ("reads", reads, want_reads)];
+    pairs.into_iter().find_map(|(what, got, want)| {
+        let difference = first_difference(&got, &String::from_utf8(want).unwrap())?;
+        Some(format!("{what}, {difference}"))
+    })
 }

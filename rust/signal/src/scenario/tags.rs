@@ -471,6 +471,16 @@ pub fn same_time_sets(name: &str, about: &str, seed: u64) -> Run {
 }
 
 /// What a new root, a new chain and a drop do to the tags that wait.
+/// Puts a later root in force, whose sub-frame 0 is the present time then. Gives the blocks of its message.
+fn renew(b: &mut Bench, later: Chain) -> usize {
+    let root = b.root(b.header, &later);
+    b.deliver(b.header, 1, &root.dsm, 0);
+    b.verdict(&root.verdict, 0);
+    b.now = later.start();
+    b.force = Some(Rc::new(later));
+    dsm::blocks(&root.dsm)
+}
+
 pub fn waiting_tags(name: &str, about: &str, seed: u64) -> Run {
     let mut b = Bench::new(name, about, seed);
     let chain = six_fields(&mut b, [0, 0, 12, 0, 0, 0], [0, 0, 12, 0, 0, 0]);
@@ -503,17 +513,12 @@ pub fn waiting_tags(name: &str, about: &str, seed: u64) -> Run {
                 &seed,
             );
         }
-        let later = Rc::new(later);
-        let root = b.root(b.header, &later);
-        b.deliver(b.header, 1, &root.dsm, 0);
-        b.verdict(&root.verdict, 0);
-        b.force = Some(later.clone());
-        b.now = later.start();
+        let blocks = renew(&mut b, later);
         let due: &[u8] = if alpha { &[] } else { &[1] };
         b.send_fields(1, &quiet, &[due, &plain].concat());
         b.step();
         // The sub-frame that brought the root had a slow tag from each satellite.
-        let due = if alpha { 0 } else { dsm::blocks(&root.dsm) };
+        let due = if alpha { 0 } else { blocks };
         b.send_fields(1, &quiet, &[&vec![1; due][..], &plain].concat());
     }
     // Status 3 drops the tags; the next chain begins with none.
@@ -574,13 +579,8 @@ pub fn changed_sizes(name: &str, about: &str, seed: u64) -> Run {
             let (seed, top) = (b.rng.bytes(32), 4000);
             later = Chain::new(later.params, later.ns, later.week, later.hour, top, &seed);
         }
-        let later = Rc::new(later);
-        let root = b.root(b.header, &later);
-        b.deliver(b.header, 1, &root.dsm, 0);
-        b.verdict(&root.verdict, 0);
-        b.force = Some(later.clone());
         // The keys of the tags that waited come in sub-frames 0 and 1 of the new root.
-        b.now = later.start();
+        renew(&mut b, later);
         let fields = b.layout().fields();
         let own: Vec<u8> = (0..fields).map(|n| if n == 2 { 4 } else { 1 }).collect();
         for _ in 0..2 {
