@@ -39,6 +39,17 @@ pub fn replayed(input: &[u8]) -> Result<Vec<u8>, String> {
 ///
 /// As [`replayed`].
 pub fn replayed_in_pieces(input: &[u8], piece: usize) -> Result<Vec<u8>, String> {
+    replayed_pieces(input.chunks(piece))
+}
+
+/// The same for an input that is these pieces, one after the other.
+///
+/// # Errors
+///
+/// As [`replayed`].
+pub fn replayed_pieces<'a>(
+    pieces: impl Iterator<Item = &'a [u8]> + Send,
+) -> Result<Vec<u8>, String> {
     let path = program()?;
     let child = Command::new(&path)
         .stdin(Stdio::piped())
@@ -46,7 +57,7 @@ pub fn replayed_in_pieces(input: &[u8], piece: usize) -> Result<Vec<u8>, String>
         .spawn();
     let told = |error: io::Error| format!("{}: {error}", path.display());
     let mut child = child.map_err(told)?;
-    let lines = through(&mut child, input, piece).map_err(told)?;
+    let lines = through(&mut child, pieces).map_err(told)?;
     let status = child.wait().map_err(told)?;
     if status.success() {
         Ok(lines)
@@ -56,14 +67,17 @@ pub fn replayed_in_pieces(input: &[u8], piece: usize) -> Result<Vec<u8>, String>
 }
 
 /// Writes the input while the output is read, so that neither side waits for the other.
-fn through(child: &mut Child, input: &[u8], piece: usize) -> io::Result<Vec<u8>> {
+fn through<'a>(
+    child: &mut Child,
+    pieces: impl Iterator<Item = &'a [u8]> + Send,
+) -> io::Result<Vec<u8>> {
     let missing = || io::Error::other("no pipe");
     let mut to = child.stdin.take().ok_or_else(missing)?;
     let mut from = child.stdout.take().ok_or_else(missing)?;
     thread::scope(|scope| {
         let writer = scope.spawn(move || -> io::Result<()> {
-            for part in input.chunks(piece) {
-                to.write_all(part)?;
+            for piece in pieces {
+                to.write_all(piece)?;
                 to.flush()?;
             }
             Ok(())

@@ -3,6 +3,7 @@
 use signal::rng::Rng;
 use signal::scenario::{all, random, SEED};
 use std::fs;
+use std::iter;
 use std::path::Path;
 
 /// Bytes of a record.
@@ -158,4 +159,23 @@ fn pieces() {
         let got = replay::replayed_in_pieces(input, piece).unwrap_or_else(|text| panic!("{text}"));
         same(&format!("pieces of {piece} bytes"), &got, &lines);
     }
+}
+
+/// A recording of many days, to its last record: after a start, records of another kind, whose answers are short. More than a count of turns in 16
+/// bits would read.
+#[test]
+fn a_long_recording() {
+    const BLOCKS: usize = 1 << 16;
+    let start = mixed(&mut Rng::new(5), 1);
+    let other = vec![9; AT_ONCE * RECORD];
+    let blocks = iter::repeat_n(&other[..], BLOCKS);
+    let lines = replay::replayed_pieces(iter::once(&start[..]).chain(blocks));
+    let lines = String::from_utf8(lines.unwrap_or_else(|text| panic!("{text}"))).expect("text");
+    let mut places = 0;
+    for line in lines.lines() {
+        places += 1;
+        let answers = if places == 1 { "0 0 0" } else { "2 0 0" };
+        assert_eq!(line, format!("{places} {answers}"), "line {places}");
+    }
+    assert_eq!(places, 1 + BLOCKS * AT_ONCE, "lines printed");
 }

@@ -1,0 +1,2 @@
+-- what the proof of `replay_all` uses
+mod Places
