@@ -3,12 +3,14 @@
 mod common;
 
 use common::{history, recording, recordings};
-use jobsheet::history::WordsChanged;
-use jobsheet::recording::RECORD_LEN;
+use jobsheet::history::{History, WordsChanged, EVENTS};
+use jobsheet::receiver::{Answer, Receiver};
+use jobsheet::recording::{Record, RECORD_LEN};
 use jobsheet::sheet::Sheet;
 use jobsheet::time::Zone;
 use jobsheet::warnings::Grade;
 use jobsheet::{html, text};
+use osnma::Refusal;
 use std::collections::{BTreeMap, BTreeSet};
 use std::time::{Duration, Instant};
 
@@ -360,6 +362,38 @@ fn events_have_a_line_each() {
     assert!(!front.contains("Keys in force") && front.contains("9 in all: see the back."));
     let (_, all) = back.split_once("<h2>All events</h2>").unwrap();
     assert_eq!(all.matches("<dd>Keys in force").count(), 3);
+}
+
+// More events than are kept: the box does not depend on those that have no line.
+#[test]
+fn many_events() {
+    let (mut receiver, mut all) = (Receiver::new(), History::default());
+    let revoked = records("chain_revoked");
+    for bytes in &revoked {
+        let record = Record::of(bytes[..].try_into().unwrap());
+        if matches!(&record, Record::Verdict { message, .. } if message[0] >> 6 == 3) {
+            let no = Answer {
+                first: Err(Refusal::VerdictBad),
+                second: Ok(()),
+                tags: Vec::new(),
+            };
+            (0..200).for_each(|_| all.note(&record, &no, receiver.core()));
+        }
+        let answer = receiver.answer(&record);
+        all.note(&record, &answer, receiver.core());
+    }
+    let sheet = Sheet::of("x", &all, None);
+    let run = &sheet.runs[0];
+    assert!(run.finding.title.contains(
+        "WITHDREW ITS KEYS at 2017-10-20 00:02:00. New ones were taken at 2017-10-20 00:04:30."
+    ));
+    assert_eq!(run.events.len(), EVENTS + 1);
+    let more = &run.events[EVENTS];
+    assert_eq!(
+        more.what,
+        format!("{} more, not shown here.", all.runs[0].events_left_out)
+    );
+    assert_eq!(all.runs[0].events_left_out, 3 + 200 + 200 - EVENTS as u64);
 }
 
 // Sections without a chain: before the first root ordinary, after a drop a warning.
