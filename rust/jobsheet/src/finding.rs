@@ -240,16 +240,25 @@ fn withdrawn(run: &Run, clock: Clock) -> Option<Finding> {
     Some(Finding::bad(title, text, to_do))
 }
 
+/// Satellites whose data is out of date at the end: nothing newer was marked.
+pub fn still_out_of_date(run: &Run) -> BTreeSet<u8> {
+    let still = |(prn, old): &(&u8, &WrongTags)| {
+        let newest = old.tags.span.map(|(_, last)| last);
+        run.mark(**prn).map(|mark| mark.tag) <= newest
+    };
+    let old = run.out_of_date.iter().filter(still);
+    old.map(|(prn, _)| *prn).collect()
+}
+
 /// Data of satellites that were not heard any more, and for which the system has newer.
 fn out_of_date(run: &Run, clock: Clock) -> Option<Finding> {
-    let prns: BTreeSet<u8> = run.out_of_date.keys().copied().collect();
-    let spans = run.out_of_date.values().filter_map(|old| old.tags.span);
+    let prns = still_out_of_date(run);
+    let spans = prns.iter().filter_map(|prn| run.out_of_date[prn].tags.span);
     let since = spans.map(|(first, _)| first).min()?;
-    let mut text = vec![format!(
+    let text = format!(
         "Not heard any more when the system sent newer data, since {}: what is marked is the older.",
         clock.say(since)
-    )];
-    text.push(boom(run, clock));
+    );
     Some(Finding::bad(
         format!(
             "DATA OUT OF DATE for {} of {} ({}).",
@@ -257,7 +266,7 @@ fn out_of_date(run: &Run, clock: Clock) -> Option<Finding> {
             count(run.heard.len() as u64, "satellite"),
             satellites(&prns)
         ),
-        text,
+        vec![text, boom(run, clock)],
         "look at the antenna and its view of the sky.",
     ))
 }

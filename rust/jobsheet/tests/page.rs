@@ -264,6 +264,32 @@ fn findings() {
             "For E09 it is data that was right before and is still heard",
         ],
     );
+    // The words in which E18's data changes are lost: out of date for a half minute, and right again.
+    let mut lost = records("nominal");
+    let is = |r: &&Vec<u8>| r[0] == 2 && r[1] == 18;
+    let first = lost.iter().find(is).unwrap()[6..22].to_vec();
+    let change = lost
+        .iter()
+        .filter(is)
+        .find(|r| r[6] == first[0] && r[7] != first[1]);
+    let change = change.unwrap()[2..6].to_vec();
+    lost.retain(|r| r[..2] != [2, 18] || r[2..6] != change);
+    let lost = lost.concat();
+    says(
+        &boxes(&lost),
+        &["All data heard was authentic.", "Do: nothing."],
+    );
+    let sheet = Sheet::of("lost", &history(&lost), None);
+    let note = sheet.runs[0]
+        .front
+        .iter()
+        .find(|w| w.title == "Data out of date for E18.")
+        .unwrap();
+    assert_eq!(note.grade, Grade::Note);
+    assert!(
+        note.text.contains("Newer data was marked later."),
+        "{note:?}"
+    );
     // All data right, but a key is damaged on the way.
     let mut damaged = records("nominal");
     let last = damaged.iter().rposition(|r| r[0] == 3).unwrap();
