@@ -541,11 +541,11 @@ fn local_time() {
     assert!(page.contains("WRONG DATA came in from 02:12:12 to 02:16:42 for 4 of 12"));
     assert!(page.contains("2017-10-20 01:59:42 to 02:29:12"));
     assert!(page.contains("class=\"axis\">02:05</text>"));
-    assert_eq!(page.matches("UTC + 18").count(), 1);
+    assert_eq!(page.matches("UTC\u{a0}+\u{a0}18\u{a0}s").count(), 1);
     assert!(page.contains("local time (UTC+02:00)"));
     assert!(!page.contains("00:12:30"));
     let gst = html::page(&Sheet::of("fitter", &all, None));
-    assert_eq!(gst.matches("UTC + 18").count(), 1);
+    assert_eq!(gst.matches("UTC\u{a0}+\u{a0}18\u{a0}s").count(), 1);
     assert!(gst.contains("class=\"axis\">00:05</text>"));
 }
 
