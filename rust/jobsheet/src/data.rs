@@ -58,6 +58,11 @@ impl Stretch {
         self.matched > 0 && self.wrong > 0 && !self.is_disputed()
     }
 
+    /// Whether no tag matched it, though it could be compared.
+    fn is_unjudged(&self) -> bool {
+        self.whole && self.iodnav.is_some() && self.matched == 0
+    }
+
     /// Whether tags both matched it and did not, so that the match may be by chance: one came with
     /// or after a wrong one, or too few came before it.
     pub fn is_disputed(&self) -> bool {
@@ -82,9 +87,18 @@ pub struct Change {
 pub struct Data {
     words: Words,
     stretches: VecDeque<Stretch>,
-    /// Stretches that are no more kept.
+    /// Stretches that are no more kept, and what is known of them all.
     left_out: u64,
+    before: Before,
     last_word: Option<Gst>,
+}
+
+/// What is known of stretches that are no more kept.
+#[derive(Clone, Copy, Debug, Default)]
+struct Before {
+    disputed: bool,
+    older: bool,
+    unjudged: Option<Gst>,
 }
 
 impl Data {
@@ -116,8 +130,7 @@ impl Data {
 
     fn begin(&mut self, from: Gst) {
         if self.stretches.len() == STRETCHES {
-            self.stretches.pop_front();
-            self.left_out += 1;
+            self.leave_out();
         }
         self.stretches.push_back(Stretch {
             from,
@@ -130,6 +143,32 @@ impl Data {
         });
     }
 
+    fn leave_out(&mut self) {
+        if let Some(stretch) = self.stretches.pop_front() {
+            self.left_out += 1;
+            self.before.disputed |= stretch.is_disputed();
+            self.before.older |= stretch.is_older();
+            let unjudged = stretch.is_unjudged().then_some(stretch.from);
+            self.before.unjudged = unjudged.or(self.before.unjudged);
+        }
+    }
+
+    /// Whether some of it is disputed.
+    pub fn is_disputed(&self) -> bool {
+        self.before.disputed || self.stretches.iter().any(Stretch::is_disputed)
+    }
+
+    /// Whether the system sent newer data than some of it while that was there.
+    pub fn is_older(&self) -> bool {
+        self.before.older || self.stretches.iter().any(Stretch::is_older)
+    }
+
+    /// When the last of it came that no tag matched, though it could be compared.
+    pub fn unjudged(&self) -> Option<Gst> {
+        let last = self.stretches.iter().rfind(|stretch| stretch.is_unjudged());
+        last.map(|stretch| stretch.from).or(self.before.unjudged)
+    }
+
     /// The number of the present stretch, from 1; 0 where no word came.
     pub fn now(&self) -> u64 {
         self.left_out + self.stretches.len() as u64
@@ -138,7 +177,11 @@ impl Data {
     /// A tag that came at a time in the stretch of this number matched, or did not. Gives the
     /// stretch, where it is kept.
     pub fn judge(&mut self, stretch: u64, at: Gst, matched: bool) -> Option<&Stretch> {
-        let place = stretch.checked_sub(self.left_out + 1)?;
+        let Some(place) = stretch.checked_sub(self.left_out + 1) else {
+            // What else tags said of it is not known any more.
+            self.before.disputed |= matched;
+            return None;
+        };
         let stretch = self.stretches.get_mut(place as usize)?;
         if matched {
             stretch.matched += 1;
@@ -263,8 +306,13 @@ mod tests {
             all(&mut data, n, n as u16 % 1_024);
         }
         assert_eq!((data.now(), data.stretches().count()), (1_000, STRETCHES));
+        assert_eq!(data.unjudged(), Some(gst(999)));
         data.judge(1_000, gst(1_000), true);
-        data.judge(3, gst(1_000), true);
+        assert_eq!(data.unjudged(), Some(gst(998)));
+        assert!(!data.is_disputed());
+        // A match of data that is no more kept: others may have called it wrong.
+        assert_eq!(data.judge(3, gst(1_000), true), None);
+        assert!(data.is_disputed());
         let matched: Vec<Gst> = data
             .stretches()
             .filter(|s| s.matched > 0)

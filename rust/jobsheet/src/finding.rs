@@ -1,7 +1,7 @@
 //! What a run comes to, in a few plain sentences: read first, and without the papers.
 
 use crate::boom::{LIMITS, NEEDED};
-use crate::data::Stretch;
+use crate::data::Data;
 use crate::history::{Event, Mark, Run, What, WrongTags};
 use crate::time::{self, Clock, SUBFRAME};
 use crate::vouched::Keys;
@@ -98,24 +98,20 @@ fn wrong_title(run: &Run, clock: Clock) -> Option<String> {
 }
 
 /// Satellites with wrong tags of which some data is such.
-fn with(run: &Run, such: fn(&Stretch) -> bool) -> BTreeSet<u8> {
-    let of = |prn: &&u8| {
-        run.data
-            .get(prn)
-            .is_some_and(|data| data.stretches().any(such))
-    };
+fn with(run: &Run, such: fn(&Data) -> bool) -> BTreeSet<u8> {
+    let of = |prn: &&u8| run.data.get(prn).is_some_and(such);
     run.wrong.keys().filter(of).copied().collect()
 }
 
 /// Satellites of which tags both matched and did not match the same data, so that the match may be
 /// by chance.
 pub fn disputed(run: &Run) -> BTreeSet<u8> {
-    with(run, Stretch::is_disputed)
+    with(run, Data::is_disputed)
 }
 
 fn wrong(run: &Run, clock: Clock) -> Option<Finding> {
     let title = wrong_title(run, clock)?;
-    let (disputed, older) = (disputed(run), with(run, Stretch::is_older));
+    let (disputed, older) = (disputed(run), with(run, Data::is_older));
     let mut text = Vec::new();
     if !disputed.is_empty() {
         text.push(format!(
@@ -175,11 +171,7 @@ fn no_keys(run: &Run, clock: Clock) -> Option<Finding> {
     if run.vouched.keys != Keys::NotYet {
         return None;
     }
-    let said_no = run
-        .events
-        .iter()
-        .rfind(|event| event.what == What::ChipSaidNo);
-    let said_no = said_no.and_then(|event| event.at);
+    let said_no = run.said_no.as_ref().and_then(|event| event.at);
     let waits = run.message_since();
     let (title, to_do) = match (said_no, waits) {
         (Some(at), _) => (
@@ -220,18 +212,14 @@ fn no_keys(run: &Run, clock: Clock) -> Option<Finding> {
 }
 
 fn withdrawn(run: &Run, clock: Clock) -> Option<Finding> {
-    let is = |event: &&Event| event.what == What::Withdrawn;
-    let event = run.events.iter().rfind(is)?;
+    let event = run.withdrawn.as_ref()?;
     let since = |event: &Event| {
         event
             .at
             .map_or(String::new(), |at| format!(" at {}", clock.say(at)))
     };
-    let is_new =
-        |later: &&Event| later.place > event.place && matches!(later.what, What::Root { .. });
-    let new = run.events.iter().find(is_new);
     let mut text = vec![marked_told(run)];
-    let (title, to_do) = match new {
+    let (title, to_do) = match &run.renewed {
         None => (
             format!(
                 "THE SYSTEM WITHDREW ITS KEYS{}, and no new ones came.",
@@ -252,16 +240,25 @@ fn withdrawn(run: &Run, clock: Clock) -> Option<Finding> {
     Some(Finding::bad(title, text, to_do))
 }
 
+/// Satellites whose data is out of date at the end: nothing newer was marked.
+pub fn still_out_of_date(run: &Run) -> BTreeSet<u8> {
+    let still = |(prn, old): &(&u8, &WrongTags)| {
+        let newest = old.tags.span.map(|(_, last)| last);
+        run.mark(**prn).map(|mark| mark.tag) <= newest
+    };
+    let old = run.out_of_date.iter().filter(still);
+    old.map(|(prn, _)| *prn).collect()
+}
+
 /// Data of satellites that were not heard any more, and for which the system has newer.
 fn out_of_date(run: &Run, clock: Clock) -> Option<Finding> {
-    let prns: BTreeSet<u8> = run.out_of_date.keys().copied().collect();
-    let spans = run.out_of_date.values().filter_map(|old| old.tags.span);
+    let prns = still_out_of_date(run);
+    let spans = prns.iter().filter_map(|prn| run.out_of_date[prn].tags.span);
     let since = spans.map(|(first, _)| first).min()?;
-    let mut text = vec![format!(
+    let text = format!(
         "Not heard any more when the system sent newer data, since {}: what is marked is the older.",
         clock.say(since)
-    )];
-    text.push(boom(run, clock));
+    );
     Some(Finding::bad(
         format!(
             "DATA OUT OF DATE for {} of {} ({}).",
@@ -269,7 +266,7 @@ fn out_of_date(run: &Run, clock: Clock) -> Option<Finding> {
             count(run.heard.len() as u64, "satellite"),
             satellites(&prns)
         ),
-        text,
+        vec![text, boom(run, clock)],
         "look at the antenna and its view of the sky.",
     ))
 }
@@ -306,15 +303,12 @@ fn not_proved(run: &Run, clock: Clock) -> Option<Finding> {
     (!unmarked.is_empty()).then(|| Finding::bad(title, text, to_do))
 }
 
-/// Satellites with data that no tag judged, by the half minute since when they had it.
+/// Satellites with data that no tag judged, by the half minute in which the last of it came.
 fn unjudged(run: &Run) -> BTreeMap<Gst, BTreeSet<u8>> {
     let mut all: BTreeMap<Gst, BTreeSet<u8>> = BTreeMap::new();
     for (prn, data) in &run.data {
-        let mut comparable = data
-            .stretches()
-            .filter(|now| now.whole && now.iodnav.is_some());
-        if let Some(now) = comparable.rfind(|now| now.matched == 0) {
-            all.entry(now.from).or_default().insert(*prn);
+        if let Some(at) = data.unjudged() {
+            all.entry(at).or_default().insert(*prn);
         }
     }
     all
@@ -322,9 +316,8 @@ fn unjudged(run: &Run) -> BTreeMap<Gst, BTreeSet<u8>> {
 
 fn authentic(run: &Run, clock: Clock) -> Finding {
     let unjudged = unjudged(run);
-    let told = |(since, prns): (&Gst, &BTreeSet<u8>)| {
-        format!("that of {} since {}", which(run, prns), clock.say(*since))
-    };
+    let told =
+        |(at, prns): (&Gst, &BTreeSet<u8>)| format!("{} at {}", which(run, prns), clock.say(*at));
     let (title, mut text) = match unjudged.len() {
         0 => ("All data heard was authentic.", Vec::new()),
         n => {
@@ -333,7 +326,9 @@ fn authentic(run: &Run, clock: Clock) -> Finding {
             let some = Vec::from_iter(some).join("; ");
             (
                 "All data that was judged was authentic.",
-                vec![format!("Newer data was not judged: {some}{others}.")],
+                vec![format!(
+                    "No tag has judged the data that came for {some}{others}."
+                )],
             )
         }
     };

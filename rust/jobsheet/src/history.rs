@@ -284,6 +284,12 @@ pub struct Run {
     pub events: Vec<Event>,
     /// How many events came after them.
     pub events_left_out: u64,
+    /// The last time that the chain was dropped.
+    pub withdrawn: Option<Event>,
+    /// The first root put in force after that.
+    pub renewed: Option<Event>,
+    /// The last time that the signature chip said no.
+    pub said_no: Option<Event>,
     /// What was refused.
     pub refused: Refusals,
     /// Place and time of the sub-frame that stopped the core.
@@ -317,6 +323,9 @@ impl Run {
             changes_left_out: 0,
             events: Vec::new(),
             events_left_out: 0,
+            withdrawn: None,
+            renewed: None,
+            said_no: None,
             refused: Refusals::default(),
             stopped: None,
             watch: [Watch::default(); boom::LIMITS.len()],
@@ -371,15 +380,28 @@ impl Run {
     }
 
     fn event(&mut self, what: What) {
-        if self.events.len() == EVENTS {
-            self.events_left_out += 1;
-            return;
-        }
-        self.events.push(Event {
+        let event = Event {
             place: self.last_place,
             at: self.last_subframe,
             what,
-        });
+        };
+        match &event.what {
+            What::Withdrawn => {
+                self.withdrawn = Some(event.clone());
+                self.renewed = None;
+            }
+            What::Root {
+                before: Keys::Withdrawn,
+                ..
+            } => self.renewed = Some(event.clone()),
+            What::ChipSaidNo => self.said_no = Some(event.clone()),
+            _ => {}
+        }
+        if self.events.len() < EVENTS {
+            self.events.push(event);
+        } else {
+            self.events_left_out += 1;
+        }
     }
 
     fn refuse(&mut self, part: Part, refusal: Refusal, prn: Option<u8>, at: Option<Gst>) {

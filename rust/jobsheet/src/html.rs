@@ -45,7 +45,7 @@ pub fn page(sheet: &Sheet) -> String {
         if let Some(detail) = &run.detail {
             let _ = writeln!(
                 out,
-                "<section class=\"detail\">\n<h2>What was authentic when <span>in cells of one {}</span></h2>",
+                "<section class=\"detail\">\n<h2>What was authentic when <span>a cell is {}</span></h2>",
                 detail.cell_told()
             );
             strips(&mut out, run, detail);
@@ -267,14 +267,14 @@ fn legend(out: &mut String, run: &RunSheet) {
     let strips = &run.overview;
     let several = match strips.step {
         1 => "",
-        _ => ", the worst that came in it",
+        _ => ", the worst of them",
     };
     let _ = writeln!(
         out,
         "<p class=\"how\">A tag is a short code that the system sends with its data: data that it \
-         matches is the system\u{2019}s own, and is marked. A cell is the {} in which tags for that \
-         satellite came{several}; a slow tag, judged five minutes later, stands where it came. The line \
-         over the cells begins when data was marked, with the issue number of that data. The line under \
+         matches is the system\u{2019}s own, and is marked. A cell is {}, with what the tags said that \
+         came for that satellite{several}; a slow tag, judged five minutes later, stands where it came. \
+         The line over the cells begins when data was marked, with the issue number of that data. The line under \
          them shows when the satellite was heard itself. Check values are for reading over the phone.\
          </p>\n<ul class=\"legend\">",
         strips.cell_told()

@@ -87,15 +87,14 @@ impl Strips {
         }
     }
 
-    /// What a cell is: `half minute`, `5 minutes`.
+    /// What a cell is: `a half minute`, `5 minutes`, `2 hours`.
     pub fn cell_told(&self) -> String {
-        match (self.step, self.step / 2, self.step / 120) {
-            (1, ..) => "half minute".into(),
-            (2, ..) => "minute".into(),
-            (_, minutes, 0) => format!("{minutes} minutes"),
-            (120, ..) => "hour".into(),
-            (step, _, hours) if step.is_multiple_of(120) => format!("{hours} hours"),
-            (_, minutes, _) => format!("{minutes} minutes"),
+        match self.step {
+            1 => "a half minute".into(),
+            2 => "a minute".into(),
+            120 => "an hour".into(),
+            step if step.is_multiple_of(120) => format!("{} hours", step / 120),
+            step => format!("{} minutes", step / 2),
         }
     }
 }
@@ -521,6 +520,29 @@ fn marked_sets(run: &Run) -> Vec<MarkedSet> {
 #[cfg(test)]
 mod tests {
     use super::*;
+
+    #[test]
+    fn cells() {
+        let told = |step| {
+            let (columns, rows) = (Vec::new(), Vec::new());
+            let strips = Strips {
+                step,
+                columns,
+                rows,
+            };
+            strips.cell_told()
+        };
+        let steps = [1, 2, 10, 64, 120, 360];
+        let right = [
+            "a half minute",
+            "a minute",
+            "5 minutes",
+            "32 minutes",
+            "an hour",
+            "3 hours",
+        ];
+        assert_eq!(steps.map(told), right);
+    }
 
     // The library's version is the one that this program is built with.
     #[test]

@@ -173,7 +173,7 @@ fn panel(out: &mut String, clock: Clock, strips: &Strips, range: Range<usize>) {
         "<figure class=\"panel\"><figcaption>{}. First rows: satellites with a mark at most \
          {} and {} minutes old; the boom needs {NEEDED}.</figcaption>\n\
          <div><svg class=\"strips\" viewBox=\"0 0 {WIDTH} {height:.0}\" role=\"img\" \
-         aria-label=\"Strips of the satellites, one cell a {}\">",
+         aria-label=\"Strips of the satellites; a cell is {}\">",
         clock.dated().range(first.first, end.last),
         LIMITS[0] * SUBFRAME / 60,
         LIMITS[1] * SUBFRAME / 60,

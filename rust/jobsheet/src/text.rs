@@ -188,7 +188,7 @@ fn shown(out: &mut String, clock: Clock, strips: &Strips) {
     }
     let _ = write!(
         out,
-        "\nWHAT WAS AUTHENTIC WHEN (one sign: a {})\n  ",
+        "\nWHAT WAS AUTHENTIC WHEN (a sign is {})\n  ",
         strips.cell_told()
     );
     for said in Said::ALL {

@@ -184,9 +184,9 @@ impl Clock {
     /// What its times are.
     pub fn told(self) -> String {
         match self.zone {
-            None => format!("Galileo System Time (GST), which is UTC + {AHEAD}\u{a0}s"),
+            None => format!("Galileo System Time (GST), which is UTC\u{a0}+\u{a0}{AHEAD}\u{a0}s"),
             Some(zone) => {
-                format!("local time ({zone}); Galileo System Time (GST) is UTC + {AHEAD}\u{a0}s")
+                format!("local time ({zone}); Galileo System Time (GST) is UTC\u{a0}+\u{a0}{AHEAD}\u{a0}s")
             }
         }
     }
@@ -251,7 +251,9 @@ mod tests {
             assert_eq!(zone.to_string(), shown);
             let clock = Clock::over(Some(zone), time, time);
             assert_eq!(clock.full(time), said);
-            assert!(clock.told().contains(shown) && clock.told().contains("UTC + 18\u{a0}s"));
+            assert!(
+                clock.told().contains(shown) && clock.told().contains("UTC\u{a0}+\u{a0}18\u{a0}s")
+            );
         }
         for text in [
             "", "2", "+", "+15", "+2:60", "+2:", "+-2", "+02:00x", "CET", "+é", "+1234567",

@@ -125,14 +125,22 @@ fn wrong(run: &Run, clock: Clock) -> Option<Warning> {
 }
 
 fn out_of_date(run: &Run, clock: Clock) -> Option<Warning> {
-    told_by_story(
+    let told = told_by_story(
         run,
         clock,
         &run.out_of_date,
         "Data out of date for",
-        "Not heard any more while the system sent newer data: the tags are for that. The data that \
-         was heard was right before.",
-    )
+        "Not heard while the system sent newer data: the tags are for that. The data that was heard \
+         was right before.",
+    )?;
+    Some(match finding::still_out_of_date(run).is_empty() {
+        true => Warning {
+            grade: Grade::Note,
+            text: format!("{} Newer data was marked later.", told.text),
+            ..told
+        },
+        false => told,
+    })
 }
 
 fn disputed(run: &Run) -> Option<Warning> {

@@ -714,15 +714,18 @@ fn story_of_wrong_data() {
                     );
                 }
             }
-            let old = format!(
-                "OUT OF DATE for {} of {} satellite",
-                right_old.len(),
-                shown.heard
-            );
-            assert!(
-                right_old.is_empty() || words.contains(&old),
-                "{name}: {words}"
-            );
+            // At the end, too, where nothing newer was marked.
+            let still = old.tags.iter().filter(|(prn, tags)| {
+                let newest = tags.iter().map(|tag| tag.time).max();
+                old.at_end.get(prn).map(|set| set.1) <= newest
+            });
+            match still.count() {
+                0 => assert!(!words.contains("OUT OF DATE"), "{name}: {words}"),
+                n => {
+                    let told = format!("OUT OF DATE for {n} of {} satellite", shown.heard);
+                    assert!(words.contains(&told), "{name}: {words}");
+                }
+            }
         }
     }
     assert!(rows > 20 && old_rows > 0, "{rows}, {old_rows}");

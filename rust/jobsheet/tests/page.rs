@@ -3,12 +3,14 @@
 mod common;
 
 use common::{history, recording, recordings};
-use jobsheet::history::WordsChanged;
-use jobsheet::recording::RECORD_LEN;
+use jobsheet::history::{History, WordsChanged, EVENTS};
+use jobsheet::receiver::{Answer, Receiver};
+use jobsheet::recording::{Record, RECORD_LEN};
 use jobsheet::sheet::Sheet;
 use jobsheet::time::Zone;
 use jobsheet::warnings::Grade;
 use jobsheet::{html, text};
+use osnma::Refusal;
 use std::collections::{BTreeMap, BTreeSet};
 use std::time::{Duration, Instant};
 
@@ -262,6 +264,32 @@ fn findings() {
             "For E09 it is data that was right before and is still heard",
         ],
     );
+    // The words in which E18's data changes are lost: out of date for a half minute, and right again.
+    let mut lost = records("nominal");
+    let is = |r: &&Vec<u8>| r[0] == 2 && r[1] == 18;
+    let first = lost.iter().find(is).unwrap()[6..22].to_vec();
+    let change = lost
+        .iter()
+        .filter(is)
+        .find(|r| r[6] == first[0] && r[7] != first[1]);
+    let change = change.unwrap()[2..6].to_vec();
+    lost.retain(|r| r[..2] != [2, 18] || r[2..6] != change);
+    let lost = lost.concat();
+    says(
+        &boxes(&lost),
+        &["All data heard was authentic.", "Do: nothing."],
+    );
+    let sheet = Sheet::of("lost", &history(&lost), None);
+    let note = sheet.runs[0]
+        .front
+        .iter()
+        .find(|w| w.title == "Data out of date for E18.")
+        .unwrap();
+    assert_eq!(note.grade, Grade::Note);
+    assert!(
+        note.text.contains("Newer data was marked later."),
+        "{note:?}"
+    );
     // All data right, but a key is damaged on the way.
     let mut damaged = records("nominal");
     let last = damaged.iter().rposition(|r| r[0] == 3).unwrap();
@@ -360,6 +388,38 @@ fn events_have_a_line_each() {
     assert!(!front.contains("Keys in force") && front.contains("9 in all: see the back."));
     let (_, all) = back.split_once("<h2>All events</h2>").unwrap();
     assert_eq!(all.matches("<dd>Keys in force").count(), 3);
+}
+
+// More events than are kept: the box does not depend on those that have no line.
+#[test]
+fn many_events() {
+    let (mut receiver, mut all) = (Receiver::new(), History::default());
+    let revoked = records("chain_revoked");
+    for bytes in &revoked {
+        let record = Record::of(bytes[..].try_into().unwrap());
+        if matches!(&record, Record::Verdict { message, .. } if message[0] >> 6 == 3) {
+            let no = Answer {
+                first: Err(Refusal::VerdictBad),
+                second: Ok(()),
+                tags: Vec::new(),
+            };
+            (0..200).for_each(|_| all.note(&record, &no, receiver.core()));
+        }
+        let answer = receiver.answer(&record);
+        all.note(&record, &answer, receiver.core());
+    }
+    let sheet = Sheet::of("x", &all, None);
+    let run = &sheet.runs[0];
+    assert!(run.finding.title.contains(
+        "WITHDREW ITS KEYS at 2017-10-20 00:02:00. New ones were taken at 2017-10-20 00:04:30."
+    ));
+    assert_eq!(run.events.len(), EVENTS + 1);
+    let more = &run.events[EVENTS];
+    assert_eq!(
+        more.what,
+        format!("{} more, not shown here.", all.runs[0].events_left_out)
+    );
+    assert_eq!(all.runs[0].events_left_out, 3 + 200 + 200 - EVENTS as u64);
 }
 
 // Sections without a chain: before the first root ordinary, after a drop a warning.
@@ -481,11 +541,11 @@ fn local_time() {
     assert!(page.contains("WRONG DATA came in from 02:12:12 to 02:16:42 for 4 of 12"));
     assert!(page.contains("2017-10-20 01:59:42 to 02:29:12"));
     assert!(page.contains("class=\"axis\">02:05</text>"));
-    assert_eq!(page.matches("UTC + 18").count(), 1);
+    assert_eq!(page.matches("UTC\u{a0}+\u{a0}18\u{a0}s").count(), 1);
     assert!(page.contains("local time (UTC+02:00)"));
     assert!(!page.contains("00:12:30"));
     let gst = html::page(&Sheet::of("fitter", &all, None));
-    assert_eq!(gst.matches("UTC + 18").count(), 1);
+    assert_eq!(gst.matches("UTC\u{a0}+\u{a0}18\u{a0}s").count(), 1);
     assert!(gst.contains("class=\"axis\">00:05</text>"));
 }
 
