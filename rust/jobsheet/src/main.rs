@@ -113,13 +113,18 @@ fn tell(text: impl Display) {
     let _ = writeln!(io::stderr(), "jobsheet: {text}");
 }
 
-/// Tells the records so far once a second, from the second second on.
+/// Tells the records so far once a second, from the second second on; of how many, where that is
+/// known.
 fn progress(total: u64) -> impl FnMut(&History) {
     let mut next = Instant::now() + Duration::from_secs(2);
+    let of = match total {
+        0 => String::new(),
+        total => format!(" of {total}"),
+    };
     move |history| {
         let records = history.records;
         if records.is_multiple_of(1_024) && Instant::now() >= next {
-            tell(format!("{records} of {total} records"));
+            tell(format!("{records}{of} records"));
             next = Instant::now() + Duration::from_secs(1);
         }
     }

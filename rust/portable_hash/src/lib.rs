@@ -1,9 +1,10 @@
 //! SHA-256 (FIPS 180-4) and HMAC-SHA-256 (FIPS 198-1) in plain, portable Rust.
 //!
-//! Written from the standards for the second receiver, the bench signal and the benchmark. It
-//! shares no code and no table with the proved library, so that the two can be compared. The
-//! compression keeps sixteen message words in place and does sixteen rounds a turn, with one
-//! rotation inside another: of the portable forms tried, the one with the fewest instructions.
+//! Written from the standards for the second receiver, the bench signal and the benchmark; the job
+//! sheet names its recording by it. It shares no code and no table with the proved library, so that
+//! the two can be compared. The compression keeps sixteen message words in place and does sixteen
+//! rounds a turn, with one rotation inside another: of the portable forms tried, the one with the
+//! fewest instructions.
 
 #![forbid(unsafe_code)]
 
