@@ -9,7 +9,7 @@
  * No call allocates, keeps a pointer, has state of its own, waits, or reports in any way but by its
  * number and the memory that it is lent. Every call returns, whatever bytes and numbers it is given.
  *
- *     static struct osnma_core core;            needs no clearing: an accepted start writes it all
+ *     static struct osnma_core core;            needs no clearing: an accepted start writes every region
  *
  *     osnma_start(&core, &settings)             once, and again to begin anew
  *     osnma_subframe(&core, prn, time, ..)      the authentication fields of each sub-frame, 75 bytes
@@ -390,7 +390,7 @@ static inline uint32_t osnma_key_length(uint8_t key_type)
  *
  * Lent: the core, of any contents; the settings, which are read.
  *
- * OSNMA_DONE          Every byte of the core is written. The public key is held, nothing else is, and
+ * OSNMA_DONE          Every region of the core is written. The public key is held, nothing else is, and
  *                     the core is not stopped.
  * OSNMA_OUT_OF_RANGE  The core stays. NS, key ID, key type or a mark is out of range, or the first
  *                     mark of a list is not 0.

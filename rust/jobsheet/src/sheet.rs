@@ -17,8 +17,8 @@ use std::sync::Arc;
 
 /// Version of this program.
 pub const PROGRAM: &str = env!("CARGO_PKG_VERSION");
-/// Version of the library: the workspace's, as this program's; a test compares it with the lock file.
-pub const LIBRARY: &str = env!("CARGO_PKG_VERSION");
+/// Version of the library.
+pub const LIBRARY: &str = osnma::VERSION;
 
 /// Columns of the front's strips at most.
 pub const FRONT_COLUMNS: usize = 60;
