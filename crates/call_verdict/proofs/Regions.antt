@@ -11,15 +11,15 @@ use Rattle.laws.proofs.Splice.{splice-whole, splice-append, length-part, splice
 use Rattle.rules.specs.Bits.{filled}
 use Rattle.rules.specs.Kroot.{noOffer, krootOf, keyWidth, ksOf}
 use Rattle.rules.proofs.Bounds.{key-width-bound}
-use Rattle.rules.specs.State.{offerLength, contentsLength}
+use Rattle.rules.specs.State.{offerLength, chainLength, contentsLength}
 
 -- no message waits
-pub wiped : (offer : List ℕ) → length offer ≡ offerLength → splice offer 0 (replicate 179 0) ≡ noOffer
+pub wiped : (offer : List ℕ) → length offer ≡ offerLength → splice offer 0 (replicate offerLength 0) ≡ noOffer
 unfolding noOffer
-wiped offer h = splice-whole offer (replicate 179 0) (length-replicate {A = ℕ} 179 0 ∙ sym h)
+wiped offer h = splice-whole offer (replicate offerLength 0) (length-replicate {A = ℕ} offerLength 0 ∙ sym h)
 
 -- the first byte, and the contents after it
-pub put : (chain c : List ℕ) → length chain ≡ 45 → length c ≡ contentsLength → splice (set chain 0 1) 1 c ≡ 1 ∷ c
+pub put : (chain c : List ℕ) → length chain ≡ chainLength → length c ≡ contentsLength → splice (set chain 0 1) 1 c ≡ 1 ∷ c
 put chain c h k = splice-cons chain 0 1 c (omega arith) ∙ splice-whole chain (1 ∷ c) (omega arith)
 
 -- the root key in 32 bytes, written in two steps

@@ -11,7 +11,7 @@ ghost use lib.ListN.{length};
 ghost use Rattle.laws.specs.Refusal.{firstOf};
 ghost use Rattle.rules.specs.Bits.{within};
 ghost use Rattle.rules.specs.Gather.{statusOf};
-ghost use Rattle.rules.specs.State.{State, configLength, offerLength, chainLength};
+ghost use Rattle.rules.specs.State.{State, configLength, offerLength, chainLength, contentsLength};
 ghost use Rattle.rules.specs.Verdict as S;
 
 // Whether the contents are those in force.
@@ -38,7 +38,7 @@ fn cid_in_force(config: &[u8], chain: &[u8], cid: u8) -> bool
 
 // Status 0; status 3 with no chain or other CID; status 1 or 2 with CIDKR not CID.
 fn status_unfit(config: &[u8], chain: &[u8], header: u8, c: &[u8]) -> bool
-    requires { ⌜ (length (now config) ≡ configLength) × ((length (now chain) ≡ chainLength) × (44 ≤ length (now c))) ⌝ }
+    requires { ⌜ (length (now config) ≡ configLength) × ((length (now chain) ≡ chainLength) × (contentsLength ≤ length (now c))) ⌝ }
     ensures { λ r. ⌜ ((s : State) → s .config ≡ now (config .entry) → s .chain ≡ now (chain .entry) → r ≡ S.statusUnfit s header (now (c .entry))) ⌝ }
 {
     let status = gather::status_of(header);
@@ -54,7 +54,7 @@ fn status_unfit(config: &[u8], chain: &[u8], header: u8, c: &[u8]) -> bool
 
 // The root is earlier than the last put in force, or equal with other contents, or not later after a drop.
 fn root_unfit(config: &[u8], chain: &[u8], c: &[u8]) -> bool
-    requires { ⌜ (length (now config) ≡ configLength) × ((length (now chain) ≡ chainLength) × (44 ≤ length (now c))) ⌝ }
+    requires { ⌜ (length (now config) ≡ configLength) × ((length (now chain) ≡ chainLength) × (contentsLength ≤ length (now c))) ⌝ }
     ensures { λ r. ⌜ ((s : State) → s .config ≡ now (config .entry) → s .chain ≡ now (chain .entry) → r ≡ S.rootUnfit s (now (c .entry))) ⌝ }
 {
     let last = kroot::root_seconds(kroot::chain_contents(chain));
@@ -98,7 +98,7 @@ pub fn vouch_refusal(
 
 // A verdict that would put a root in force (status 1 or 2), whose root is unfit.
 fn new_root_unfit(config: &[u8], chain: &[u8], header: u8, c: &[u8]) -> bool
-    requires { ⌜ (length (now config) ≡ configLength) × ((length (now chain) ≡ chainLength) × (44 ≤ length (now c))) ⌝ }
+    requires { ⌜ (length (now config) ≡ configLength) × ((length (now chain) ≡ chainLength) × (contentsLength ≤ length (now c))) ⌝ }
     ensures { λ r. ⌜ ((s : State) → s .config ≡ now (config .entry) → s .chain ≡ now (chain .entry) →
         r ≡ (within 1 2 (statusOf header) && S.rootUnfit s (now (c .entry)))) ⌝ }
 {

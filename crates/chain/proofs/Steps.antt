@@ -1,14 +1,15 @@
 -- A step in a framed block is a step of the chain, a block is framed by its writes, and steps one after the other are a walk.
 -- Assumes nothing.
 use mathlib.Core.Path.{_≡_, refl, sym, ap, _∙_}
-use mathlib.Core.Bool.{Bool, true}
+use mathlib.Core.Bool.{Bool, true, false, cond}
 use mathlib.Core.Logic.{⊎-elim}
 use mathlib.Core.List.{List, _∷_, _++_, append-assoc, append-nil}
 use Prim.Native.Nat.{ℕ, zero, suc, _+_, _-_, _*_, _/_, _%_, _^_, _≤_, _<_}
 use native.Mathlib.Omega.{arith}
 use lib.ListN.{length, take, drop, set, replicate, length-append, length-replicate, length-drop, replicate-append-replicate, take-append-drop, drop-of-length-le}
 use lib.Seq.{take-at, drop-at, drop-drop, set-at, length-take-le, take-all}
-use borrow.Author.Tests.{lt-ltb, le-ltb}
+use lib.Dec.{ltb}
+use borrow.Author.Tests.{lt-ltb, le-ltb, ltb-true, ltb-false}
 use Rattle.laws.specs.Lists.{part, splice, same}
 use Rattle.laws.specs.Bytes.{be4, be8}
 use Rattle.laws.proofs.Numbers.{length-be4}
@@ -18,9 +19,10 @@ use Rattle.sha256.specs.Sha256 as H
 use Rattle.sha256.proofs.Continued.{one-block, length-sha256}
 use Rattle.rules.specs.Chain as S
 use Rattle.rules.specs.declared.Chain.{Chain}
-use Rattle.laws.proofs.Same.{same-true}
+use Rattle.laws.proofs.Same.{same-true, same-equal, same-false, same-differ}
 use Rattle.rules.proofs.Walks.{walk-add}
-use Rattle.chain.specs.Sound.{Framed, Met}
+use Rattle.chain.specs.Sound.{Framed, Met, OnWay}
+use Rattle.chain.specs.declared.Way.{Way}
 
 -- ---- lengths
 
@@ -64,26 +66,6 @@ walk-on c h at m p q =
     let f : m + (at - m) ≡ at = omega arith in
     sym (rw (← e) (walk-add c (h .slot - at) (at - m) m (h .key) ∙ ap (λ (i : ℕ). S.walk c (at - m) m (S.walk c (h .slot - at) i (h .key))) f))
 
--- a key of a higher slot, walked down to a slot on its way, fits where the key itself does
-pub fits-on-the-way : (c : Chain) (h : S.Held) (slot stop : ℕ) (k : List ℕ) → stop ≤ slot → (h .slot < slot → h .slot ≤ stop) → (slot ≤ h .slot → stop ≡ slot)
-    → S.keyFits c h stop (S.keyOfSlot c (S.held slot k) stop) ≡ S.keyFits c h slot k
-unfolding S.keyFits S.keyOfSlot
-fits-on-the-way c h slot stop k l p q =
-    ⊎-elim
-    (λ a.
-    let on : S.walk c (stop - h .slot) (h .slot) (S.walk c (slot - stop) stop k) ≡ S.walk c (slot - h .slot) (h .slot) k = walk-on c (S.held slot k) stop (h .slot) (p a) l in
-    ⊎-elim
-    (λ b. rw (lt-ltb (h .slot) stop b, lt-ltb (h .slot) slot a, on))
-    (λ b.
-    let e : stop ≡ h .slot = omega (arith, p a) in
-    let n : h .slot - stop ≡ 0 = omega arith in
-    rw (le-ltb (h .slot) stop b, lt-ltb (h .slot) slot a, walk-none c (h .slot - stop) stop (h .key) n, e))
-    (below? (h .slot) stop))
-    (λ a.
-    let n : slot - stop ≡ 0 = omega (arith, q a) in
-    rw (walk-none c (slot - stop) stop k n, q a))
-    (below? (h .slot) slot)
-
 -- the held key is met at its own slot
 pub met-here : (c : Chain) (slot : ℕ) (key : List ℕ) → Met c (S.held slot (take (c .width) key)) slot key
 unfolding S.keyOfSlot
@@ -100,6 +82,34 @@ met-from-above c h slot at k key l f m =
       not-above = omega (arith, m .not-above);
       key-is = m .key-is ∙ ap (λ (x : List ℕ). S.walk c (h .slot - at) at x) (sym down) ∙ walk-on c (S.held slot k) (h .slot) at (m .not-above) (omega arith);
     }
+
+-- the same of both keys of a way
+pub way-from-above : (c : Chain) (h : S.Held) (slot : ℕ) (k : List ℕ) (w : Way) → h .slot < slot → S.keyFits c h slot k ≡ true → OnWay c h w → OnWay c (S.held slot k) w
+way-from-above c h slot k w l f o =
+    record { near-is = met-from-above c h slot (w .near) k (w .met) l f (o .near-is); low-is = met-from-above c h slot (w .low) k (w .own) l f (o .low-is) }
+
+-- a key that fits at or below the held slot is met there
+pub met-fits : (c : Chain) (h : S.Held) (slot : ℕ) (key : List ℕ) → slot ≤ h .slot → S.keyFits c h slot (take (c .width) key) ≡ true → Met c h slot key
+unfolding S.keyFits
+met-fits c h slot key l f =
+    record { not-above = l; key-is = same-true (take (c .width) key) (S.keyOfSlot c h slot) (rw (le-ltb (h .slot) slot l) at f) }
+
+-- from a key that was met the way goes on: at or above slot m, or at the held slot
+pub met-on : (c : Chain) (h : S.Held) (at m : ℕ) (key : List ℕ) → Met c h at key → (at < m → at ≡ h .slot) → S.keyOfSlot c (S.held at (take (c .width) key)) m ≡ S.keyOfSlot c h m
+unfolding S.keyOfSlot
+met-on c h at m key t f =
+    ⊎-elim
+    (λ a.
+    let e = f a in
+    let x : at - m ≡ 0 = omega arith in
+    let y : h .slot - at ≡ 0 = omega arith in
+    let z : h .slot - m ≡ 0 = omega arith in
+    walk-none c (at - m) m (take (c .width) key) x
+    ∙ t .key-is
+    ∙ walk-none c (h .slot - at) at (h .key) y
+    ∙ sym (walk-none c (h .slot - m) m (h .key) z))
+    (λ a. ap (λ (k : List ℕ). S.walk c (at - m) m k) (t .key-is) ∙ walk-on c h at m a (t .not-above))
+    (below? at m)
 
 -- ---- a step in a framed block: the time, then the hash value's first bytes
 module _ (c : Chain) (w : c .width ≤ 32) (a : length (c .alpha) ≡ 6) where
@@ -239,24 +249,100 @@ walked-key c slot m key out w n e =
     ap (take (c .width)) e
     ∙ front-splice key (S.walk c (slot - m) m (take (c .width) key)) (c .width) (length-walk c (slot - m) m (take (c .width) key) w (length-take-le (c .width) key (omega arith)))
 
+-- the key's bytes and the length of a key of slot m that was walked down to from a key that was met
+pub met-walked : (c : Chain) (h : S.Held) (at m : ℕ) (key out : List ℕ) → c .width ≤ 32 → length key ≡ 32 → Met c h at key → (at < m → at ≡ h .slot)
+    → out ≡ splice key 0 (S.keyOfSlot c (S.held at (take (c .width) key)) m) → (length out ≡ 32) × (take (c .width) out ≡ S.keyOfSlot c h m)
+unfolding S.keyOfSlot
+met-walked c h at m key out w n t f e =
+    (walked-length c (at - m) m key out w n e, walked-key c at m key out w n e ∙ met-on c h at m key t f)
+
 -- at or above the held slot the held key stays
 pub key-kept : (c : Chain) (h m : ℕ) (key : List ℕ) → h ≤ m → key ≡ splice key 0 (S.keyOfSlot c (S.held h (take (c .width) key)) m)
 unfolding S.keyOfSlot
 key-kept c h m key l = sym (ap (splice key 0) (walk-none c (h - m) m (take (c .width) key) (omega arith)) ∙ splice-front key (c .width))
 
-module _ (c : Chain) (h slot : ℕ) (known key k : List ℕ) (r : Bool) (w : c .width ≤ 32) where
-  -- a key above the held slot is hashed down
-  pub fits-above : length key ≡ 32 → h < slot → k ≡ splice key 0 (S.walk c (slot - h) h (take (c .width) key)) → r ≡ same (part k 0 (c .width)) (part known 0 (c .width))
-      → r ≡ S.keyFits c (S.held h (take (c .width) known)) slot (take (c .width) key)
-  unfolding S.keyFits part
-  fits-above n l p q =
-      let e = length-walk c (slot - h) h (take (c .width) key) w (length-take-le (c .width) key (omega arith)) in
-      q ∙ rw (p, front-splice key (S.walk c (slot - h) h (take (c .width) key)) (c .width) e, lt-ltb h slot l)
+-- ---- the key of one slot checked against that of another
 
-  -- at or below it, the held key
-  pub fits-below : length known ≡ 32 → slot ≤ h → k ≡ splice known 0 (S.keyOfSlot c (S.held h (take (c .width) known)) slot) → r ≡ same (part key 0 (c .width)) (part k 0 (c .width))
-      → r ≡ S.keyFits c (S.held h (take (c .width) known)) slot (take (c .width) key)
-  unfolding S.keyFits S.keyOfSlot part
-  fits-below n l p q =
-      let e = length-walk c (h - slot) slot (take (c .width) known) w (length-take-le (c .width) known (omega arith)) in
-      q ∙ rw (p, front-splice known (S.walk c (h - slot) slot (take (c .width) known)) (c .width) e, le-ltb h slot l)
+-- which of two lists comes first does not matter
+same-turned : (xs ys : List ℕ) → same xs ys ≡ same ys xs
+same-turned xs ys = go (same ys xs) refl
+  where
+    go : (b : Bool) → same ys xs ≡ b → same xs ys ≡ b
+    go true e = same-equal xs ys (sym (same-true ys xs e))
+    go false e = same-differ xs ys (λ p. same-false ys xs e (sym p))
+
+-- the key at the end of a way that was walked in two parts
+pub two-parts : (c : Chain) (high stop low : ℕ) (top here last end : List ℕ) (f : Bool) → c .width ≤ 32 → length top ≡ 32 → low ≤ stop → stop ≤ high
+    → here ≡ splice top 0 (S.keyOfSlot c (S.held high (take (c .width) top)) stop)
+    → last ≡ splice here 0 (S.keyOfSlot c (S.held stop (take (c .width) here)) low)
+    → f ≡ same (part last 0 (c .width)) (part end 0 (c .width))
+    → f ≡ same (S.keyOfSlot c (S.held high (take (c .width) top)) low) (take (c .width) end)
+unfolding part S.keyOfSlot
+two-parts c high stop low top here last end f w n l u p q e =
+    let k = walked-key c high stop top here w n p in
+    let m = walked-length c (high - stop) stop top here w n p in
+    e
+    ∙ ap (λ (x : List ℕ). same x (take (c .width) end))
+    (walked-key c stop low here last w m q ∙ ap (λ (x : List ℕ). S.keyOfSlot c (S.held stop x) low) k ∙ walk-on c (S.held high (take (c .width) top)) stop low l u)
+
+-- the higher and the lower of two slots
+pub record Between (h slot high low : ℕ) : Type 0 where
+  pub ordered : low ≤ high
+  pub bounded : (n : ℕ) → h ≤ n → slot ≤ n → high ≤ n
+  pub up-low : (v : ℕ) → h ≤ v → v ≤ slot → low ≤ v
+  pub up-high : (v : ℕ) → h ≤ v → v ≤ slot → v ≤ high
+  pub down-low : (v : ℕ) → slot ≤ v → v ≤ h → low ≤ v
+  pub down-high : (v : ℕ) → slot ≤ v → v ≤ h → v ≤ high
+
+pub between : (h slot high low : ℕ) → high ≡ cond (ltb h slot) slot h → low ≡ cond (ltb h slot) h slot → Between h slot high low
+between h slot high low p q =
+    ⊎-elim
+    (λ (l : h < slot).
+    let e : high ≡ slot = p ∙ rw (lt-ltb h slot l) in
+    let f : low ≡ h = q ∙ rw (lt-ltb h slot l) in
+    record { ordered = omega arith; bounded = λ n a b. omega arith; up-low = λ v a b. omega arith; up-high = λ v a b. omega arith; down-low = λ v a b. omega arith; down-high = λ v a b. omega arith })
+    (λ l.
+    let e : high ≡ h = p ∙ rw (le-ltb h slot l) in
+    let f : low ≡ slot = q ∙ rw (le-ltb h slot l) in
+    record { ordered = omega arith; bounded = λ n a b. omega arith; up-low = λ v a b. omega arith; up-high = λ v a b. omega arith; down-low = λ v a b. omega arith; down-high = λ v a b. omega arith })
+    (below? h slot)
+
+-- the higher of two keys, walked down to the lower one's slot, is that key just where the key fits
+module _ (c : Chain) (h slot high low : ℕ) (known key top end : List ℕ) (high-is : high ≡ cond (ltb h slot) slot h) (low-is : low ≡ cond (ltb h slot) h slot)
+    (top-is : top ≡ cond (ltb h slot) key known) (end-is : end ≡ cond (ltb h slot) known key) where
+  pub fits-is : (f : Bool) → f ≡ same (S.keyOfSlot c (S.held high (take (c .width) top)) low) (take (c .width) end) → f ≡ S.keyFits c (S.held h (take (c .width) known)) slot (take (c .width) key)
+  unfolding S.keyFits S.keyOfSlot
+  fits-is f e = e ∙ rw (high-is, low-is, top-is, end-is) (go (ltb h slot) refl)
+    where
+      go : (b : Bool) → ltb h slot ≡ b
+          → same (S.walk c (cond b slot h - cond b h slot) (cond b h slot) (take (c .width) (cond b key known))) (take (c .width) (cond b known key))
+          ≡ cond b (same (S.walk c (slot - h) h (take (c .width) key)) (take (c .width) known)) (same (take (c .width) key) (S.walk c (h - slot) slot (take (c .width) known)))
+      go true t = refl
+      go false t = same-turned (S.walk c (h - slot) slot (take (c .width) known)) (take (c .width) key)
+
+  pub met-higher : (stop : ℕ) (here : List ℕ) → Met c (S.held high (take (c .width) top)) stop here → Met c (S.higher (S.held h (take (c .width) known)) slot (take (c .width) key)) stop here
+  unfolding S.higher
+  met-higher stop here m = go (ltb h slot) refl (rw (high-is, top-is) at m)
+    where
+      go : (b : Bool) → ltb h slot ≡ b → Met c (S.held (cond b slot h) (take (c .width) (cond b key known))) stop here
+          → Met c (cond b (S.held slot (take (c .width) key)) (S.held h (take (c .width) known))) stop here
+      go true t x = x
+      go false t x = x
+
+-- a key that fits is met at its slot on the way down from the higher of the two
+pub met-sent : (c : Chain) (h : S.Held) (slot : ℕ) (key : List ℕ) → S.keyFits c h slot (take (c .width) key) ≡ true → Met c (S.higher h slot (take (c .width) key)) slot key
+unfolding S.higher
+met-sent c h slot key f = go (ltb (h .slot) slot) refl
+  where
+    go : (b : Bool) → ltb (h .slot) slot ≡ b → Met c (cond b (S.held slot (take (c .width) key)) h) slot key
+    go true t = met-here c slot key
+    go false t = met-fits c h slot key (ltb-false (h .slot) slot t) f
+
+-- what was met on the way down from a key is met from the higher of it and a key that fits
+pub way-higher : (c : Chain) (h : S.Held) (slot : ℕ) (key : List ℕ) (w : Way) → S.keyFits c h slot key ≡ true → OnWay c h w → OnWay c (S.higher h slot key) w
+unfolding S.higher
+way-higher c h slot key w f o = go (ltb (h .slot) slot) refl
+  where
+    go : (b : Bool) → ltb (h .slot) slot ≡ b → OnWay c (cond b (S.held slot key) h) w
+    go true t = way-from-above c h slot key w (ltb-true (h .slot) slot t) f o
+    go false t = o

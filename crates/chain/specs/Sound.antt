@@ -9,6 +9,7 @@ use Rattle.sha256.specs.Sha256.{tail}
 use Rattle.rules.specs.Chain.{Held, keyOfSlot}
 use Rattle.rules.specs.Kroot.{blockBits, fieldsFor}
 use Rattle.rules.specs.declared.Chain.{Chain}
+use Rattle.chain.specs.declared.Way.{Way}
 
 -- the numbers of the key chain are in range
 pub record Walks (c : Chain) : Type 0 where
@@ -36,3 +37,8 @@ Framed c b = drop (c .width + 4) b ≡ c .alpha ++ tail (c .width + 10)
 pub record Met (c : Chain) (h : Held) (at : ℕ) (key : List ℕ) : Type 0 where
   pub not-above : at ≤ h .slot
   pub key-is : take (c .width) key ≡ keyOfSlot c h at
+
+-- both keys of a way were met on it
+pub record OnWay (c : Chain) (h : Held) (w : Way) : Type 0 where
+  pub near-is : Met c h (w .near) (w .met)
+  pub low-is : Met c h (w .low) (w .own)

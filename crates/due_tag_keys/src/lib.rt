@@ -61,16 +61,17 @@ fn next_below(c: Chain, waiting: &[u8], n: usize, below: u64) -> u64
     best
 }
 
-// The slot whose key is worth keeping on the way from a key of slot `last` down to the one of slot `slot`. Any slot serves, and changes no answer; of
-// all choices it is said that none is above `last`, and of this one that on a long way no tag that falls due has its slot above it.
-pub fn slot_to_keep(c: Chain, slot: u64, last: u64, waiting: &[u8], n: usize) -> u64
+// The slot whose key is worth keeping on the way between a key of slot `last` and the one of slot `slot`: where the way up is short, `own`; where it
+// is long, one at or below `last` above which no tag that falls due has its slot. Any slot serves, and changes no answer.
+pub fn slot_to_keep(c: Chain, slot: u64, last: u64, own: u64, waiting: &[u8], n: usize) -> u64
     requires { ⌜ (Walks c × ((slot < 2 ^ 34) × (last < 2 ^ 34))) × ((length (now waiting) ≡ waitingLength) × (n ≤ 256)) ⌝ }
-    ensures { λ r. ⌜ (r ≤ last)
-        × (slot + 256 < last → (k : ℕ) → k < n → entrySlot c (entryAt (now (waiting .entry)) k) ≤ last →
-        entrySlot c (entryAt (now (waiting .entry)) k) ≤ r) ⌝ }
+    ensures { λ r. ⌜ (last ≤ slot + 256 → r ≡ own)
+        × (slot + 256 < last →
+        (r ≤ last)
+        × ((k : ℕ) → k < n → entrySlot c (entryAt (now (waiting .entry)) k) ≤ last → entrySlot c (entryAt (now (waiting .entry)) k) ≤ r)) ⌝ }
 {
     if last <= slot + SHORT_WAY {
-        return 0;
+        return own;
     }
     next_below(c, waiting, n, last + 1)
 }
@@ -150,20 +151,6 @@ fn judge_down(
     judge_slot(c, &kept, m, waiting, n, outcomes);
 }
 
-// Where the way down to slot m begins: at the key that was met, of slot `near`, unless m is above it; else at the held key. The key there goes to
-// `key`, which holds the held one; its slot is given.
-fn begin(slot: u64, near: u64, met: [u8; 32], m: u64, key: &mut [u8; 32]) -> u64
-    requires { ⌜ (m ≤ slot) × (length (now key) ≡ 32) ⌝ }
-    ensures { λ r. ⌜ ((m ≤ r) × ((length (now (key .exit)) ≡ 32) × (m ≤ near → r ≡ near)))
-        × ((c : Chain) (h : Held) → Met c h slot (now (key .entry)) → Met c h near met → Met c h r (now (key .exit))) ⌝ }
-{
-    if near < m {
-        return slot;
-    }
-    *key = met;
-    near
-}
-
 // The outcomes of the first n entries, from the held key: 0 where a tag is not due. `met` is the key of slot `near` on the way down from the held
 // key.
 pub fn outcomes(
@@ -182,7 +169,7 @@ pub fn outcomes(
     let mut key = known;
     let mut judged = [0u8; 256];
     let mut m = next_below(c, waiting, n, slot + 1);
-    let mut at = begin(slot, near, met, m, &mut key);
+    let mut at = chain::nearer(slot, near, met, m, &mut key);
     while 0 < m {
         judge_down(c, at, m, &mut key, waiting, n, &mut judged);
         at = m;

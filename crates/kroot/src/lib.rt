@@ -100,7 +100,7 @@ pub fn chain_contents(chain: &[u8]) -> &[u8]
 
 // The chain's numbers.
 pub fn chain_with(ns: u64, c: &[u8]) -> Chain
-    requires { ⌜ 44 ≤ length (now c) ⌝ }
+    requires { ⌜ contentsLength ≤ length (now c) ⌝ }
     ensures { λ r. ⌜ r ≡ S.chainWith ns (now (c .entry)) ⌝ }
 {
     let width = key_width(ks(c));
@@ -144,7 +144,7 @@ pub fn names_offer(offer: &[u8], id: u8, message: &[u8], signature: &[u8]) -> bo
 
 // Whether two contents are of one chain: CID, parameters and α.
 pub fn chain_unchanged(a: &[u8], b: &[u8]) -> bool
-    requires { ⌜ (44 ≤ length (now a)) × (44 ≤ length (now b)) ⌝ }
+    requires { ⌜ (contentsLength ≤ length (now a)) × (contentsLength ≤ length (now b)) ⌝ }
     ensures { λ r. ⌜ r ≡ chainUnchanged (now (a .entry)) (now (b .entry)) ⌝ }
 {
     functions_same(a, b) & (widths_same(a, b) & buffer::equal(&a[6..12], &b[6..12]))
@@ -152,7 +152,7 @@ pub fn chain_unchanged(a: &[u8], b: &[u8]) -> bool
 
 // CID, NMACK, HF and MF are equal.
 fn functions_same(a: &[u8], b: &[u8]) -> bool
-    requires { ⌜ (44 ≤ length (now a)) × (44 ≤ length (now b)) ⌝ }
+    requires { ⌜ (contentsLength ≤ length (now a)) × (contentsLength ≤ length (now b)) ⌝ }
     ensures { λ r. ⌜ r ≡ G.functionsSame (now (a .entry)) (now (b .entry)) ⌝ }
 {
     (cidkr(a) == cidkr(b)) & ((nmack(a) == nmack(b)) & ((hf(a) == hf(b)) & (mf(a) == mf(b))))
@@ -160,7 +160,7 @@ fn functions_same(a: &[u8], b: &[u8]) -> bool
 
 // KS, MS, MACLT and MO are equal.
 fn widths_same(a: &[u8], b: &[u8]) -> bool
-    requires { ⌜ (44 ≤ length (now a)) × (44 ≤ length (now b)) ⌝ }
+    requires { ⌜ (contentsLength ≤ length (now a)) × (contentsLength ≤ length (now b)) ⌝ }
     ensures { λ r. ⌜ r ≡ G.widthsSame (now (a .entry)) (now (b .entry)) ⌝ }
 {
     (ks(a) == ks(b)) & ((ms(a) == ms(b)) & ((maclt_field(a) == maclt_field(b)) & (mo(a) == mo(b))))
@@ -170,7 +170,7 @@ fn widths_same(a: &[u8], b: &[u8]) -> bool
 
 // Whether contents have a parameter that is refused.
 fn parameters_bad(config: &[u8], c: &[u8]) -> bool
-    requires { ⌜ (length (now config) ≡ configLength) × (44 ≤ length (now c)) ⌝ }
+    requires { ⌜ (length (now config) ≡ configLength) × (contentsLength ≤ length (now c)) ⌝ }
     ensures { λ r. ⌜ r ≡ S.parametersBad (now (config .entry)) (now (c .entry)) ⌝ }
 {
     functions_bad(c) | (widths_bad(config, c) | root_time_bad(c))
@@ -178,7 +178,7 @@ fn parameters_bad(config: &[u8], c: &[u8]) -> bool
 
 // HF or MO not 0; MF that is refused; NMACK 0.
 fn functions_bad(c: &[u8]) -> bool
-    requires { ⌜ 44 ≤ length (now c) ⌝ }
+    requires { ⌜ contentsLength ≤ length (now c) ⌝ }
     ensures { λ r. ⌜ r ≡ G.functionsBad (now (c .entry)) ⌝ }
 {
     (hf(c) != 0) | (mf_bad(c) | ((mo(c) != 0) | (nmack(c) == 0)))
@@ -186,7 +186,7 @@ fn functions_bad(c: &[u8]) -> bool
 
 // MF above 1, or 1 with a key that is none of AES.
 fn mf_bad(c: &[u8]) -> bool
-    requires { ⌜ 44 ≤ length (now c) ⌝ }
+    requires { ⌜ contentsLength ≤ length (now c) ⌝ }
     ensures { λ r. ⌜ r ≡ S.mfBad (now (c .entry)) ⌝ }
 {
     let f = mf(c);
@@ -203,7 +203,7 @@ fn aes_width(width: usize) -> bool
 
 // KS code above 8, MS code above 9; other MACLT; block shorter than KS + MS + 16.
 fn widths_bad(config: &[u8], c: &[u8]) -> bool
-    requires { ⌜ (length (now config) ≡ configLength) × (44 ≤ length (now c)) ⌝ }
+    requires { ⌜ (length (now config) ≡ configLength) × (contentsLength ≤ length (now c)) ⌝ }
     ensures { λ r. ⌜ r ≡ G.widthsBad (now (config .entry)) (now (c .entry)) ⌝ }
 {
     let k = ks(c);
@@ -216,7 +216,7 @@ fn widths_bad(config: &[u8], c: &[u8]) -> bool
 
 // Hour above 167; week 0 hour 0.
 fn root_time_bad(c: &[u8]) -> bool
-    requires { ⌜ 44 ≤ length (now c) ⌝ }
+    requires { ⌜ contentsLength ≤ length (now c) ⌝ }
     ensures { λ r. ⌜ r ≡ G.rootTimeBad (now (c .entry)) ⌝ }
 {
     let hour = root_hour(c);
@@ -265,70 +265,70 @@ fn fields_for(nmack: u8, ks: u64, ms: u64) -> u64
 // ---- fields of contents (000, table 7)
 
 pub fn cidkr(c: &[u8]) -> u8
-    requires { ⌜ 44 ≤ length (now c) ⌝ }
+    requires { ⌜ contentsLength ≤ length (now c) ⌝ }
     ensures { λ r. ⌜ r ≡ S.cidkrOf (now (c .entry)) ⌝ }
 {
     (c[0] >> 6) % 4
 }
 
 fn nmack(c: &[u8]) -> u8
-    requires { ⌜ 44 ≤ length (now c) ⌝ }
+    requires { ⌜ contentsLength ≤ length (now c) ⌝ }
     ensures { λ r. ⌜ r ≡ S.nmackOf (now (c .entry)) ⌝ }
 {
     (c[0] >> 4) % 4
 }
 
 fn hf(c: &[u8]) -> u8
-    requires { ⌜ 44 ≤ length (now c) ⌝ }
+    requires { ⌜ contentsLength ≤ length (now c) ⌝ }
     ensures { λ r. ⌜ r ≡ S.hfOf (now (c .entry)) ⌝ }
 {
     (c[0] >> 2) % 4
 }
 
 fn mf(c: &[u8]) -> u8
-    requires { ⌜ 44 ≤ length (now c) ⌝ }
+    requires { ⌜ contentsLength ≤ length (now c) ⌝ }
     ensures { λ r. ⌜ r ≡ S.mfOf (now (c .entry)) ⌝ }
 {
     c[0] % 4
 }
 
 pub fn ks(c: &[u8]) -> u8
-    requires { ⌜ 44 ≤ length (now c) ⌝ }
+    requires { ⌜ contentsLength ≤ length (now c) ⌝ }
     ensures { λ r. ⌜ r ≡ S.ksOf (now (c .entry)) ⌝ }
 {
     (c[1] >> 4) % 16
 }
 
 fn ms(c: &[u8]) -> u8
-    requires { ⌜ 44 ≤ length (now c) ⌝ }
+    requires { ⌜ contentsLength ≤ length (now c) ⌝ }
     ensures { λ r. ⌜ r ≡ S.msOf (now (c .entry)) ⌝ }
 {
     c[1] % 16
 }
 
 fn maclt_field(c: &[u8]) -> u8
-    requires { ⌜ 44 ≤ length (now c) ⌝ }
+    requires { ⌜ contentsLength ≤ length (now c) ⌝ }
     ensures { λ r. ⌜ r ≡ S.macltFieldOf (now (c .entry)) ⌝ }
 {
     c[2]
 }
 
 fn mo(c: &[u8]) -> u8
-    requires { ⌜ 44 ≤ length (now c) ⌝ }
+    requires { ⌜ contentsLength ≤ length (now c) ⌝ }
     ensures { λ r. ⌜ r ≡ S.moOf (now (c .entry)) ⌝ }
 {
     (c[3] >> 4) % 4
 }
 
 fn root_week(c: &[u8]) -> u64
-    requires { ⌜ 44 ≤ length (now c) ⌝ }
+    requires { ⌜ contentsLength ≤ length (now c) ⌝ }
     ensures { λ r. ⌜ r ≡ S.rootWeekOf (now (c .entry)) ⌝ }
 {
     bitfields::wide(c[3]) % 16 * 256 + bitfields::wide(c[4])
 }
 
 fn root_hour(c: &[u8]) -> u8
-    requires { ⌜ 44 ≤ length (now c) ⌝ }
+    requires { ⌜ contentsLength ≤ length (now c) ⌝ }
     ensures { λ r. ⌜ r ≡ S.rootHourOf (now (c .entry)) ⌝ }
 {
     c[5]
@@ -336,7 +336,7 @@ fn root_hour(c: &[u8]) -> u8
 
 // Seconds since week 0 of the root's sub-frame 0.
 pub fn root_seconds(c: &[u8]) -> u64
-    requires { ⌜ 44 ≤ length (now c) ⌝ }
+    requires { ⌜ contentsLength ≤ length (now c) ⌝ }
     ensures { λ r. ⌜ r ≡ S.rootSecondsOf (now (c .entry)) ⌝ }
 {
     times::hour_seconds(root_week(c), bitfields::wide(root_hour(c)))
@@ -344,7 +344,7 @@ pub fn root_seconds(c: &[u8]) -> u64
 
 // The chain's pattern α.
 fn alpha(c: &[u8]) -> [u8; 6]
-    requires { ⌜ 44 ≤ length (now c) ⌝ }
+    requires { ⌜ contentsLength ≤ length (now c) ⌝ }
     ensures { λ r. ⌜ r ≡ S.alphaOf (now (c .entry)) ⌝ }
 {
     [c[6], c[7], c[8], c[9], c[10], c[11]]

@@ -1,13 +1,17 @@
 -- The MACK half of a sub-frame: what it gives, and a state whose held key, waiting tags and authentic sets may be others.
 use Prim.Native.Nat.{ℕ, _+_, _*_, _≤_, _<_}
 use mathlib.Core.Path.{_≡_}
+use mathlib.Core.Bool.{true}
 use mathlib.Core.List.{List}
 use lib.ListN.{length}
 use Rattle.laws.specs.Lists.{splice}
 use Rattle.rules.specs.Calls.{MackDone}
+use Rattle.rules.specs.Chain.{sentSlot, keySlot}
+use Rattle.rules.specs.Received.{keyCame}
 use Rattle.rules.specs.State.{State, Tesla, Auth, withTesla, withAuth}
 use Rattle.rules.specs.Tags.{entryAt}
 use Rattle.rules.specs.declared.Chain.{Chain}
+use Rattle.chain.specs.declared.Way.{Way}
 use Rattle.due_tag_keys.specs.Outcomes.{entrySlot}
 
 -- the held key and the waiting tags, as three regions
@@ -25,7 +29,13 @@ pub record Gives (m : MackDone) (code count : ℕ) (s : State) (area area′ : L
   pub state-is : s ≡ m .state
   pub area-is : area′ ≡ splice area 0 (m .records)
 
--- A long way, up from slot `first` to this slot, that of the last block's key, is not walked again for the first n waiting tags: the key of slot `at` was
--- kept on it, and no tag that falls due has its slot above that
-pub record WalkedOnce (c : Chain) (waiting : List ℕ) (n first last slot at : ℕ) : Type 0 where
-  pub kept : slot ≡ last → first + 256 < slot → (k : ℕ) → k < n → first < entrySlot c (entryAt waiting k) → entrySlot c (entryAt waiting k) ≤ slot → entrySlot c (entryAt waiting k) ≤ at
+-- Keys that were kept while a section's keys were proved, so that no way is walked twice: slot `first` was held before, and the highest key proved has
+-- this slot
+pub record WalkedOnce (c : Chain) (waiting : List ℕ) (n first time prn marks code slot : ℕ) (w : Way) : Type 0 where
+  -- after a long way, up to the last block's key, none of the first n waiting tags that fall due has its slot above a key that was kept on it
+  pub due : slot ≡ sentSlot c time (c .nmack) prn → first + 256 < slot → (k : ℕ) → k < n → first < entrySlot c (entryAt waiting k) → entrySlot c (entryAt waiting k) ≤ slot
+      → entrySlot c (entryAt waiting k) ≤ w .near
+  -- the key that block 1 sent is kept; so is the key of the last block's tags, unless the way up was long
+  pub own : code ≡ 0 → keyCame c marks 1 ≡ true → w .low ≡ sentSlot c time 1 prn
+  pub last : code ≡ 0 → keyCame c marks 1 ≡ true → sentSlot c time (c .nmack) prn ≤ first + 256 → sentSlot c time 1 prn ≤ keySlot c time (c .nmack) 0 → keySlot c time (c .nmack) 0 ≤ slot
+      → w .near ≡ keySlot c time (c .nmack) 0

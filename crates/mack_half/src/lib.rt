@@ -2,6 +2,7 @@
 // are proved and its tags judged: those that waited and are due, then its own.
 //   mack_half      the half, over the regions that it touches
 //   judge_tags     the waiting tags that are due, then the section's own
+use chain::Way;
 use mack_keys::Keys;
 use rules::Chain;
 ghost use mathlib.Core.Path.{_≡_};
@@ -11,13 +12,13 @@ ghost use Prim.Native.Nat.{_*_, _^_, _≤_, _<_};
 ghost use lib.ListN.{length, take};
 ghost use Rattle.rules.specs.Bits.{filled};
 ghost use Rattle.rules.specs.Calls.{sectionUnfit, mackHalf};
-ghost use Rattle.rules.specs.Chain.{held, sentSlot};
+ghost use Rattle.rules.specs.Chain.{held};
 ghost use Rattle.rules.specs.Kroot.{inForce};
 ghost use Rattle.rules.specs.Received.{fieldCame, keysReceived, fieldsJudged};
 ghost use Rattle.rules.specs.State.{State, configLength, chainLength, numbersLength, heldkeyLength, waitingLength, areaLength, setsLength, stampsLength, wordsLength, arrivalsLength};
 ghost use Rattle.rules.specs.Tags.{duesJudged};
 ghost use Rattle.authentic_sets.specs.Regions.{auth};
-ghost use Rattle.chain.specs.Sound.{Sound, Met};
+ghost use Rattle.chain.specs.Sound.{Sound, OnWay};
 ghost use Rattle.navdata.specs.Pieces.{nav};
 ghost use Rattle.tag_records.specs.Told.{start, Leaves};
 ghost use Rattle.tags.specs.Layout.{Laid, section};
@@ -46,9 +47,10 @@ fn hold(numbers: &mut [u64], heldkey: &mut [u8], slot: u64, kept: usize, key: [u
     buffer::copy_at(heldkey, 0, &key);
 }
 
-// Checks the keys of a section of 60 bytes, as far as they came, against the held key of this slot, in `key`, and keeps a key on the way in
-// `met`: one of the first n waiting tags' where the way is long. After a long way up to the last block's key, no tag that falls due has its slot above
-// the kept key's, so that the way is not walked again.
+// Checks the keys of a section of 60 bytes, as far as they came, against the held key of this slot, in `key`, and keeps keys on the way: block 1's
+// own, and one of the first n waiting tags' where the way up to the section's last key is long, else the one that the last block's tags use. After a
+// long way up no tag that falls due has its slot above the kept key's, so that the way is not walked again; after a short one, or none, the section's
+// own way is not.
 fn prove_keys(
     c: Chain,
     time: u32,
@@ -59,19 +61,19 @@ fn prove_keys(
     waiting: &[u8],
     n: usize,
     key: &mut [u8; 32],
-    met: &mut [u8; 32],
 ) -> Keys
     requires { ⌜ Sound c × ((length (now mack) ≡ 60) × ((slot < 2 ^ 34) × (length (now key) ≡ 32))) ⌝ }
     requires { ⌜ (length (now waiting) ≡ waitingLength) × (n ≤ 256) ⌝ }
     ensures { λ r. ⌜ Hands (keysReceived c time prn (now (mack .entry)) marks (held slot (take (c .width) (now (key .entry)))) (c .nmack)) (r .code)
         (r .slot) (now (key .entry)) (now (key .exit))
         × ((r .slot < 2 ^ 34)
-        × (Met c (held (r .slot) (take (c .width) (now (key .exit)))) (r .met) (now (met .exit))
-        × WalkedOnce c (now (waiting .entry)) n slot (sentSlot c time (c .nmack) prn) (r .slot) (r .met))) ⌝ }
+        × (OnWay c (held (r .slot) (take (c .width) (now (key .exit)))) (r .way)
+        × WalkedOnce c (now (waiting .entry)) n slot time prn marks (r .code) (r .slot) (r .way))) ⌝ }
 {
     let last = chain::sent_slot(c, time, c.nmack, prn);
-    let via = due_tag_keys::slot_to_keep(c, slot, last, waiting, n);
-    mack_keys::keys_proved(c, time, prn, mack, marks, slot, via, key, met)
+    let own = chain::key_slot(c, time, c.nmack as u8, 0);
+    let via = due_tag_keys::slot_to_keep(c, slot, last, own, waiting, n);
+    mack_keys::keys_proved(c, time, prn, mack, marks, slot, via, key)
 }
 
 // ---- tags
@@ -82,8 +84,9 @@ pub struct Judged {
     pub records: usize,
 }
 
-// The first n waiting tags that are due under the held key of this slot (`met` is the key of slot `near` on the way down from it), then the tags of a section of 60 bytes that satellite `prn` sent at
-// `time`. Records stand one after the other at the front of `area`, and the tags that wait at the front of `waiting`; other bytes stay.
+// The first n waiting tags that are due under the held key of this slot (`way` has keys on the way down from it), then the tags of a section of 60
+// bytes that satellite `prn` sent at `time`. Records stand one after the other at the front of `area`, and the tags that wait at the front of
+// `waiting`; other bytes stay.
 fn judge_tags(
     config: &[u8],
     words: &[u8],
@@ -91,8 +94,7 @@ fn judge_tags(
     c: Chain,
     slot: u64,
     key: [u8; 32],
-    near: u64,
-    met: [u8; 32],
+    way: Way,
     prn: u8,
     time: u32,
     status: u8,
@@ -108,7 +110,7 @@ fn judge_tags(
         × ((length (now stamps) ≡ stampsLength) × (length (now mack) ≡ 60)) ⌝ }
     requires { ⌜ ((length (now sets) ≡ setsLength) × (length (now arrivals) ≡ arrivalsLength))
         × ((length (now waiting) ≡ waitingLength) × (length (now area) ≡ areaLength)) ⌝ }
-    requires { ⌜ ((Sound c × Laid c) × ((slot < 2 ^ 34) × (n ≤ 256))) × Met c (held slot (take (c .width) key)) near met ⌝ }
+    requires { ⌜ ((Sound c × Laid c) × ((slot < 2 ^ 34) × (n ≤ 256))) × OnWay c (held slot (take (c .width) key)) way ⌝ }
     ensures { λ r. ⌜ Leaves
         (fieldsJudged (now (config .entry)) (nav (now (words .entry)) (now (stamps .entry))) c (held slot (take (c .width) key))
         (section prn time status (now (mack .entry))) marks (c .nmack * c .fields)
@@ -121,7 +123,19 @@ fn judge_tags(
         ≡ r .records * 12)
         × (r .records ≤ 270)) ⌝ }
 {
-    let stay = due_tags::judge_due(c, slot, key, near, met, waiting, n, sets, arrivals, area);
+    let met = way.met;
+    let stay = due_tags::judge_due(
+        c,
+        slot,
+        key,
+        way.near,
+        met,
+        waiting,
+        n,
+        sets,
+        arrivals,
+        area,
+    );
     let told = n - stay;
     let fields = (c.nmack * c.fields) as usize;
     let kept = section_tags::judge_own(
@@ -131,6 +145,7 @@ fn judge_tags(
         c,
         slot,
         key,
+        way,
         prn,
         time,
         status,
@@ -193,25 +208,14 @@ fn judge_section(
     let slot = regions::held_slot(numbers);
     let n = regions::waiting_count(numbers);
     let mut key = held_key(heldkey, c.width);
-    let mut met = [0u8; 32];
-    let p = prove_keys(
-        c,
-        time,
-        prn,
-        mack,
-        marks,
-        slot,
-        waiting,
-        n,
-        &mut key,
-        &mut met,
-    );
+    let p = prove_keys(c, time, prn, mack, marks, slot, waiting, n, &mut key);
     if p.code != 0 {
         return Mack {
             code: p.code,
             count: 0,
         };
     }
+    let way = p.way;
     let w = judge_tags(
         config,
         words,
@@ -219,8 +223,7 @@ fn judge_section(
         c,
         p.slot,
         key,
-        p.met,
-        met,
+        way,
         prn,
         time,
         gather::status_of(header),

@@ -1,16 +1,16 @@
 -- A block's check by its cases, and the blocks one after the other.
 -- Assumes nothing.
 use mathlib.Core.Path.{_≡_, refl, sym, ap, _∙_}
-use mathlib.Core.Bool.{Bool, true, false, not, _||_}
-use mathlib.Core.List.{List, _++_}
+use mathlib.Core.Bool.{Bool, true, false, cond, not, _||_}
 use mathlib.Core.Logic.{⊎-elim}
+use mathlib.Core.List.{List, _++_}
 use Prim.Native.Nat.{ℕ, zero, suc, _+_, _-_, _≤_, _<_}
 use native.Mathlib.Omega.{arith}
 use native.Mathlib.Numerals.{add-one}
 use lib.Dec.{ltb, eqb}
 use lib.ListN.{length, take, drop, replicate}
 use lib.Seq.{drop-at, length-take-le}
-use borrow.Author.Tests.{lt-ltb, le-ltb, ne-eqb}
+use borrow.Author.Tests.{lt-ltb, le-ltb, ne-eqb, eqb-true, eqb-false}
 use Rattle.laws.specs.Lists.{part, splice}
 use Rattle.laws.specs.Refusal.{firstOf, unless, neb}
 use Rattle.laws.proofs.Refusal.{by-test, unless-refused}
@@ -20,9 +20,9 @@ use Rattle.rules.specs.Mack as S
 use Rattle.rules.specs.Received.{keyCame, blockReceived, keysReceived}
 use Rattle.rules.specs.declared.Chain.{Chain}
 use Rattle.rules.proofs.Walks.{key-width}
-use Rattle.chain.specs.Sound.{Met}
-use Rattle.chain.proofs.Steps.{front-splice, splice-front, walked-key, fits-on-the-way}
-use Rattle.mack_keys.specs.Keys.{Hands, KeptOnTheWay}
+use Rattle.chain.proofs.Steps.{front-splice, splice-front}
+use Rattle.chain.specs.declared.Way.{Way}
+use Rattle.mack_keys.specs.Keys.{Hands, checked, Keeps, KeepsOwn}
 
 -- ---- one block
 
@@ -60,39 +60,80 @@ module _ (c : Chain) (g prn first high b slot : ℕ) (m key : List ℕ) (s : slo
         either true = refl
         either false = refl
 
-    module _ (sent : List ℕ) (k : sent ≡ splice (replicate 32 0) 0 (S.blockKey c m b)) (f : Bool) (q : f ≡ keyFits c h slot (take (c .width) sent)) where
-      fits : f ≡ keyFits c h (sentSlot c g b prn) (S.blockKey c m b)
-      fits = q ∙ rw (s, sent-key c m sent b k)
+    -- without spare bits it is judged by its key
+    module _ (sent : List ℕ) (k : sent ≡ splice (replicate 32 0) 0 (S.blockKey c m b)) (x : ℕ) (e : x ≡ S.spareBits c m b) (z : x ≡ 0) where
+      by-fit : (f : Bool) → keyFits c h (sentSlot c g b prn) (S.blockKey c m b) ≡ f → judged ≡ checked c h (sentSlot c g b prn) (S.blockKey c m b)
+      unfolding S.blockProved S.blockChecks checked
+      by-fit true t =
+          let v : S.spareBits c m b ≡ 0 = sym e ∙ z in
+          rw (near, t, v)
+      by-fit false t = rw (near, t)
 
-      pub refused-key : f ≡ false → Hands judged 12 high key key
-      unfolding S.blockProved S.blockChecks
-      refused-key n =
-          let t : keyFits c h (sentSlot c g b prn) (S.blockKey c m b) ≡ false = sym fits ∙ n in
-          record { code-is = rw (near, t); slot-is = rw (near, t); key-is = rw (near, t) (sym (splice-front key (c .width))) }
+      judged-is : judged ≡ checked c h slot (take (c .width) sent)
+      judged-is = by-fit (keyFits c h (sentSlot c g b prn) (S.blockKey c m b)) refl ∙ rw (s, sent-key c m sent b k)
 
-      module _ (n : f ≡ true) (x : ℕ) (e : x ≡ S.spareBits c m b) (z : x ≡ 0) where
-        held-one : ltb high slot ≡ false → Hands judged 0 high key key
-        unfolding S.blockProved S.blockChecks higher
-        held-one t =
-            let u : keyFits c h (sentSlot c g b prn) (S.blockKey c m b) ≡ true = sym fits ∙ n in
-            let v : S.spareBits c m b ≡ 0 = sym e ∙ z in
-            let w : ltb high (sentSlot c g b prn) ≡ false = rw s at t in
-            record { code-is = rw (near, u, v); slot-is = rw (near, u, v, w); key-is = rw (near, u, v, w) (sym (splice-front key (c .width))) }
+      pub by-key : (code high′ : ℕ) (out : List ℕ) → Hands (checked c h slot (take (c .width) sent)) code high′ key out → Hands judged code high′ key out
+      by-key code high′ out q = rw judged-is q
 
-        pub old-key : slot ≤ high → Hands judged 0 high key key
-        old-key o = held-one (le-ltb high slot o)
+-- the higher key has the width
+length-higher : (h : Held) (slot : ℕ) (k : List ℕ) (w : ℕ) → length (h .key) ≡ w → length k ≡ w → length ((higher h slot k) .key) ≡ w
+unfolding higher
+length-higher h slot k w p q = by-test (λ (x : Held). length (x .key) ≡ w) (ltb (h .slot) slot) (λ _. q) (λ _. p)
 
-        pub new-key : high < slot → (out : List ℕ) → out ≡ splice key 0 (part sent 0 (c .width)) → Hands judged 0 slot key out
-        unfolding S.blockProved S.blockChecks higher part
-        new-key o out r =
-            let u : keyFits c h (sentSlot c g b prn) (S.blockKey c m b) ≡ true = sym fits ∙ n in
-            let v : S.spareBits c m b ≡ 0 = sym e ∙ z in
-            let w : ltb high (sentSlot c g b prn) ≡ true = rw s at (lt-ltb high slot o) in
-            record {
-              code-is = rw (near, u, v);
-              slot-is = rw (near, u, v, w) s;
-              key-is = rw (near, u, v, w) (r ∙ ap (splice key 0) (sent-key c m sent b k));
-            }
+-- ---- one key
+
+module _ (c : Chain) (high slot : ℕ) (key sent : List ℕ) where
+  abbrev before : Held
+  before = held high (take (c .width) key)
+
+  abbrev result : S.Proved
+  result = checked c before slot (take (c .width) sent)
+
+  pub unfit : keyFits c before slot (take (c .width) sent) ≡ false → Hands result 12 high key key
+  unfolding checked
+  unfit e = record { code-is = rw e; slot-is = rw e; key-is = rw e (sym (splice-front key (c .width))) }
+
+  module _ (top : ℕ) (out : List ℕ) (slot-is : top ≡ (higher before slot (take (c .width) sent)) .slot) (key-is : out ≡ splice key 0 ((higher before slot (take (c .width) sent)) .key)) where
+    pub fit : keyFits c before slot (take (c .width) sent) ≡ true → (code : ℕ) → code ≡ 0 → (r : ℕ) → r ≡ top → Hands result code r key out
+    unfolding checked
+    fit e code p r q = record { code-is = rw e p; slot-is = rw e (q ∙ slot-is); key-is = rw e key-is }
+
+    -- it is now the held one
+    pub now-held : c .width ≤ 32 → length sent ≡ 32 → held top (take (c .width) out) ≡ higher before slot (take (c .width) sent)
+    unfolding higher
+    now-held w m = go (ltb high slot) refl
+      where
+        go : (b : Bool) → ltb high slot ≡ b → held top (take (c .width) out) ≡ cond b (held slot (take (c .width) sent)) before
+        go true e =
+            let s : top ≡ slot = rw e at slot-is in
+            let o : out ≡ splice key 0 (take (c .width) sent) = rw e at key-is in
+            let k : take (c .width) out ≡ take (c .width) sent = ap (take (c .width)) o ∙ front-splice key (take (c .width) sent) (c .width) (length-take-le (c .width) sent (omega arith)) in
+            rw (s, k)
+        go false e =
+            let s : top ≡ high = rw e at slot-is in
+            let o : out ≡ splice key 0 (take (c .width) key) = rw e at key-is in
+            let k : out ≡ key = o ∙ splice-front key (c .width) in
+            rw (s, k)
+
+-- the higher slot
+pub higher-slot : (h : Held) (slot top : ℕ) (k : List ℕ) → top ≡ (higher h slot k) .slot → (h .slot < slot → top ≡ slot) × (slot ≤ h .slot → top ≡ h .slot)
+unfolding higher
+higher-slot h slot top k e = (λ l. e ∙ rw (lt-ltb (h .slot) slot l), λ l. e ∙ rw (le-ltb (h .slot) slot l))
+
+-- which key was held before, where it is the higher one or not
+pub hold-old : (c : Chain) (high slot : ℕ) (key sent : List ℕ) → slot ≤ high
+    → (high ≡ (higher (held high (take (c .width) key)) slot (take (c .width) sent)) .slot) × (key ≡ splice key 0 ((higher (held high (take (c .width) key)) slot (take (c .width) sent)) .key))
+unfolding higher
+hold-old c high slot key sent l =
+    let t = le-ltb high slot l in
+    (rw t, rw t (sym (splice-front key (c .width))))
+
+pub hold-new : (c : Chain) (high slot : ℕ) (key sent out : List ℕ) → high < slot → out ≡ splice key 0 (part sent 0 (c .width))
+    → (slot ≡ (higher (held high (take (c .width) key)) slot (take (c .width) sent)) .slot) × (out ≡ splice key 0 ((higher (held high (take (c .width) key)) slot (take (c .width) sent)) .key))
+unfolding higher part
+hold-new c high slot key sent out l e =
+    let t = lt-ltb high slot l in
+    (rw t, rw t e)
 
 -- ---- a block by its key: it came, or it is lost
 
@@ -118,39 +159,56 @@ module _ (c : Chain) (g prn first marks slot b : ℕ) (m key : List ℕ) where
         let v : S.spareBits c m b ≡ 0 = sym e ∙ z in
         record { code-is = rw (lost, v); slot-is = rw lost; key-is = rw lost (sym (splice-front key (c .width))) }
 
+-- a key does not both come and get lost
+pub came-lost : (b : Bool) → b ≡ true → b ≡ false → ⊥
+came-lost b p q =
+    let z : _≡_ {A = ℕ} 0 1 = cc in
+    omega (arith, z)
+
 -- ---- the key that is kept on the way
 
-module _ (c : Chain) (high slot stop : ℕ) (known sent here : List ℕ) (w : c .width ≤ 32) (n : length sent ≡ 32)
-    (walked : here ≡ splice sent 0 (keyOfSlot c (held slot (take (c .width) sent)) stop)) (l : stop ≤ slot) where
-  -- the sent key fits where the key of the stop does
-  pub fits-by-stop : (f : Bool) → (high < slot → high ≤ stop) → (slot ≤ high → stop ≡ slot) → f ≡ keyFits c (held high (take (c .width) known)) stop (take (c .width) here)
-      → f ≡ keyFits c (held high (take (c .width) known)) slot (take (c .width) sent)
-  fits-by-stop f p q e =
-      e
-      ∙ ap (keyFits c (held high (take (c .width) known)) stop) (walked-key c slot stop sent here w n walked)
-      ∙ fits-on-the-way c (held high (take (c .width) known)) slot stop (take (c .width) sent) l p q
+-- the key of slot `via` stays kept, or is kept where the way between slot `high` and slot `slot` passes it
+module _ (via high slot top stop old near : ℕ) (up : high < slot → top ≡ slot) (down : slot ≤ high → top ≡ high)
+    (passes-up : high ≤ via → via ≤ slot → stop ≡ via) (passes-down : slot ≤ via → via ≤ high → stop ≡ via)
+    (new : stop ≡ via → near ≡ via) (same : (stop ≡ via → ⊥) → near ≡ old) where
+  passes : high ≤ via → via ≤ top → stop ≡ via
+  passes l m =
+      ⊎-elim
+      (λ (a : high < slot). passes-up l (omega (arith, up a)))
+      (λ a.
+      let e = down a in
+      passes-down (omega arith) (omega arith))
+      (below? high slot)
 
-  -- from the sent key, now the highest, both the key of the stop and the key that was kept before are met
-  pub met-at-stop : Met c (held slot (take (c .width) sent)) stop here
-  met-at-stop = record { not-above = l; key-is = walked-key c slot stop sent here w n walked }
+  pub keeps-on : (low : ℕ) → (low ≤ via → via ≤ high → old ≡ via) → low ≤ via → via ≤ top → near ≡ via
+  keeps-on low k a b = pick (eqb stop via) refl
+    where
+      pick : (t : Bool) → eqb stop via ≡ t → near ≡ via
+      pick true e = new (eqb-true stop via e)
+      pick false e =
+          let n = eqb-false stop via e in
+          same n ∙ ⊎-elim (λ (l : high < via). absurd (n (passes (omega arith) b))) (λ l. k a l) (below? high via)
 
--- a higher key: the way to it passes `via` itself, or what is kept from the ways before it stays
-pub kept-higher : (first via high slot stop old at : ℕ) → high < slot → high ≤ stop → (high ≤ via → via ≤ slot → stop ≡ via) → (stop ≡ via → at ≡ via) → ((stop ≡ via → ⊥) → at ≡ old) → KeptOnTheWay first via high old → KeptOnTheWay first via slot at
-kept-higher first via high slot stop old at up low here there else k =
-    let not-below : first ≤ slot = omega (arith, k .not-below) in
-    record {
-      not-below = not-below;
-      passed = λ a b d.
-          ⊎-elim
-          (λ q. else (λ z. absurd (omega arith)) ∙ k .passed (omega arith) b (omega arith))
-          (λ q. there (here q d))
-          (below? via high);
-    }
+  -- and from the sent key's own slot on
+  pub keeps-own : slot ≤ via → via ≤ top → near ≡ via
+  keeps-own a b =
+      new
+      (⊎-elim
+      (λ (l : high < slot). passes-up (omega arith) (omega (arith, up l)))
+      (λ l.
+      let e = down l in
+      passes-down a (omega arith))
+      (below? high slot))
 
--- the sent key's bytes are now the held key's
-pub now-held : (c : Chain) (sent key out : List ℕ) → c .width ≤ 32 → length sent ≡ 32 → out ≡ splice key 0 (part sent 0 (c .width)) → take (c .width) out ≡ take (c .width) sent
-unfolding part
-now-held c sent key out w n e = ap (take (c .width)) e ∙ front-splice key (take (c .width) sent) (c .width) (length-take-le (c .width) sent (omega arith))
+-- block 1's own key stays kept
+pub own-on : (c : Chain) (g prn marks b via high high′ : ℕ) (w w′ : Way) → (1 ≤ b → KeepsOwn (sentSlot c g 1 prn) via high w)
+    → ((low : ℕ) → Keeps low via high w → Keeps low via high′ w′)
+    → (b + 1 ≡ 1 → keyCame c marks (b + 1) ≡ true → KeepsOwn (sentSlot c g (b + 1) prn) via high′ w′) → ((b + 1 ≡ 1 → ⊥) → w′ .low ≡ w .low)
+    → keyCame c marks 1 ≡ true → KeepsOwn (sentSlot c g 1 prn) via high′ w′
+own-on c g prn marks zero via high high′ w w′ old on new same came = new refl came
+own-on c g prn marks (suc b) via high high′ w w′ old on new same came =
+    let o = old (omega arith) in
+    record { own-is = same (λ e. absurd (omega (arith, e))) ∙ o .own-is; passed = on (sentSlot c g 1 prn) (o .passed) }
 
 -- ---- the blocks in order
 
@@ -166,10 +224,6 @@ chosen (suc n) w x y p q = q
 chosen-proved : (n : ℕ) (w : ℕ) (x y : S.Proved) → length (x .held .key) ≡ w → length (y .held .key) ≡ w → length ((unless n x y) .held .key) ≡ w
 chosen-proved zero w x y p q = p
 chosen-proved (suc n) w x y p q = q
-
-length-higher : (h : Held) (slot : ℕ) (k : List ℕ) (w : ℕ) → length (h .key) ≡ w → length k ≡ w → length ((higher h slot k) .key) ≡ w
-unfolding higher
-length-higher h slot k w p q = by-test (λ (x : Held). length (x .key) ≡ w) (ltb (h .slot) slot) (λ _. q) (λ _. p)
 
 -- every key proved has the width
 pub length-block : (c : Chain) (g prn first : ℕ) (m : List ℕ) (h : Held) (b : ℕ) → length (h .key) ≡ c .width → length ((S.blockProved c g prn first m h b) .held .key) ≡ c .width

@@ -58,8 +58,18 @@ pub fn answer(
     input: &[u8],
 ) -> Answers
     ensures { λ r. ⌜
-        gave (r .first) (r .second) (r .count) (session (state (now (config .exit)) (now (clocks .exit)) (now (words .exit)) (now (stamps .exit)) (now (blocks .exit)) (now (headers .exit)) (now (present .exit)) (now (since .exit)) (now (pubkeys .exit)) (now (offer .exit)) (now (chain .exit)) (now (numbers .exit)) (now (heldkey .exit)) (now (waiting .exit)) (now (sets .exit)) (now (arrivals .exit))) (now (area .exit)) (now (started .exit)))
-        ≡ answered (session (state (now (config .entry)) (now (clocks .entry)) (now (words .entry)) (now (stamps .entry)) (now (blocks .entry)) (now (headers .entry)) (now (present .entry)) (now (since .entry)) (now (pubkeys .entry)) (now (offer .entry)) (now (chain .entry)) (now (numbers .entry)) (now (heldkey .entry)) (now (waiting .entry)) (now (sets .entry)) (now (arrivals .entry))) (now (area .entry)) (now (started .entry)))
+        gave (r .first) (r .second) (r .count) (session
+        (state (now (config .exit)) (now (clocks .exit)) (now (words .exit)) (now (stamps .exit))
+        (now (blocks .exit)) (now (headers .exit)) (now (present .exit)) (now (since .exit))
+        (now (pubkeys .exit)) (now (offer .exit)) (now (chain .exit)) (now (numbers .exit))
+        (now (heldkey .exit)) (now (waiting .exit)) (now (sets .exit)) (now (arrivals .exit)))
+        (now (area .exit)) (now (started .exit)))
+        ≡ answered (session
+        (state (now (config .entry)) (now (clocks .entry)) (now (words .entry)) (now (stamps .entry))
+        (now (blocks .entry)) (now (headers .entry)) (now (present .entry)) (now (since .entry))
+        (now (pubkeys .entry)) (now (offer .entry)) (now (chain .entry)) (now (numbers .entry))
+        (now (heldkey .entry)) (now (waiting .entry)) (now (sets .entry)) (now (arrivals .entry)))
+        (now (area .entry)) (now (started .entry)))
         (now (input .entry)) ⌝ }
 {
     if input.len() != 256 {
@@ -164,8 +174,18 @@ fn start(
 ) -> u32
     requires { ⌜ length (now input) ≡ recordLength ⌝ }
     ensures { λ r. ⌜ ((area : List ℕ) →
-        gave r 0 0 (session (state (now (config .exit)) (now (clocks .exit)) (now (words .exit)) (now (stamps .exit)) (now (blocks .exit)) (now (headers .exit)) (now (present .exit)) (now (since .exit)) (now (pubkeys .exit)) (now (offer .exit)) (now (chain .exit)) (now (numbers .exit)) (now (heldkey .exit)) (now (waiting .exit)) (now (sets .exit)) (now (arrivals .exit))) area (now (started .exit)))
-        ≡ startAnswered (session (state (now (config .entry)) (now (clocks .entry)) (now (words .entry)) (now (stamps .entry)) (now (blocks .entry)) (now (headers .entry)) (now (present .entry)) (now (since .entry)) (now (pubkeys .entry)) (now (offer .entry)) (now (chain .entry)) (now (numbers .entry)) (now (heldkey .entry)) (now (waiting .entry)) (now (sets .entry)) (now (arrivals .entry))) area (now (started .entry)))
+        gave r 0 0 (session
+        (state (now (config .exit)) (now (clocks .exit)) (now (words .exit)) (now (stamps .exit))
+        (now (blocks .exit)) (now (headers .exit)) (now (present .exit)) (now (since .exit))
+        (now (pubkeys .exit)) (now (offer .exit)) (now (chain .exit)) (now (numbers .exit))
+        (now (heldkey .exit)) (now (waiting .exit)) (now (sets .exit)) (now (arrivals .exit))) area
+        (now (started .exit)))
+        ≡ startAnswered (session
+        (state (now (config .entry)) (now (clocks .entry)) (now (words .entry)) (now (stamps .entry))
+        (now (blocks .entry)) (now (headers .entry)) (now (present .entry)) (now (since .entry))
+        (now (pubkeys .entry)) (now (offer .entry)) (now (chain .entry)) (now (numbers .entry))
+        (now (heldkey .entry)) (now (waiting .entry)) (now (sets .entry)) (now (arrivals .entry))) area
+        (now (started .entry)))
         (now (input .entry))) ⌝ }
 {
     let fits = regions::shaped(
@@ -293,8 +313,18 @@ fn subframe(
 ) -> Answers
     requires { ⌜ length (now input) ≡ recordLength ⌝ }
     ensures { λ r. ⌜
-        gave (r .first) (r .second) (r .count) (session (state (now (config .exit)) (now (clocks .exit)) (now (words .entry)) (now (stamps .entry)) (now (blocks .exit)) (now (headers .exit)) (now (present .exit)) (now (since .exit)) (now (pubkeys .exit)) (now (offer .exit)) (now (chain .entry)) (now (numbers .exit)) (now (heldkey .exit)) (now (waiting .exit)) (now (sets .exit)) (now (arrivals .exit))) (now (area .exit)) started)
-        ≡ subframeAnswered (session (state (now (config .entry)) (now (clocks .entry)) (now (words .entry)) (now (stamps .entry)) (now (blocks .entry)) (now (headers .entry)) (now (present .entry)) (now (since .entry)) (now (pubkeys .entry)) (now (offer .entry)) (now (chain .entry)) (now (numbers .entry)) (now (heldkey .entry)) (now (waiting .entry)) (now (sets .entry)) (now (arrivals .entry))) (now (area .entry)) started)
+        gave (r .first) (r .second) (r .count) (session
+        (state (now (config .exit)) (now (clocks .exit)) (now (words .entry)) (now (stamps .entry))
+        (now (blocks .exit)) (now (headers .exit)) (now (present .exit)) (now (since .exit))
+        (now (pubkeys .exit)) (now (offer .exit)) (now (chain .entry)) (now (numbers .exit))
+        (now (heldkey .exit)) (now (waiting .exit)) (now (sets .exit)) (now (arrivals .exit)))
+        (now (area .exit)) started)
+        ≡ subframeAnswered (session
+        (state (now (config .entry)) (now (clocks .entry)) (now (words .entry)) (now (stamps .entry))
+        (now (blocks .entry)) (now (headers .entry)) (now (present .entry)) (now (since .entry))
+        (now (pubkeys .entry)) (now (offer .entry)) (now (chain .entry)) (now (numbers .entry))
+        (now (heldkey .entry)) (now (waiting .entry)) (now (sets .entry)) (now (arrivals .entry)))
+        (now (area .entry)) started)
         (now (input .entry)) ⌝ }
 {
     if started == 0 {
@@ -350,8 +380,12 @@ fn verdict(
 ) -> u32
     requires { ⌜ length (now input) ≡ recordLength ⌝ }
     ensures { λ r. ⌜ ((s : State) (area : List ℕ) →
-        gave r 0 0 (session (verdictLent s (now (config .entry)) (now (pubkeys .exit)) (now (offer .exit)) (now (chain .exit)) (now (numbers .exit)) (now (heldkey .exit)) (now (waiting .exit))) area started)
-        ≡ verdictAnswered (session (verdictLent s (now (config .entry)) (now (pubkeys .entry)) (now (offer .entry)) (now (chain .entry)) (now (numbers .entry)) (now (heldkey .entry)) (now (waiting .entry))) area started)
+        gave r 0 0 (session
+        (verdictLent s (now (config .entry)) (now (pubkeys .exit)) (now (offer .exit)) (now (chain .exit))
+        (now (numbers .exit)) (now (heldkey .exit)) (now (waiting .exit))) area started)
+        ≡ verdictAnswered (session
+        (verdictLent s (now (config .entry)) (now (pubkeys .entry)) (now (offer .entry)) (now (chain .entry))
+        (now (numbers .entry)) (now (heldkey .entry)) (now (waiting .entry))) area started)
         (now (input .entry))) ⌝ }
 {
     if started == 0 {

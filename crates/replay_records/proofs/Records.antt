@@ -24,7 +24,7 @@ use Rattle.rules.specs.Kroot.{inForce, chainContents}
 use Rattle.rules.specs.Mack.{Proved}
 use Rattle.rules.specs.Received.{fieldCame, fieldLost, lostTag, fieldJudged, fieldsJudged}
 use Rattle.rules.specs.Replay.{Session, Answered, startAnswered, wordAnswered, subframeAnswered, verdictAnswered, answered, kindOf, recordLength, subframeOf}
-use Rattle.rules.specs.State.{State, shaped, nsOf, waitingCount}
+use Rattle.rules.specs.State.{State, shaped, nsOf, waitingCount, areaLength}
 use Rattle.rules.specs.Navdata.{setOf}
 use Rattle.rules.specs.Tags.{Section, Work, told, kept, tagEntry, entryAt, entryTag, entrySet, isDue, tagMatches, dueJudged, duesJudged, ownTag, ownOutcome, ownJudged}
 use Rattle.rules.specs.declared.Chain.{Chain}
@@ -82,7 +82,7 @@ fields-few s f =
     let r = ns-range (s .config) in
     chain-laid (nsOf (s .config)) (s .config) (chainContents (s .chain)) (r .0) (r .1) (not-true _ (and-right (eqb (getD (s .chain) 0 0) 1) _ f)) .few
 
-worked-few : (s : State) (h : Held) (x : Section) (marks : ℕ) → inForce (s .config) (s .chain) ≡ true → length ((tagsWorked s h x marks) .records) ≤ 3240
+worked-few : (s : State) (h : Held) (x : Section) (marks : ℕ) → inForce (s .config) (s .chain) ≡ true → length ((tagsWorked s h x marks) .records) ≤ areaLength
 unfolding tagsWorked
 worked-few s h x marks f =
     let c = chainOf s in
@@ -109,11 +109,11 @@ proved-forced : (s : State) (prn t marks header : ℕ) (mack : List ℕ) → (se
 proved-forced s prn t marks header mack e =
     ⊎-elim (λ u. absurd (unfit-refused s prn t marks header mack u e)) (λ u. fit-forced s t header u) (either (sectionUnfit s t header))
 
-mack-few : (s : State) (prn t marks header : ℕ) (mack : List ℕ) → length ((mackHalf s prn t marks header mack) .records) ≤ 3240
+mack-few : (s : State) (prn t marks header : ℕ) (mack : List ℕ) → length ((mackHalf s prn t marks header mack) .records) ≤ areaLength
 unfolding mackHalf
 mack-few s prn t marks header mack =
     let p = sectionProved s prn t marks header mack in
-    by-number (λ (m : MackDone). length (m .records) ≤ 3240) (p .code)
+    by-number (λ (m : MackDone). length (m .records) ≤ areaLength) (p .code)
     (λ e. worked-few s (p .held) (record { prn = prn; time = t; status = statusOf header; mack = mack }) marks (proved-forced s prn t marks header mack e))
     (λ _. omega arith)
 
@@ -124,7 +124,7 @@ Few area n = (n ≤ 270) × (n * 12 ≤ length area)
 no-records : (area : List ℕ) → Few area 0
 no-records area = (omega arith, omega arith)
 
-halves-few : (s : State) (area : List ℕ) (x : Subframe) → length area ≡ 3240 → Few area ((halvesDone s area x) .count)
+halves-few : (s : State) (area : List ℕ) (x : Subframe) → length area ≡ areaLength → Few area ((halvesDone s area x) .count)
 unfolding halvesDone
 halves-few s area x e =
     let hk = hkrootOf (fieldsOf x) 15 in
@@ -132,11 +132,11 @@ halves-few s area x e =
     let f = mack-few (a .state) (x .prn) (x .time) (x .marks) (headerOf hk) (mackOf (fieldsOf x) 15) in
     by-test (λ (d : SubframeTold). Few area (d .count)) (a .stops) (λ _. no-records area) (λ _. (omega arith, omega arith))
 
-area-lent : (s : State) (area : List ℕ) (x : Subframe) → firstOf (subframeChecks s area x) ≡ 0 → length area ≡ 3240
+area-lent : (s : State) (area : List ℕ) (x : Subframe) → firstOf (subframeChecks s area x) ≡ 0 → length area ≡ areaLength
 unfolding subframeChecks
 area-lent s area x e =
     let k = clear (subframeChecks s area x) tt e in
-    eqb-true (length area) 3240 (and-left _ (eqb (length (x .bytes)) 75) (and-right (shaped s) _ (not-false _ (k .0))))
+    eqb-true (length area) areaLength (and-left _ (eqb (length (x .bytes)) 75) (and-right (shaped s) _ (not-false _ (k .0))))
 
 subframe-few : (s : State) (area : List ℕ) (x : Subframe) → Few area ((subframeCall s area x) .count)
 unfolding subframeCall
@@ -162,5 +162,5 @@ pub given-few : (s next : Session) (first second count : ℕ) (input : List ℕ)
 given-few s next first second count input e = subst (λ (a : Answered). Few (s .area) (a .count)) (sym e) (records-few s input)
 
 -- room for the lines, and the records themselves
-pub room-for : (count lo la : ℕ) → room ≤ lo → count ≤ 270 → la ≡ 3240 → (84 + count * 25 ≤ lo) × (count * 12 ≤ la)
+pub room-for : (count lo la : ℕ) → room ≤ lo → count ≤ 270 → la ≡ areaLength → (84 + count * 25 ≤ lo) × (count * 12 ≤ la)
 room-for count lo la h f e = (omega arith, omega arith)

@@ -62,8 +62,18 @@ pub fn replay_piece(
     requires { ⌜ recordCount (now input) * room ≤ length (now out) ⌝ }
     requires { ⌜ now place + recordCount (now input) ≤ lastPlace ⌝ }
     ensures { λ r. ⌜
-        wrote r (now (out .exit)) (replay (session (state (now (config .exit)) (now (clocks .exit)) (now (words .exit)) (now (stamps .exit)) (now (blocks .exit)) (now (headers .exit)) (now (present .exit)) (now (since .exit)) (now (pubkeys .exit)) (now (offer .exit)) (now (chain .exit)) (now (numbers .exit)) (now (heldkey .exit)) (now (waiting .exit)) (now (sets .exit)) (now (arrivals .exit))) (now (area .exit)) (now (started .exit))) (now (place .exit)))
-        ≡ written (now (out .entry)) (replayedUpTo (replay (session (state (now (config .entry)) (now (clocks .entry)) (now (words .entry)) (now (stamps .entry)) (now (blocks .entry)) (now (headers .entry)) (now (present .entry)) (now (since .entry)) (now (pubkeys .entry)) (now (offer .entry)) (now (chain .entry)) (now (numbers .entry)) (now (heldkey .entry)) (now (waiting .entry)) (now (sets .entry)) (now (arrivals .entry))) (now (area .entry)) (now (started .entry))) (now (place .entry)))
+        wrote r (now (out .exit)) (replay (session
+        (state (now (config .exit)) (now (clocks .exit)) (now (words .exit)) (now (stamps .exit))
+        (now (blocks .exit)) (now (headers .exit)) (now (present .exit)) (now (since .exit))
+        (now (pubkeys .exit)) (now (offer .exit)) (now (chain .exit)) (now (numbers .exit))
+        (now (heldkey .exit)) (now (waiting .exit)) (now (sets .exit)) (now (arrivals .exit)))
+        (now (area .exit)) (now (started .exit))) (now (place .exit)))
+        ≡ written (now (out .entry)) (replayedUpTo (replay (session
+        (state (now (config .entry)) (now (clocks .entry)) (now (words .entry)) (now (stamps .entry))
+        (now (blocks .entry)) (now (headers .entry)) (now (present .entry)) (now (since .entry))
+        (now (pubkeys .entry)) (now (offer .entry)) (now (chain .entry)) (now (numbers .entry))
+        (now (heldkey .entry)) (now (waiting .entry)) (now (sets .entry)) (now (arrivals .entry)))
+        (now (area .entry)) (now (started .entry))) (now (place .entry)))
         (now (input .entry)) (recordCount (now (input .entry)))) ⌝ }
     ensures { λ r. ⌜ r ≤ length (now (out .exit)) ⌝ }
 {
@@ -137,8 +147,18 @@ fn replay_record(
 ) -> usize
     requires { ⌜ (room ≤ length (now out)) × (now place < lastPlace) ⌝ }
     ensures { λ r. ⌜
-        wrote r (now (out .exit)) (replay (session (state (now (config .exit)) (now (clocks .exit)) (now (words .exit)) (now (stamps .exit)) (now (blocks .exit)) (now (headers .exit)) (now (present .exit)) (now (since .exit)) (now (pubkeys .exit)) (now (offer .exit)) (now (chain .exit)) (now (numbers .exit)) (now (heldkey .exit)) (now (waiting .exit)) (now (sets .exit)) (now (arrivals .exit))) (now (area .exit)) (now (started .exit))) (now (place .exit)))
-        ≡ written (now (out .entry)) (replayed (replay (session (state (now (config .entry)) (now (clocks .entry)) (now (words .entry)) (now (stamps .entry)) (now (blocks .entry)) (now (headers .entry)) (now (present .entry)) (now (since .entry)) (now (pubkeys .entry)) (now (offer .entry)) (now (chain .entry)) (now (numbers .entry)) (now (heldkey .entry)) (now (waiting .entry)) (now (sets .entry)) (now (arrivals .entry))) (now (area .entry)) (now (started .entry))) (now (place .entry)))
+        wrote r (now (out .exit)) (replay (session
+        (state (now (config .exit)) (now (clocks .exit)) (now (words .exit)) (now (stamps .exit))
+        (now (blocks .exit)) (now (headers .exit)) (now (present .exit)) (now (since .exit))
+        (now (pubkeys .exit)) (now (offer .exit)) (now (chain .exit)) (now (numbers .exit))
+        (now (heldkey .exit)) (now (waiting .exit)) (now (sets .exit)) (now (arrivals .exit)))
+        (now (area .exit)) (now (started .exit))) (now (place .exit)))
+        ≡ written (now (out .entry)) (replayed (replay (session
+        (state (now (config .entry)) (now (clocks .entry)) (now (words .entry)) (now (stamps .entry))
+        (now (blocks .entry)) (now (headers .entry)) (now (present .entry)) (now (since .entry))
+        (now (pubkeys .entry)) (now (offer .entry)) (now (chain .entry)) (now (numbers .entry))
+        (now (heldkey .entry)) (now (waiting .entry)) (now (sets .entry)) (now (arrivals .entry)))
+        (now (area .entry)) (now (started .entry))) (now (place .entry)))
         (now (input .entry))) ⌝ }
     ensures { λ r. ⌜ r ≤ room ⌝ }
 {

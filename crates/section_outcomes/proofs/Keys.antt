@@ -7,34 +7,15 @@ use Prim.Native.Nat.{ℕ, zero, suc, _+_, _-_, _*_, _/_, _%_, _≤_, _<_}
 use native.Mathlib.Omega.{arith}
 use native.Mathlib.Nat.{div-add-mod, mod-lt, div-le-self, le-trans, mul-add-div, div-eq-of-lt, zero-div}
 use lib.Dec.{eqb}
-use lib.ListN.{length, take}
-use lib.Seq.{length-take-le}
 use borrow.Author.Tests.{eq-eqb}
-use Rattle.laws.specs.Lists.{splice}
-use Rattle.laws.proofs.Splice.{length-splice}
 use Rattle.mac.specs.Kept.{keptOf}
-use Rattle.rules.specs.Chain.{Held, held, keyOfSlot, keySlot}
+use Rattle.rules.specs.Chain.{Held, keyOfSlot, keySlot}
 use Rattle.rules.specs.Mack.{macseqOf}
 use Rattle.rules.specs.Tags.{Section, tagKey, tagMatches, macBits, firstMessage, tagMessage, ownTag, macseqMessage, macseqFits}
 use Rattle.rules.specs.Times.{delayOf, keySeconds, tagSlot}
 use Rattle.rules.specs.declared.Chain.{Chain}
 use Rattle.rules.specs.declared.Tag.{Tag}
-use Rattle.chain.proofs.Steps.{length-walk, front-splice}
 use Rattle.section_outcomes.specs.Outcomes.{blockKey}
-
--- ---- the key of a slot
-
-module _ (c : Chain) (at m : ℕ) (key out : List ℕ) (w : c .width ≤ 32) (n : length key ≡ 32)
-    (o : out ≡ splice key 0 (keyOfSlot c (held at (take (c .width) key)) m)) where
-  key-wide : length (keyOfSlot c (held at (take (c .width) key)) m) ≡ c .width
-  unfolding keyOfSlot
-  key-wide = length-walk c (at - m) m (take (c .width) key) w (length-take-le (c .width) key (omega arith))
-
-  pub key-front : take (c .width) out ≡ keyOfSlot c (held at (take (c .width) key)) m
-  key-front = ap (take (c .width)) o ∙ front-splice key (keyOfSlot c (held at (take (c .width) key)) m) (c .width) key-wide
-
-  pub key-long : length out ≡ 32
-  key-long = ap length o ∙ length-splice key 0 (keyOfSlot c (held at (take (c .width) key)) m) (omega (arith, key-wide)) ∙ n
 
 -- ---- blocks
 

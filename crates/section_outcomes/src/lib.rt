@@ -1,7 +1,9 @@
 // Outcomes of a section's own tags (01, "Tag outcomes"), and the key that they are judged by.
-//   slot_key, block_key, next_key    what is kept of a slot's key, of a block's; all tags without delay of a block use one key, made once
-//   heard                            the satellite whose words count
-//   outcome_of                       the outcome of a field that came
+//   block_key, next_key   what is kept of the key of a block: all tags without delay of a block use one key, made once, from the nearest key that was
+//                         met while the section's keys were proved
+//   heard                 the satellite whose words count
+//   outcome_of            the outcome of a field that came
+use chain::Way;
 use rules::Chain;
 use rules::Tag;
 ghost use mathlib.Core.Path.{_≡_};
@@ -15,36 +17,59 @@ ghost use Rattle.rules.specs.State.{prnValid, configLength, stampsLength, words
 ghost use Rattle.rules.specs.Tags.{notAllowed, flexible, tagMatches};
 ghost use Rattle.rules.specs.Times.{delayOf};
 ghost use Rattle.rules.specs.Navdata.{usable};
-ghost use Rattle.chain.specs.Sound.{Walks};
+ghost use Rattle.chain.specs.Sound.{Walks, OnWay};
 ghost use Rattle.navdata.specs.Pieces.{nav};
 ghost use Rattle.section_outcomes.specs.Outcomes.{blockKey, outcomeBy};
 
 // ---- keys
 
-// What is kept of the key of slot m, from the held key.
-pub fn slot_key(c: Chain, slot: u64, known: [u8; 32], m: u64, kept: &mut [u8; 273])
-    requires { ⌜ Walks c × (slot < 2 ^ 34) ⌝ }
+// What is kept of the key of slot m, from the held key, by way of the keys that were met below it.
+fn slot_key(c: Chain, slot: u64, known: [u8; 32], way: Way, m: u64, kept: &mut [u8; 273])
+    requires { ⌜ (Walks c × (slot < 2 ^ 34)) × OnWay c (held slot (take (c .width) known)) way ⌝ }
     ensures { λ _. ⌜ now (kept .exit) ≡ keptOf (c .mf) (keyOfSlot c (held slot (take (c .width) known)) m) ⌝ }
 {
     let mut key = known;
-    chain::key_of_slot(c, slot, m, &mut key);
+    chain::key_on_way(c, slot, way, m, &mut key);
     let width = c.width;
     mac::keep(c.mf, &key[0..width], kept);
 }
 
 // The same for the tags without delay of field j's block.
-pub fn block_key(c: Chain, slot: u64, known: [u8; 32], time: u32, j: usize, kept: &mut [u8; 273])
-    requires { ⌜ Walks c × ((slot < 2 ^ 34) × ((1 ≤ c .fields) × (j < 14))) ⌝ }
+pub fn block_key(
+    c: Chain,
+    slot: u64,
+    known: [u8; 32],
+    way: Way,
+    time: u32,
+    j: usize,
+    kept: &mut [u8; 273],
+)
+    requires { ⌜ (Walks c × ((slot < 2 ^ 34) × ((1 ≤ c .fields) × (j < 14)))) × OnWay c (held slot (take (c .width) known)) way ⌝ }
     ensures { λ _. ⌜ now (kept .exit) ≡ blockKey c (held slot (take (c .width) known)) time (j / c .fields) ⌝ }
 {
     let fields = c.fields as usize;
     let block = (j / fields + 1) as u8;
-    slot_key(c, slot, known, chain::key_slot(c, time, block, 0), kept);
+    slot_key(
+        c,
+        slot,
+        known,
+        way,
+        chain::key_slot(c, time, block, 0),
+        kept,
+    );
 }
 
 // The key of field j's block, in place of that of the field before it: a new one is made where a block begins.
-pub fn next_key(c: Chain, slot: u64, known: [u8; 32], time: u32, j: usize, kept: &mut [u8; 273])
-    requires { ⌜ Walks c × ((slot < 2 ^ 34) × ((1 ≤ c .fields) × (j < 14))) ⌝ }
+pub fn next_key(
+    c: Chain,
+    slot: u64,
+    known: [u8; 32],
+    way: Way,
+    time: u32,
+    j: usize,
+    kept: &mut [u8; 273],
+)
+    requires { ⌜ (Walks c × ((slot < 2 ^ 34) × ((1 ≤ c .fields) × (j < 14)))) × OnWay c (held slot (take (c .width) known)) way ⌝ }
     requires { ⌜ now kept ≡ blockKey c (held slot (take (c .width) known)) time ((j - 1) / c .fields) ⌝ }
     ensures { λ _. ⌜ now (kept .exit) ≡ blockKey c (held slot (take (c .width) known)) time (j / c .fields) ⌝ }
 {
@@ -55,7 +80,7 @@ pub fn next_key(c: Chain, slot: u64, known: [u8; 32], time: u32, j: usize, kept:
     if j % fields != 0 {
         return;
     }
-    block_key(c, slot, known, time, j, kept);
+    block_key(c, slot, known, way, time, j, kept);
 }
 
 // ---- outcomes

@@ -15,7 +15,7 @@ unfoldable pub settled : ℕ → Tag → List ℕ → Work → Work
 settled outcome t navdata w =
     cond (eqb outcome 5) (kept (tagEntry t navdata) (told outcome t navdata w)) (told outcome t navdata w)
 
--- after n fields, r tags wait where `count` did, with 84 bytes each, and each field has a record of 12 bytes
+-- after n fields, r tags wait where `count` did, an entry each, and each field has a record of 12 bytes
 pub record Grows (w : Work) (count n r : ℕ) : Type 0 where
   pub places : r ≤ 256
   pub more : count ≤ r

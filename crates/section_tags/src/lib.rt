@@ -1,6 +1,7 @@
 // The section's own tags (01, "MACK", "Tag outcomes"): field by field, each gets its outcome, its record, and for outcome 1 its set becomes
 // the satellite's authentic one; a tag whose key is still to come waits with a copy of its set. A field of which too much is lost has outcome 8
 // before any other (02, P3). `judge_own` is the public call.
+use chain::Way;
 use rules::Chain;
 use rules::Outcome;
 use rules::Tag;
@@ -11,7 +12,7 @@ ghost use Rattle.rules.specs.Chain.{Held, held};
 ghost use Rattle.rules.specs.Received.{macseqCame, fieldJudged, fieldsJudged};
 ghost use Rattle.rules.specs.State.{areaLength, configLength, setsLength, stampsLength, waitingLength, wordsLength, arrivalsLength, copyLength};
 ghost use Rattle.rules.specs.Tags.{macseqFits, ownJudged};
-ghost use Rattle.chain.specs.Sound.{Walks};
+ghost use Rattle.chain.specs.Sound.{Walks, OnWay};
 ghost use Rattle.mack.specs.Layout.{KeysFit};
 ghost use Rattle.navdata.specs.Pieces.{nav};
 ghost use Rattle.tags.specs.Layout.{Laid, section};
@@ -171,8 +172,8 @@ fn field_one(
 }
 
 // The tags of a section of 60 bytes that satellite `prn` sent at `time`, of which the marked fields came, in order, under the held key of this
-// slot; `count` tags wait and `at` records stand in the area. What waits then takes the next places of `waiting`, the records follow in
-// `area`, and the other bytes of both stay. Gives how many tags wait then.
+// slot and the keys that were met below it; `count` tags wait and `at` records stand in the area. What waits then takes the next places of
+// `waiting`, the records follow in `area`, and the other bytes of both stay. Gives how many tags wait then.
 pub fn judge_own(
     config: &[u8],
     words: &[u8],
@@ -180,6 +181,7 @@ pub fn judge_own(
     c: Chain,
     slot: u64,
     known: [u8; 32],
+    way: Way,
     prn: u8,
     time: u32,
     status: u8,
@@ -196,7 +198,7 @@ pub fn judge_own(
         × ((length (now stamps) ≡ stampsLength) × (length (now mack) ≡ 60)) ⌝ }
     requires { ⌜ ((length (now sets) ≡ setsLength) × (length (now arrivals) ≡ arrivalsLength))
         × ((length (now waiting) ≡ waitingLength) × (length (now area) ≡ areaLength)) ⌝ }
-    requires { ⌜ (Walks c × (Laid c × KeysFit c)) × ((slot < 2 ^ 34) × ((count ≤ 256) × (at + c .nmack * c .fields ≤ 270))) ⌝ }
+    requires { ⌜ (Walks c × (Laid c × KeysFit c)) × (((slot < 2 ^ 34) × OnWay c (held slot (take (c .width) known)) way) × ((count ≤ 256) × (at + c .nmack * c .fields ≤ 270))) ⌝ }
     ensures { λ r. ⌜ Leaves
         (fieldsJudged (now (config .entry)) (nav (now (words .entry)) (now (stamps .entry))) c (held slot (take (c .width) known))
         (section prn time status (now (mack .entry))) marks (c .nmack * c .fields) (start count (now (sets .entry)) (now (arrivals .entry)))) count at
@@ -208,13 +210,13 @@ pub fn judge_own(
 {
     let n = (c.nmack * c.fields) as usize;
     let mut key = [0u8; 273];
-    section_outcomes::block_key(c, slot, known, time, 0, &mut key);
+    section_outcomes::block_key(c, slot, known, way, time, 0, &mut key);
     let macseq = section_lost::macseq_came(config, c, time, mack, marks);
     let fits = tag_codes::macseq_fits(config, c, prn, time, mack, &key);
     let mut r = count;
     let mut j: usize = 0;
     while j < n {
-        section_outcomes::next_key(c, slot, known, time, j, &mut key);
+        section_outcomes::next_key(c, slot, known, way, time, j, &mut key);
         r = field_one(
             config,
             words,

@@ -26,7 +26,7 @@ pub record Leaves (w : Work) (kept told : ℕ) (waiting area waiting′ sets′ 
   pub records : area′ ≡ splice area (told * 12) (w .records)
   pub count : r ≡ w .count
 
--- of n entries, r stay with 84 bytes each, and the others have a record of 12 bytes each
+-- of n entries, r stay an entry each, and the others have a record of 12 bytes each
 pub record Counts (w : Work) (n r : ℕ) : Type 0 where
   pub few : r ≤ n
   pub kept-long : length (w .kept) ≡ r * entryLength

@@ -103,5 +103,6 @@ pub extern "C" fn leaf_key_fits(
     };
     let k = *known;
     let s = *key;
-    bools::number(chain::key_fits(c, slot, k, sent, s))
+    let f = chain::key_fits(c, slot, k, sent, s, slot);
+    bools::number(f.fits)
 }

@@ -2,6 +2,7 @@
 use denote.Ref.{now}
 use borrow.Author.Needs.{needs}
 use Rattle.rules.specs.Kroot.{noOffer}
+use Rattle.rules.specs.State.{offerLength, chainLength}
 use Rattle.call_start_parts.proofs.Cleared.{cleared}
 use Rattle.call_start_parts.proofs.clear_message.Statement.{statement}
 use Rattle.call_start_parts.proofs.clear_message.Tie as tie
@@ -10,8 +11,8 @@ returns : tie.Need-returns
 unfolding noOffer
 returns c =
     let p = c .before .before .before .before .before .before .before .before .before .before in (
-      cleared (now (p .args .offer)) (c .before .before .before .before .before .before .fill .last .0) 179 (p .pre .0) (c .before .before .before .before .before .before .fill .ensures),
-      cleared (now (p .args .chain)) (c .before .before .fill2 .last .0) 45 (p .pre .1) (c .before .before .fill2 .ensures),
+      cleared (now (p .args .offer)) (c .before .before .before .before .before .before .fill .last .0) offerLength (p .pre .0) (c .before .before .before .before .before .before .fill .ensures),
+      cleared (now (p .args .chain)) (c .before .before .fill2 .last .0) chainLength (p .pre .1) (c .before .before .fill2 .ensures),
     )
 
 pub clear-message-spec : {M : Type 1} → statement M

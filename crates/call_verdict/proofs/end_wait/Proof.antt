@@ -1,4 +1,4 @@
--- `call_verdict::end_wait` meets its contract: 179 zeros are no message.
+-- `call_verdict::end_wait` meets its contract: zeros are no message.
 -- Assumes nothing.
 use denote.Ref.{now}
 use native.Mathlib.Omega.{arith}

@@ -1,10 +1,12 @@
 -- `due_tag_keys::outcomes` meets its contract: at each turn the tags above slot m are judged, and the key of slot `at` is at hand.
 -- Assumes nothing.
 use mathlib.Core.Path.{_≡_, refl}
-use Prim.Native.Nat.{_≤_}
+use mathlib.Core.Logic.{⊎-elim}
+use Prim.Native.Nat.{_≤_, _<_}
 use native.Mathlib.Omega.{arith}
 use lib.ListN.{length, take, replicate, getD-replicate}
 use denote.Ref.{now}
+use Rattle.laws.proofs.Splice.{below?}
 use Rattle.rules.specs.Chain.{Held, held, keyOfSlot}
 use Rattle.chain.specs.Sound.{Met}
 use Rattle.chain.proofs.Steps.{met-here}
@@ -25,24 +27,25 @@ abbrev μ-loop : tie.MeasureT-loop
 length-key : (c : tie.Start Inv-loop μ-loop) → length (c .args .known) ≡ 32
 length-key c = search needs
 
-begin-requires : tie.Need-begin-requires Inv-loop μ-loop
-begin-requires c κs = (omega (arith, c .before .next-below .ensures .0), length-key (c .before .before .before))
-
 -- the key at which the way begins
-begun : (c : tie.After-begin Inv-loop μ-loop)
+begun : (c : tie.After-nearer Inv-loop μ-loop)
     → let g = c .before .before .before .before .args in
-    Met (g .c) (held (g .slot) (take (g .c .width) (g .known))) (c .begin .result) (c .begin .last .1 .1 .1 .1 .0)
+    Met (g .c) (held (g .slot) (take (g .c .width) (g .known))) (c .nearer .result) (c .nearer .last .1 .1 .1 .1 .0)
 begun c =
     let s = c .before .before .before .before in
     let g = s .args in
-    c .begin .ensures .1 (g .c) (held (g .slot) (take (g .c .width) (g .known))) (met-here (g .c) (g .slot) (g .known)) (s .pre .1)
+    c .nearer .ensures .1 .1 .1 (g .c) (held (g .slot) (take (g .c .width) (g .known))) (met-here (g .c) (g .slot) (g .known)) (s .pre .1)
+
+-- it does not begin below slot m
+begins : (c : tie.After-nearer Inv-loop μ-loop) → c .before .before .next-below .result ≤ c .nearer .result
+begins c = ⊎-elim (λ (l : c .nearer .result < c .before .before .next-below .result). omega (arith, c .nearer .ensures .1 .0 l, c .before .before .next-below .ensures .0)) (λ l. l) (below? (c .nearer .result) (c .before .before .next-below .result))
 
 loop-holds : tie.Need-loop-holds Inv-loop μ-loop
 loop-holds c =
     let a = c .before .before .before .before in
     let g = a .args in
     let r = c .before .before .next-below in (
-      ((begun c .not-above, c .begin .ensures .0 .0), (c .begin .ensures .0 .1 .0, refl)),
+      ((begun c .not-above, begins c), (c .nearer .ensures .0 .0, refl)),
       λ h e k. (
         k,
         none-above (g .c) h (now (g .waiting)) (g .n) (r .result) (rw e (r .ensures .1)) (replicate 256 0) (λ k q. getD-replicate 256 k 0 0 (omega (arith, a .pre .0 .1 .0 .1))),
@@ -82,7 +85,7 @@ outcomes-spec =
     μ-loop
     (λ c. search needs)
     (λ c κs. search needs)
-    begin-requires
+    (λ c κs. length-key (c .before .before .before))
     loop-holds
     (λ c κs. search needs)
     (λ c κs. search needs)

@@ -8,7 +8,7 @@ use Rattle.due_tag_keys.proofs.slot_to_keep.Tie as tie
 returns-2 : tie.Need-returns-2
 returns-2 c =
     let r = c .next-below .ensures in
-    (omega (arith, r .0), λ far k l e. r .1 k l (omega arith))
+    (λ short. absurd (omega (arith, short)), λ far. (omega (arith, r .0), λ k l e. r .1 k l (omega arith)))
 
 pub slot-to-keep-spec : {M : Type 1} → statement M
 slot-to-keep-spec = tie.close (tie.spec (λ c. search needs) (λ c. search needs) (λ c. search needs) (λ c κs. search needs) returns-2)

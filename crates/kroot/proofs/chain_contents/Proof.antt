@@ -3,6 +3,7 @@
 use mathlib.Core.Path.{refl}
 use denote.Ref.{now}
 use borrow.Author.Needs.{needs}
+use Rattle.rules.specs.State.{contentsLength}
 use native.Mathlib.Omega.{arith}
 use Rattle.laws.specs.Lists.{part}
 use Rattle.laws.proofs.Splice.{length-part}
@@ -12,7 +13,7 @@ use Rattle.kroot.proofs.chain_contents.Tie as tie
 
 returns : tie.Need-returns
 unfolding S.chainContents part
-returns c = (refl, length-part (now (c .before .args .chain)) 1 44 (omega arith))
+returns c = (refl, length-part (now (c .before .args .chain)) 1 contentsLength (omega arith))
 
 pub chain-contents-spec : {M : Type 1} → statement M
 chain-contents-spec =

@@ -17,7 +17,7 @@ use Rattle.mack_half.proofs.judge_tags.Tie as tie
 
 -- the start, from where the due tags were judged
 abbrev entered : tie.After-judge-due → tie.Start
-entered d = d .before .before .before .before .before .before .before .before .before .before .before .before .before
+entered d = d .before .before .before .before .before .before .before .before .before .before .before .before .before .before
 
 -- where the due tags were judged, from where the section's own begin
 abbrev judged : tie.After-slice-known8 → tie.After-judge-due
@@ -25,8 +25,8 @@ judged c = c .before .before .before .before .before .before .before .before
 
 judge-due-requires : tie.Need-judge-due-requires
 judge-due-requires c κs =
-    let a = c .before .before .before .before .before .before .before .before .before .before .before .before in
-    (a .pre .1 .0, ((a .pre .1 .1 .0 .0 .0, a .pre .1 .1 .0 .1), a .pre .1 .1 .1))
+    let a = c .before .before .before .before .before .before .before .before .before .before .before .before .before in
+    (a .pre .1 .0, ((a .pre .1 .1 .0 .0 .0, a .pre .1 .1 .0 .1), a .pre .1 .1 .1 .near-is))
 
 few : (d : tie.After-judge-due) → d .judge-due .result ≤ (entered d) .args .n
 few d = d .judge-due .ensures .1 .few
@@ -42,7 +42,7 @@ judge-own-requires c κs =
     let d = judged (c .before .before .before .before .before) in
     let q = (entered d) .pre in
     let l = q .1 .1 .0 .0 .1 .few in
-    (q .0, (search needs, ((q .1 .1 .0 .0 .0 .walks, (q .1 .1 .0 .0 .1, keys-fit ((entered d) .args .c) (q .1 .1 .0 .0 .0))), (q .1 .1 .0 .1 .0, (omega (arith, few d), omega (arith, few d, l))))))
+    (q .0, (search needs, ((q .1 .1 .0 .0 .0 .walks, (q .1 .1 .0 .0 .1, keys-fit ((entered d) .args .c) (q .1 .1 .0 .0 .0))), ((q .1 .1 .0 .1 .0, q .1 .1 .1), (omega (arith, few d), omega (arith, few d, l))))))
 
 add-t40 : tie.Need-add-t40
 add-t40 c =

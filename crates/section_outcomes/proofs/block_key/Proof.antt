@@ -8,10 +8,10 @@ use Rattle.section_outcomes.proofs.block_key.Statement.{statement}
 use Rattle.section_outcomes.proofs.block_key.Tie as tie
 
 add-block : tie.Need-add-block
-add-block c = omega (arith, block-small (c .args .j) (c .args .c .fields) (c .pre .1 .1 .1))
+add-block c = omega (arith, block-small (c .args .j) (c .args .c .fields) (c .pre .0 .1 .1 .1))
 
 cast-block : tie.Need-cast-block
-cast-block c = omega (arith, block-small (c .args .j) (c .args .c .fields) (c .pre .1 .1 .1))
+cast-block c = omega (arith, block-small (c .args .j) (c .args .c .fields) (c .pre .0 .1 .1 .1))
 
 returns : tie.Need-returns
 unfolding blockKey

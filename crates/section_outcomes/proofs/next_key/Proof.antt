@@ -20,7 +20,7 @@ returns-2 : tie.Need-returns-2
 returns-2 c =
     let a = c .before .before in
     let g = a .args in
-    a .pre .1 ∙ ap (λ (b : ℕ). blockKey (g .c) (held (g .slot) (take (g .c .width) (g .known))) (g .time) b) (same-block (g .j) (g .c .fields) (a .pre .0 .1 .1 .0) (c .if2 .taken))
+    a .pre .1 ∙ ap (λ (b : ℕ). blockKey (g .c) (held (g .slot) (take (g .c .width) (g .known))) (g .time) b) (same-block (g .j) (g .c .fields) (a .pre .0 .0 .1 .1 .0) (c .if2 .taken))
 
 pub next-key-spec : {M : Type 1} → statement M
 next-key-spec = tie.close (tie.spec returns (λ c. search needs) returns-2 (λ c κs. search needs) (λ c. search needs))

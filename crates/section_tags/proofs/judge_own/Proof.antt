@@ -19,14 +19,14 @@ use Rattle.section_tags.proofs.judge_own.Tie as tie
 use Rattle.rules.specs.State.{arrivalsLength, waitingLength, setsLength, areaLength}
 
 abbrev Inv-loop : tie.InvT-loop
-Inv-loop config words stamps c slot known prn time status mack marks waiting₀ count sets₀ times₀ area₀ at n key₀ macseq fits r₀ j₀ waiting sets arrivals area key r j =
+Inv-loop config words stamps c slot known way prn time status mack marks waiting₀ count sets₀ times₀ area₀ at n key₀ macseq fits r₀ j₀ waiting sets arrivals area key r j =
     ((j ≤ n) × ((length waiting ≡ waitingLength) × ((length sets ≡ setsLength) × ((length arrivals ≡ arrivalsLength) × (length area ≡ areaLength)))))
     × ((key ≡ blockKey c (held slot (take (c .width) known)) time ((j - 1) / c .fields))
     × (Leaves (fieldsJudged config (nav words stamps) c (held slot (take (c .width) known)) (section prn time status mack) marks j (start count sets₀ times₀)) count at waiting₀ area₀ waiting sets arrivals area r
     × Grows (fieldsJudged config (nav words stamps) c (held slot (take (c .width) known)) (section prn time status mack) marks j (start count sets₀ times₀)) count j r))
 
 abbrev μ-loop : tie.MeasureT-loop
-μ-loop config words stamps c slot known prn time status mack marks waiting₀ count sets₀ times₀ area₀ at n key₀ macseq fits r₀ j₀ waiting sets arrivals area key r j = n - j
+μ-loop config words stamps c slot known way prn time status mack marks waiting₀ count sets₀ times₀ area₀ at n key₀ macseq fits r₀ j₀ waiting sets arrivals area key r j = n - j
 
 mul-n : tie.Need-mul-n Inv-loop μ-loop
 mul-n c = omega (arith, c .before .before .before .before .before .before .before .before .before .pre .1 .1 .0 .1 .0 .few)
@@ -34,7 +34,7 @@ mul-n c = omega (arith, c .before .before .before .before .before .before .befor
 block-key-requires : tie.Need-block-key-requires Inv-loop μ-loop
 block-key-requires c κs =
     let q = c .before .before .before .before .before .before .before .before .before .before .pre .1 .1 in
-    (q .0 .0, (q .1 .0, (q .0 .1 .0 .fields-low, omega arith)))
+    ((q .0 .0, (q .1 .0 .0, (q .0 .1 .0 .fields-low, omega arith))), q .1 .0 .1)
 
 macseq-came-requires : tie.Need-macseq-came-requires Inv-loop μ-loop
 macseq-came-requires c κs =
@@ -64,7 +64,7 @@ next-key-requires : tie.Need-next-key-requires Inv-loop μ-loop
 next-key-requires c κs =
     let l = c .before .before in
     let q = l .before .before .before .before .before .before .before .before .before .before .before .before .before .before .before .pre .1 .1 in
-    ((q .0 .0, (q .1 .0, (q .0 .1 .0 .fields-low, omega (arith, q .0 .1 .0 .few, c .before .loop-test .taken)))), l .loop .inv .1 .0)
+    (((q .0 .0, (q .1 .0 .0, (q .0 .1 .0 .fields-low, omega (arith, q .0 .1 .0 .few, c .before .loop-test .taken)))), q .1 .0 .1), l .loop .inv .1 .0)
 
 add-field-one : tie.Need-add-field-one Inv-loop μ-loop
 add-field-one c =

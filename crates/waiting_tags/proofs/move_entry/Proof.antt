@@ -1,4 +1,4 @@
--- `waiting_tags::move_entry` meets its contract: an entry is 84 bytes.
+-- `waiting_tags::move_entry` meets its contract: an entry is `entryLength` bytes.
 -- Assumes nothing.
 use Rattle.rules.specs.Tags.{entryAt}
 use borrow.Author.Needs.{needs}
