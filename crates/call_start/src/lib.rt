@@ -1,4 +1,5 @@
-// A start of the core (01, "Start"): what refuses it, and what an accepted one writes, in two calls over eight of the sixteen lent regions each.
+// A start of the core (01, "Start gives one MACLT number .."): what refuses it, and what an accepted one writes, in two calls over eight of the sixteen
+// lent regions each.
 //   start_refusal       the number that refuses a start: 1 for a length, 2 for a setting out of range, or 0
 //   install_settings    the settings; clocks, words and DSM blocks become those of a core that heard nothing
 //   install_key         the public key; what waits, chain, TESLA key, tags and sets become none

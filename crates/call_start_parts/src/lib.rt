@@ -1,4 +1,5 @@
-// The parts of a start (01, "Start"), each over the regions that it reads or writes: what refuses its settings, and what it writes.
+// The parts of a start (01, "Start gives one MACLT number .."), each over the regions that it reads or writes: what refuses its settings, and what it
+// writes.
 //   start_unfit      NS, key ID, key type or a mark out of range (row 2)
 //   set_config       the settings
 //   clear_signal, clear_blocks, clear_message, clear_tags, clear_sets    regions of a core that heard nothing
