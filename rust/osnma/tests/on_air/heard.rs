@@ -46,10 +46,10 @@ impl Item {
                 bits::copy(&mut word, 0, &even, 2, 112);
                 bits::copy(&mut word, 112, &odd, 2, 16);
                 bits::copy(&mut field, 0, &odd, 18, 40);
-                // The parts of a sub-frame begin at its seconds 1 to 30.
-                let second = (time - 1 & 0xF_FFFF) % 30;
+                // The pages of a sub-frame begin at its seconds 1, 3 .. 29.
+                let second = (time & 0xF_FFFF) % 30;
                 let place = (second / 2) as usize;
-                item(time - 1 - second, Some(word), Some((place, field)))
+                item(time - second, Some(word), Some((place, field)))
             }
             _ => None,
         }
