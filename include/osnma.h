@@ -60,9 +60,9 @@ extern "C" {
 #define OSNMA_VERSION "0.1.0"
 
 /**
- * The number of the layout: it rises whenever a region of struct osnma_core or the parameters of an
- * exported function change. The archive exports a function whose name ends in it, and osnma_start calls
- * that function, so that a header and an archive of different layouts do not link.
+ * The number of the layout: it rises whenever a region of struct osnma_core, in size or in meaning, or
+ * the parameters of an exported function change. The archive exports a function whose name ends in it, and
+ * osnma_start calls that function, so that a header and an archive of different layouts do not link.
  */
 #define OSNMA_LAYOUT 1
 #define OSNMA_JOIN_EXPANDED(a, b) a##b

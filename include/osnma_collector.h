@@ -51,6 +51,19 @@ enum osnma_collected {
     OSNMA_OTHER_SATELLITE = 5
 };
 
+/** A few words for what a collector answered. Never null. */
+static inline const char *osnma_collected_text(uint32_t answer)
+{
+    static const char *const text[] = {
+        "taken",
+        "the half minute that is collected is over",
+        "its half minute was lent or left",
+        "an argument is out of its range",
+        "not the even and odd part of a nominal page",
+        "the word names another satellite"};
+    return answer < sizeof text / sizeof text[0] ? text[answer] : "a number that is not listed";
+}
+
 /** What a satellite sent in the half minute. */
 struct osnma_sent {
     uint16_t marks;               /**< of the fields that came */

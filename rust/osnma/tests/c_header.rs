@@ -5,6 +5,7 @@
 mod compiled;
 
 use compiled::{build, cpp_compilers, run, top, Program, C99, CPP17};
+use osnma::collector::NotTaken;
 use osnma::regions::Regions;
 use osnma::{Gst, WaitingMessage, LAYOUT, VERSION};
 use std::fmt::Write;
@@ -69,6 +70,19 @@ fn glue() -> String {
         record[0] = number;
         let outcome = osnma::TagRecord::of(&record).outcome;
         writeln!(lines, "outcome {number}: {}", text(outcome)).unwrap();
+    }
+    writeln!(lines, "collected 0: taken").unwrap();
+    let not_taken = [
+        NotTaken::Over,
+        NotTaken::Late,
+        NotTaken::OutOfRange,
+        NotTaken::NotNominal,
+        NotTaken::OtherSatellite,
+    ];
+    for number in 1..8 {
+        let text = not_taken.get(number - 1);
+        let text = text.map_or(unlisted.into(), NotTaken::to_string);
+        writeln!(lines, "collected {number}: {text}").unwrap();
     }
     let mut waiting = WaitingMessage {
         message: [0; 45],
