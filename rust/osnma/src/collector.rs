@@ -274,7 +274,8 @@ impl Collector {
                 answer = answer.and(of_word);
             }
         }
-        *self = Collector::new();
+        self.satellites.fill(Satellite::SILENT);
+        self.time = None;
         self.lent = Some(time);
         answer
     }
