@@ -15,10 +15,10 @@
  *         while (osnma_collector_page(&collector, prn, time, page, even, odd) == OSNMA_OVER)
  *             osnma_collector_lend(&collector, &core, records, told, user);
  *
- * Only what passed its CRC is given to it, and only what the receiver's own clock allows: one page with a
- * time far ahead makes all that follow late. What it is not given counts as lost. It allocates nothing and
- * keeps no pointer; it is not proved, but tested: recordings that are cut into pages in the order of the
- * air give the records of the recording, and so do pages that are lost, late, twice or in any order.
+ * Only what passed its CRC is given to it, and only what the receiver's own clock allows: one page with
+ * a time far ahead makes all that follow late. What it is not given counts as lost. It allocates nothing
+ * and keeps no pointer; it is not proved, but tested: recordings that are cut into pages in the order of
+ * the air give the records of the recording, and so do pages that are lost, late, twice or in any order.
  */
 #ifndef OSNMA_COLLECTOR_H
 #define OSNMA_COLLECTOR_H
