@@ -18,7 +18,8 @@
  * Only what passed its CRC is given to it, and only what the receiver's own clock allows: one page with
  * a time far ahead makes all that follow late. What it is not given counts as lost. It allocates nothing
  * and keeps no pointer; it is not proved, but tested: recordings that are cut into pages in the order of
- * the air give the records of the recording, and so do pages that are lost, late, twice or in any order.
+ * the air give the records of the recording; pages that are lost, late, twice or in any order give what
+ * a second, plain statement of these rules says.
  */
 #ifndef OSNMA_COLLECTOR_H
 #define OSNMA_COLLECTOR_H

@@ -1,6 +1,6 @@
 //! The collector, in Rust and in C: every named run of the bench signal, cut into pages in the order of the air, gives
 //! what the recording gives: the numbers and tag records of every sub-frame, start and verdict, and the authentic sets at
-//! the end. So do pages as a receiver hears them: lost, twice, late, in any order. The programs are
+//! the end. Pages as a receiver hears them, lost, twice, late or in any order, give what `heard` says. The programs are
 //! `examples/receiver.rs` and `examples/receiver.c`.
 
 mod compiled;
