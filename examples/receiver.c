@@ -6,8 +6,9 @@
  * PAGES are records of 256 bytes, as `signal air NAME` of the bench signal writes them
  * (rust/signal/src/air.rs): starts and verdicts as in a recording (docs/RECORDING.md), and pages or
  * their words and fields. A verdict is the chip's answer; on the bench it comes with the file. For each
- * start, verdict and sub-frame a line is printed with its two numbers and the count of its tag records,
- * then these; at the end whether the core is stopped and has a chain in force, and each authentic set.
+ * start and verdict a line is printed with its number; for each sub-frame one with its satellite and
+ * time, its two numbers and the count of its tag records, then these; at the end whether the core is
+ * stopped and has a chain in force, and each authentic set.
  */
 #include <osnma_collector.h>
 
@@ -35,26 +36,20 @@ static uint32_t time_of(const uint8_t r[256])
     return (uint32_t)r[2] << 24 | (uint32_t)r[3] << 16 | (uint32_t)r[4] << 8 | r[5];
 }
 
-static void print_subframe(struct osnma_halves answer)
-{
-    uint32_t i;
-    printf("%u %u %lu\n", (unsigned)answer.hkroot, (unsigned)answer.mack, (unsigned long)answer.records);
-    for (i = 0; i < answer.records; i++) {
-        const struct osnma_tag_record tag = osnma_record(records, i);
-        printf("%02X%02X%02X%02X%02X%02X%04X%08lX\n", (unsigned)tag.outcome, tag.sender, tag.prn, tag.adkd,
-               tag.block, tag.position, tag.iodnav, (unsigned long)tag.time);
-    }
-}
-
 /* Told by the collector after each sub-frame. */
 static void told(void *user, uint8_t prn, uint32_t time, struct osnma_halves answer,
                  const uint8_t area[OSNMA_RECORDS])
 {
+    uint32_t i;
     (void)user;
-    (void)prn;
-    (void)time;
-    (void)area;
-    print_subframe(answer);
+    printf("E%02u %lu/%lu: %u %u %lu\n", prn, (unsigned long)osnma_week(time),
+           (unsigned long)osnma_second(time), (unsigned)answer.hkroot, (unsigned)answer.mack,
+           (unsigned long)answer.records);
+    for (i = 0; i < answer.records; i++) {
+        const struct osnma_tag_record tag = osnma_record(area, i);
+        printf("%02X%02X%02X%02X%02X%02X%04X%08lX\n", (unsigned)tag.outcome, tag.sender, tag.prn, tag.adkd,
+               tag.block, tag.position, tag.iodnav, (unsigned long)tag.time);
+    }
 }
 
 /* A refused word is a stopped core, which its sub-frames tell. */
@@ -82,10 +77,13 @@ static void take(const uint8_t r[256])
     const uint32_t time = time_of(r);
     switch (r[0]) {
     /* What comes off the air goes to the collector. */
-    case PAGE:
-        while (osnma_collector_page(&collector, r[1], time, r[6], r + 7, r + 22) == OSNMA_OVER)
+    case PAGE: {
+        const uint32_t second = osnma_second(time), page = osnma_page_number(second);
+        const uint32_t subframe = osnma_page_time(osnma_week(time), second);
+        while (osnma_collector_page(&collector, r[1], subframe, page, r + 6, r + 21) == OSNMA_OVER)
             lend();
         break;
+    }
     case FIELD:
         while (osnma_collector_field(&collector, r[1], time, r[6], r + 7) == OSNMA_OVER)
             lend();
@@ -100,19 +98,20 @@ static void take(const uint8_t r[256])
         break;
     /* The chip's answer, on a message that osnma_read_message handed out. */
     case VERDICT:
-        printf("%u 0 0\n", (unsigned)osnma_verdict(&core, r[1], r[2], r + 3, r + 48));
+        printf("verdict: %u\n", (unsigned)osnma_verdict(&core, r[1], r[2], r + 3, r + 48));
         break;
     /* What stands in the file as a recording has it. */
     case WORD:
         (void)osnma_word(&core, r[1], time, r + 6);
         break;
     case SUBFRAME:
-        print_subframe(osnma_subframe(&core, r[1], time, r + 6, records));
+        told(NULL, r[1], time, osnma_subframe(&core, r[1], time, r + 6, records), records);
         break;
-    case SUBFRAME_MARKED:
-        print_subframe(osnma_subframe_marked(&core, r[1], time, (uint16_t)(r[81] << 8 | r[82]), r + 6,
-                                             records));
+    case SUBFRAME_MARKED: {
+        const uint16_t marks = (uint16_t)(r[81] << 8 | r[82]);
+        told(NULL, r[1], time, osnma_subframe_marked(&core, r[1], time, marks, r + 6, records), records);
         break;
+    }
     default:
         break;
     }
@@ -148,7 +147,7 @@ int main(void)
                 started = 1;
                 osnma_collector_begin(&collector);
             }
-            printf("%u 0 0\n", (unsigned)answer);
+            printf("start: %u\n", (unsigned)answer);
         } else if (started) {
             take(r);
         }

@@ -6,8 +6,9 @@
 //!
 //! PAGES are records of 256 bytes, as `signal air NAME` of the bench signal writes them (`rust/signal/src/air.rs`):
 //! starts and verdicts as in a recording (docs/RECORDING.md), and pages or their words and fields. A verdict is the chip's answer; on the bench it
-//! comes with the file. For each start, verdict and sub-frame a line is printed with its two numbers and the count of its
-//! tag records, then these; at the end whether the core is stopped and has a chain in force, and each authentic set.
+//! comes with the file. For each start and verdict a line is printed with its number; for each sub-frame one with its
+//! satellite and time, its two numbers and the count of its tag records, then these; at the end whether the core is
+//! stopped and has a chain in force, and each authentic set.
 
 use osnma::collector::{Collector, NotTaken};
 use osnma::{Core, Gst, Marks, Records, Refusal, Settings, SubframeAnswer, TagRecord, NO_RECORDS};
@@ -81,9 +82,15 @@ fn print_tag(output: &mut impl Write, tag: TagRecord) -> io::Result<()> {
     writeln!(output, "{:04X}{:08X}", tag.iodnav, tag.time.bits())
 }
 
-fn print_subframe(output: &mut impl Write, answer: SubframeAnswer<'_>) -> io::Result<()> {
+fn print_subframe(
+    output: &mut impl Write,
+    prn: u8,
+    time: Gst,
+    answer: SubframeAnswer<'_>,
+) -> io::Result<()> {
     let (hkroot, mack) = (number(answer.hkroot), number(answer.mack));
-    writeln!(output, "{hkroot} {mack} {}", answer.tags.len())?;
+    let count = answer.tags.len();
+    writeln!(output, "E{prn:02} {time}: {hkroot} {mack} {count}")?;
     for tag in answer.tags {
         print_tag(output, tag)?;
     }
@@ -97,8 +104,10 @@ impl<W: Write> Receiver<'_, W> {
             _ if !self.started => {}
             // What comes off the air goes to the collector.
             PAGE => {
-                let (page, even, odd) = (u32::from(r[6]), bytes(r, 7), bytes(r, 22));
-                self.collect(|collector| collector.page(r[1], time(r), page, &even, &odd))?;
+                let (began, even, odd) = (time(r), bytes(r, 6), bytes(r, 21));
+                if let Some((time, page)) = Gst::of_page(began.week(), began.second()) {
+                    self.collect(|collector| collector.page(r[1], time, page, &even, &odd))?;
+                }
             }
             FIELD => {
                 let (page, field) = (u32::from(r[6]), bytes(r, 7));
@@ -120,7 +129,7 @@ impl<W: Write> Receiver<'_, W> {
                     // In Rust a verdict is a bool.
                     _ => Err(Refusal::OutOfRange),
                 };
-                writeln!(self.output, "{} 0 0", number(answer))?;
+                writeln!(self.output, "verdict: {}", number(answer))?;
             }
             // What stands in the file as a recording has it.
             WORD => {
@@ -131,10 +140,10 @@ impl<W: Write> Receiver<'_, W> {
                     SUBFRAME => Marks::ALL,
                     _ => Marks::from_bits(u16::from_be_bytes(bytes(r, 81))),
                 };
-                let (fields, records) = (bytes(r, 6), &mut self.records);
-                let core = &mut self.core;
-                let answer = core.subframe_marked(r[1], time(r), marks, &fields, records);
-                print_subframe(self.output, answer)?;
+                let (prn, time, fields) = (r[1], time(r), bytes(r, 6));
+                let (core, records) = (&mut self.core, &mut self.records);
+                let answer = core.subframe_marked(prn, time, marks, &fields, records);
+                print_subframe(self.output, prn, time, answer)?;
             }
             _ => {}
         }
@@ -155,7 +164,7 @@ impl<W: Write> Receiver<'_, W> {
             self.started = true;
             self.collector = Collector::new();
         }
-        writeln!(self.output, "{} 0 0", number(answer))
+        writeln!(self.output, "start: {}", number(answer))
     }
 
     /// Gives something to the collector, and once more where the half minute before it had to be lent.
@@ -170,9 +179,9 @@ impl<W: Write> Receiver<'_, W> {
 
     fn lend(&mut self) -> io::Result<()> {
         let (output, mut printed) = (&mut *self.output, Ok(()));
-        let told = |_prn, _time, answer: SubframeAnswer<'_>| {
+        let told = |prn, time, answer: SubframeAnswer<'_>| {
             if printed.is_ok() {
-                printed = print_subframe(output, answer);
+                printed = print_subframe(output, prn, time, answer);
             }
         };
         // A refused word is a stopped core, which its sub-frames tell.

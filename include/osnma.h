@@ -60,9 +60,9 @@ extern "C" {
 #define OSNMA_VERSION "0.1.0"
 
 /**
- * The number of the layout: it rises whenever a region of struct osnma_core or the parameters of an
- * exported function change. The archive exports a function whose name ends in it, and osnma_start calls
- * that function, so that a header and an archive of different layouts do not link.
+ * The number of the layout: it rises whenever a region of struct osnma_core, in size or in meaning, or
+ * the parameters of an exported function change. The archive exports a function whose name ends in it,
+ * and osnma_start calls that function, so that a header and an archive of different layouts do not link.
  */
 #define OSNMA_LAYOUT 1
 #define OSNMA_JOIN_EXPANDED(a, b) a##b
@@ -734,8 +734,9 @@ static inline enum osnma_answer osnma_read_message(const struct osnma_core *core
                                                    struct osnma_message *message)
 {
     return (enum osnma_answer)osnma_regions_read_message(
-        core->pubkeys, OSNMA_PUBKEYS_COUNT, core->offer, OSNMA_OFFER_COUNT, message->message, OSNMA_MESSAGE, message->signature, OSNMA_SIGNATURE,
-        message->key, OSNMA_KEY, &message->key_id, &message->key_type);
+        core->pubkeys, OSNMA_PUBKEYS_COUNT, core->offer, OSNMA_OFFER_COUNT, message->message,
+        OSNMA_MESSAGE, message->signature, OSNMA_SIGNATURE, message->key, OSNMA_KEY, &message->key_id,
+        &message->key_type);
 }
 
 #undef OSNMA_REGIONS_OF

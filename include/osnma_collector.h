@@ -15,9 +15,11 @@
  *         while (osnma_collector_page(&collector, prn, time, page, even, odd) == OSNMA_OVER)
  *             osnma_collector_lend(&collector, &core, records, told, user);
  *
- * Only what passed its CRC is given to it: it has no CRC of its own. What it is not given counts as
- * lost. It allocates nothing and keeps no pointer; it is not proved, but tested: recordings that are cut
- * into pages in the order of the air give the records of the recording.
+ * Only what passed its CRC is given to it, and only what the receiver's own clock allows: one page with
+ * a time far ahead makes all that follow late. What it is not given counts as lost. It allocates nothing
+ * and keeps no pointer; it is not proved, but tested: recordings that are cut into pages in the order of
+ * the air give the records of the recording; pages that are lost, late, twice or in any order give what
+ * a second, plain statement of these rules says.
  */
 #ifndef OSNMA_COLLECTOR_H
 #define OSNMA_COLLECTOR_H
@@ -39,7 +41,8 @@ enum osnma_collected {
     /** It belongs to a later half minute than the one that is collected, which is over. Lend that one,
         then give it again. */
     OSNMA_OVER = 1,
-    /** It belongs to a half minute before the one that is collected, or to one that was lent. */
+    /** It belongs to a half minute before the one that is collected, or to one that was lent. It counts
+        as lost. */
     OSNMA_LATE = 2,
     /** PRN not 1 to 36, a time that is no start of a sub-frame, or a page above 14. */
     OSNMA_NOT_IN_RANGE = 3,
@@ -48,6 +51,19 @@ enum osnma_collected {
     /** A word 4 that names another satellite: the receiver's channel follows another than it says. */
     OSNMA_OTHER_SATELLITE = 5
 };
+
+/** A few words for what a collector answered. Never null. */
+static inline const char *osnma_collected_text(uint32_t answer)
+{
+    static const char *const text[] = {
+        "taken",
+        "the half minute that is collected is over",
+        "its half minute was lent or left",
+        "an argument is out of its range",
+        "not the even and odd part of a nominal page",
+        "the word names another satellite"};
+    return answer < sizeof text / sizeof text[0] ? text[answer] : "a number that is not listed";
+}
 
 /** What a satellite sent in the half minute. */
 struct osnma_sent {
@@ -71,7 +87,10 @@ struct osnma_collector {
 typedef char osnma_collector_has_its_size
     [sizeof(struct osnma_collector) <= OSNMA_COLLECTOR_SIZE ? 1 : -1];
 
-/** Is told what each sub-frame answered, with the area of its records. It may call the core. */
+/**
+ * Is told what each sub-frame answered, with the area of its records. It may ask the core and give a
+ * verdict; it lends no fields and no words, and does not call the collector.
+ */
 typedef void osnma_told(void *user, uint8_t prn, uint32_t time, struct osnma_halves answer,
                         const uint8_t records[OSNMA_RECORDS]);
 
@@ -92,7 +111,7 @@ static inline uint32_t osnma_page_number(uint32_t second)
     return second % 30u / 2u;
 }
 
-/** Nothing is collected, nothing was lent. */
+/** Nothing is collected, nothing was lent. What was collected before is dropped. */
 static inline void osnma_collector_begin(struct osnma_collector *collector)
 {
     uint32_t i;

@@ -79,7 +79,8 @@ pub enum NotTaken {
     /// It belongs to a later half minute than the one that is collected, which is over.
     /// [Lend](Collector::lend) that one, then give it again.
     Over,
-    /// It belongs to a half minute before the one that is collected, or to one that was lent.
+    /// It belongs to a half minute before the one that is collected, or to one that was lent: it counts
+    /// as lost.
     Late,
     /// PRN not 1 to 36, a time that is no start of a sub-frame, or a page above 14.
     OutOfRange,
@@ -113,8 +114,8 @@ impl core::error::Error for NotTaken {}
 /// nothing tells of it but [`Outcome::NoUsableSet`](crate::Outcome::NoUsableSet). On the air words come
 /// between the fields; the collector puts them behind.
 ///
-/// Only what passed its CRC is given to it: it has no CRC of its own. What it is not given counts as
-/// lost.
+/// Only what passed its CRC is given to it, and only what the receiver's own clock allows: one page with
+/// a time far ahead makes all that follow late. What it is not given counts as lost.
 ///
 /// ```
 /// use osnma::collector::{Collector, NotTaken};
@@ -273,7 +274,8 @@ impl Collector {
                 answer = answer.and(of_word);
             }
         }
-        *self = Collector::new();
+        self.satellites.fill(Satellite::SILENT);
+        self.time = None;
         self.lent = Some(time);
         answer
     }

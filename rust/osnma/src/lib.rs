@@ -127,9 +127,9 @@ use told::Told;
 
 /// The version of this crate, of `include/osnma.h` and of the archive's calls (`CHANGELOG.md`).
 pub const VERSION: &str = env!("CARGO_PKG_VERSION");
-/// The number of the layout that this crate lends: it rises whenever a region or the parameters of an
-/// export change. The archive exports a function whose name ends in it, which [`Core::start`] calls, so
-/// that an archive of another layout does not link.
+/// The number of the layout that this crate lends: it rises whenever a region, in size or in meaning, or
+/// the parameters of an export change. The archive exports a function whose name ends in it, which
+/// [`Core::start`] calls, so that an archive of another layout does not link.
 pub const LAYOUT: u32 = 1;
 
 /// Bytes of the authentication fields of a sub-frame: 15 of five bytes.

@@ -74,6 +74,8 @@ fn vouched() -> Core {
     assert_eq!((waiting.key_id, waiting.key_type), (0, 1));
     assert_eq!(upper(waiting.signed()), SIGNED_MESSAGE);
     assert_eq!(upper(waiting.signature_bytes()), SIGNATURE);
+    let refused = core.clone().verdict_on(&waiting, false);
+    assert_eq!(refused, Err(Refusal::VerdictBad));
     assert_eq!(core.verdict_on(&waiting, true), Ok(()));
     assert_eq!(upper(&core.regions().heldkey[..16]), KROOT);
     core

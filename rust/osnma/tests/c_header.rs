@@ -5,6 +5,7 @@
 mod compiled;
 
 use compiled::{build, cpp_compilers, run, top, Program, C99, CPP17};
+use osnma::collector::NotTaken;
 use osnma::regions::Regions;
 use osnma::{Gst, WaitingMessage, LAYOUT, VERSION};
 use std::fmt::Write;
@@ -70,6 +71,19 @@ fn glue() -> String {
         let outcome = osnma::TagRecord::of(&record).outcome;
         writeln!(lines, "outcome {number}: {}", text(outcome)).unwrap();
     }
+    writeln!(lines, "collected 0: taken").unwrap();
+    let not_taken = [
+        NotTaken::Over,
+        NotTaken::Late,
+        NotTaken::OutOfRange,
+        NotTaken::NotNominal,
+        NotTaken::OtherSatellite,
+    ];
+    for number in 1..8 {
+        let text = not_taken.get(number - 1);
+        let text = text.map_or(unlisted.into(), NotTaken::to_string);
+        writeln!(lines, "collected {number}: {text}").unwrap();
+    }
     let mut waiting = WaitingMessage {
         message: [0; 45],
         signature: [0; 132],
@@ -124,6 +138,48 @@ fn documented() {
     for row in listed {
         assert!(page.contains(&row), "{row} is not in docs/RECORDING.md");
     }
+}
+
+/// The regions' counts and the exported parameters of a header.
+fn lent(header: &str) -> String {
+    let is_count = |line: &&str| line.starts_with("#define OSNMA_") && line.contains("_COUNT ");
+    let counts: Vec<&str> = header.lines().filter(is_count).collect();
+    assert_eq!(counts.len(), 16);
+    let (_, calls) = header
+        .split_once("\nuint32_t osnma_regions_start(")
+        .unwrap();
+    let (calls, _) = calls.split_once("\n/* ---- ").expect("an end");
+    let words = counts.into_iter().chain(calls.lines());
+    words.flat_map(str::split_whitespace).collect()
+}
+
+/// The first bytes of SHA-256 of what each layout lends. A line is added with each layout, and none is changed.
+const LAYOUTS: [(u32, u64); 1] = [(1, 0x861F_34CF_E277_74A6)];
+
+// Who changes a region or a parameter raises the layout, and the version and the layout have their place in CHANGELOG.md.
+#[test]
+fn layout_rises_with_what_is_lent() {
+    let read = |path: &str| fs::read_to_string(top().join(path)).expect("a text");
+    let header = read("include/osnma.h");
+    let digest = |header: &str| {
+        let digest = portable_hash::sha256(lent(header).as_bytes());
+        u64::from_be_bytes(*digest.first_chunk().expect("32 bytes"))
+    };
+    let right = Some(&(LAYOUT, digest(&header)));
+    assert_eq!(LAYOUTS.last(), right, "raise the layout and add a line");
+    for (old, new) in [
+        ("OSNMA_WAITING_COUNT 21504u", "OSNMA_WAITING_COUNT 21760u"),
+        ("uint16_t marks,\n    const", "uint32_t marks,\n    const"),
+        (
+            "uint8_t *id, uint8_t *kind);",
+            "uint8_t *kind, uint8_t *id);",
+        ),
+    ] {
+        assert!(header.contains(old), "{old}");
+        assert_ne!(digest(&header.replacen(old, new, 1)), digest(&header));
+    }
+    let heading = format!("\n## {VERSION}, layout {LAYOUT}\n");
+    assert!(read("CHANGELOG.md").contains(&heading), "{heading}");
 }
 
 /// A folder with the headers, of which osnma.h says this layout.

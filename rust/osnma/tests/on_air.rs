@@ -1,15 +1,20 @@
 //! The collector, in Rust and in C: every named run of the bench signal, cut into pages in the order of the air, gives
 //! what the recording gives: the numbers and tag records of every sub-frame, start and verdict, and the authentic sets at
-//! the end. The programs are `examples/receiver.rs` and `examples/receiver.c`.
+//! the end. Pages as a receiver hears them, lost, twice, late or in any order, give what `heard` says. The programs are
+//! `examples/receiver.rs` and `examples/receiver.c`.
 
 mod compiled;
+#[path = "on_air/heard.rs"]
+mod heard;
 #[path = "../../../examples/receiver.rs"]
 mod receiver;
 
 use compiled::{build, cpp_compilers, run, C99, CPP17};
+use heard::{disturbed, heard};
 use second_receiver::replay::replay;
 use signal::air::{cut, END, FIELD, PAGE};
 use signal::replay::RECORD;
+use signal::rng::Rng;
 use signal::scenario::{all, find, SEED};
 use std::fmt::Write;
 use std::path::Path;
@@ -17,8 +22,13 @@ use std::sync::atomic::{AtomicUsize, Ordering::Relaxed};
 use std::sync::Mutex;
 use std::thread;
 
-/// The second receiver's answers without the place of a record and without those of words, from the first accepted start
-/// on, and what it holds at the end.
+/// Week and second of a GST_SF.
+fn of_week(time: u32) -> String {
+    format!("{}/{}", time >> 20, time & 0xF_FFFF)
+}
+
+/// The second receiver's answers as the examples print them, from the first accepted start on and without those of words,
+/// and what it holds at the end.
 fn wanted(recording: &[u8]) -> String {
     let mut lines = Vec::new();
     let receiver = replay(recording, &mut lines).expect("lines");
@@ -28,12 +38,18 @@ fn wanted(recording: &[u8]) -> String {
     for record in recording.chunks_exact(RECORD) {
         let line = lines.next().expect("a line");
         let (_place, answers) = line.split_once(' ').expect("a place");
-        started |= record[0] == 1 && answers.starts_with("0 ");
-        let shown = record[0] == 1 || started && matches!(record[0], 3 | 4 | 6);
-        if shown {
-            writeln!(want, "{answers}").unwrap();
+        let (first, rest) = answers.split_once(' ').expect("two answers");
+        started |= record[0] == 1 && first == "0";
+        match record[0] {
+            1 => writeln!(want, "start: {first}").unwrap(),
+            4 if started => writeln!(want, "verdict: {first}").unwrap(),
+            3 | 6 if started => {
+                let time = u32::from_be_bytes(record[2..6].try_into().expect("4 bytes"));
+                writeln!(want, "E{:02} {}: {answers}", record[1], of_week(time)).unwrap();
+            }
+            _ => {}
         }
-        let count = answers.rsplit(' ').next().expect("a count");
+        let (_second, count) = rest.split_once(' ').expect("a count");
         for _ in 0..count.parse().expect("a count") {
             writeln!(want, "{}", lines.next().expect("a tag record")).unwrap();
         }
@@ -47,8 +63,8 @@ fn wanted(recording: &[u8]) -> String {
         let mut set = [0; 69];
         let read = receiver.read_set(prn, &mut set);
         if read.number == 0 {
-            let (week, second) = (read.time >> 20, read.time & 0xF_FFFF);
-            write!(want, "E{prn:02} IODnav {} {week}/{second} ", read.iodnav).unwrap();
+            let time = of_week(read.time);
+            write!(want, "E{prn:02} IODnav {} {time} ", read.iodnav).unwrap();
             set.iter()
                 .for_each(|byte| write!(want, "{byte:02X}").unwrap());
             want.push('\n');
@@ -79,17 +95,30 @@ fn count(air: &[u8], kinds: &[u8]) -> usize {
 /// Runs that are as the air is: every sub-frame comes by pages, and no half minute is cut but by the verdict and the end.
 const LIKE_THE_AIR: [&str; 5] = ["fitter", "full_sky", "nominal", "trees", "cmac_256"];
 
-/// Compares a recording in both languages; gives how many pages it has, and how many sub-frames that no page can bring.
-fn compare(name: &str, recording: &[u8], program: &Path) -> (usize, usize) {
-    let (want, air) = (wanted(recording), cut(recording));
+/// Both languages give of the air what the second receiver gives of the recording; gives that.
+fn compare(name: &str, recording: &[u8], air: &[u8], program: &Path) -> String {
+    let want = wanted(recording);
     let difference = |got: String| first_difference(&got, &want);
-    assert_eq!(difference(in_rust(&air)), None, "{name} in Rust");
-    assert_eq!(difference(run(program, &[], &air)), None, "{name} in C");
+    assert_eq!(difference(in_rust(air)), None, "{name} in Rust");
+    assert_eq!(difference(run(program, &[], air)), None, "{name} in C");
+    want
+}
+
+/// How many lines are tag records that begin so.
+fn tags(lines: &str, outcome: &str) -> usize {
+    let tags = lines.lines().filter(|line| !line.contains(' '));
+    tags.filter(|line| line.starts_with(outcome)).count()
+}
+
+/// Compares a recording with itself cut; gives how many pages it has, and how many sub-frames that no page can bring.
+fn compare_cut(name: &str, recording: &[u8], program: &Path) -> (usize, usize) {
+    let air = cut(recording);
+    let want = compare(name, recording, &air, program);
     let direct = count(&air, &[3, 6]);
     if LIKE_THE_AIR.contains(&name) {
         let ends = count(&air, &[END]);
         assert!(direct == 0 && ends <= 3, "{name}: {direct}, {ends}");
-        assert!(want.lines().filter(|line| line.len() == 24).count() > 1000);
+        assert!(tags(&want, "") > 1000);
     }
     (count(&air, &[PAGE, FIELD]), direct)
 }
@@ -101,7 +130,7 @@ fn every_run() {
     let work = || {
         while let Some(scenario) = all().get(next.fetch_add(1, Relaxed)) {
             let recording = scenario.run(SEED).bytes;
-            let (pages, direct) = compare(scenario.name, &recording, &program);
+            let (pages, direct) = compare_cut(scenario.name, &recording, &program);
             let mut sums = sums.lock().expect("no other thread failed");
             *sums = (sums.0 + pages, sums.1 + direct);
         }
@@ -129,7 +158,30 @@ fn after_each_verdict() {
     let verdicts = (1..).zip(kinds).filter(|&(_, kind)| kind == 4);
     for (records, _) in verdicts {
         let name = format!("{records} records");
-        compare(&name, &recording[..RECORD * records], &program);
+        compare_cut(&name, &recording[..RECORD * records], &program);
+    }
+}
+
+// Pages that are lost, come twice, late, in any order or at wrong times, satellites that rise or set within a half minute,
+// and a receiver that is turned on in the middle of one. Tags are judged all the same, of each outcome that losses bring.
+#[test]
+fn disturbed_air() {
+    let program = build("cc", C99, "examples/receiver.c", "receiver_disturbed");
+    let mut outcomes = [0; 9];
+    for name in ["fitter", "trees", "week_change", "cmac_256"] {
+        let air = cut(&find(name).expect("a scenario").run(SEED).bytes);
+        for seed in 0..6 {
+            let air = disturbed(&air, &mut Rng::new(seed));
+            let name = format!("{name}, disturbed by {seed}");
+            let want = compare(&name, &heard(&air), &air, &program);
+            for (outcome, sum) in outcomes.iter_mut().enumerate() {
+                *sum += tags(&want, &format!("{outcome:02X}"));
+            }
+        }
+    }
+    println!("outcomes: {outcomes:?}");
+    for outcome in [1, 2, 3, 5, 8] {
+        assert!(outcomes[outcome] > 100, "{outcomes:?}");
     }
 }
 
@@ -163,9 +215,7 @@ fn authentic(recording: &[u8], key: fn(&[u8]) -> (u8, u8)) -> usize {
     }
     let mut lines = Vec::new();
     replay(&lent[..], &mut lines).expect("lines");
-    let lines = String::from_utf8(lines).expect("text");
-    let tags = lines.lines().filter(|line| !line.contains(' '));
-    tags.filter(|line| line.starts_with("01")).count()
+    tags(&String::from_utf8(lines).expect("text"), "01")
 }
 
 // What docs/INTEGRATION.md says of the order: fields before words; satellite by satellite; words before fields.

@@ -3,7 +3,7 @@
 //!
 //! The result has records of 256 bytes like a recording. Starts and verdicts stand as they are. Beside them:
 //!
-//! - [`PAGE`]: PRN, GST_SF, the page's place from 0 to 14, its even and its odd part of 15 bytes;
+//! - [`PAGE`]: PRN, week and second at which its even part began (12 and 20 bits), its even and its odd part of 15 bytes;
 //! - [`FIELD`] and [`WORD`]: PRN, GST_SF and the place and 40-bit field of a page, or a word. Every fourth satellite comes
 //!   so, as from a receiver that has taken its pages apart; so do words without a page, and those that a collector must
 //!   refuse;
@@ -54,6 +54,11 @@ fn page_of(word: &Word) -> usize {
         5 => 12,
         _ => 2,
     }
+}
+
+/// When the even part of a page of the sub-frame at `time` began: 000, table 26.
+fn began(time: &[u8; 4], page: usize) -> [u8; 4] {
+    (u32::from_be_bytes(*time) + 1 + 2 * page as u32).to_be_bytes()
 }
 
 /// A word of type 63, the dummy word.
@@ -110,16 +115,16 @@ impl Air {
                 if !came(sent.marks, at) {
                     continue;
                 }
-                let (place, time) = ([at as u8], &self.time);
+                let time = &self.time;
                 let (word, field) = (sent.words[at].unwrap_or(DUMMY), &sent.fields[5 * at..][..5]);
                 if comes_apart(prn) {
                     self.out.extend(record(&[&[WORD, prn], time, &word]));
                     self.out
-                        .extend(record(&[&[FIELD, prn], time, &place, field]));
+                        .extend(record(&[&[FIELD, prn], time, &[at as u8], field]));
                 } else {
                     let (even, odd) = page(&word, field);
                     self.out
-                        .extend(record(&[&[PAGE, prn], time, &place, &even, &odd]));
+                        .extend(record(&[&[PAGE, prn], &began(time, at), &even, &odd]));
                 }
             }
         }
@@ -220,6 +225,13 @@ mod tests {
         air.chunks_exact(RECORD).map(|record| record[0]).collect()
     }
 
+    /// PRN of each record, and the second of its half minute.
+    fn places(air: &[u8]) -> Vec<(u8, u32)> {
+        let second = |r: &[u8]| bits::get(r, 28, 20) as u32 % 30;
+        let records = air.chunks_exact(RECORD);
+        records.map(|r| (r[1], second(r))).collect()
+    }
+
     // The word is on both parts, the field on the odd one: 000, table 26, the first page.
     #[test]
     fn parts() {
@@ -246,8 +258,7 @@ mod tests {
         input.extend(replay::word(9, gst, &word(1)));
         let air = cut(&input);
         assert_eq!(kinds(&air), [&[WORD][..], &[PAGE; 30], &[END]].concat());
-        let pages: Vec<(u8, u8)> = air.chunks_exact(RECORD).map(|r| (r[1], r[6])).collect();
-        assert_eq!(pages[1..5], [(6, 0), (2, 0), (6, 1), (2, 1)]);
+        assert_eq!(places(&air)[1..5], [(6, 1), (2, 1), (6, 3), (2, 3)]);
         // A sub-frame behind a word of its half minute, and one of a lower PRN, are of another lending; so is what
         // comes before a verdict. A later time needs no end.
         input.extend(replay::subframe(8, gst, &[8; 75]));
@@ -259,8 +270,8 @@ mod tests {
         let marks = crate::subframe::without(&[0, 2]);
         let mut input = replay::subframe_marked(4, gst, marks, &[3; 75]).to_vec();
         input.extend(replay::word(4, gst, &word(2)));
-        let places: Vec<u8> = cut(&input).chunks_exact(RECORD).map(|r| r[6]).collect();
-        assert_eq!(places, [1, 3, 4, 5, 6, 7, 8, 9, 10, 11, 12, 13, 14, 0]);
+        let pages = [1, 3, 4, 5, 6, 7, 8, 9, 10, 11, 12, 13, 14].map(|page| (4, 1 + 2 * page));
+        assert_eq!(places(&cut(&input))[..13], pages);
         // Every fourth satellite comes taken apart.
         let apart = kinds(&cut(&replay::subframe(3, gst, &[3; 75])));
         assert_eq!(apart, [&[WORD, FIELD].repeat(15)[..], &[END]].concat());

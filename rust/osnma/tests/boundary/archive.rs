@@ -54,6 +54,7 @@ impl Symbols {
             b"\x7FELF\x02\x01",
             "no ELF object of 64 bits, low byte first"
         );
+        assert_eq!(number(object, 0x12, 2), 62, "no code for x86-64");
         let (sections, size, count) = (
             number(object, 0x28, 8),
             number(object, 0x3A, 2),

@@ -317,7 +317,7 @@ static void test_read_message(void)
     CHECK(got.key_id == 3 && got.key_type == 1);
     /* Handed back as it is, it is what waits. */
     want_no_offer();
-    ANSWERS(osnma_verdict(&core, 0, got.key_id, got.message, got.signature), OSNMA_VERDICT_BAD);
+    ANSWERS(osnma_verdict_on(&core, &got, 0), OSNMA_VERDICT_BAD);
 }
 
 static void test_named_otherwise(void)
@@ -707,7 +707,7 @@ static void put_annex_root_in_force(void)
     CHECK(memcmp(got.signature, signature, sizeof signature) == 0);
     CHECK(got.key_id == 0 && got.key_type == 1);
     want_in_force();
-    ANSWERS(osnma_verdict(&core, 1, 0, got.message, got.signature), OSNMA_DONE);
+    ANSWERS(osnma_verdict_on(&core, &got, 1), OSNMA_DONE);
 }
 
 /* What the annex's section leaves. */

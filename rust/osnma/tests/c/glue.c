@@ -17,6 +17,8 @@ int main(void)
         printf("answer %u: %s\n", i, osnma_answer_text(i));
     for (i = 0; i < 11; i++)
         printf("outcome %u: %s\n", i, osnma_outcome_text(i));
+    for (i = 0; i < 8; i++)
+        printf("collected %u: %s\n", i, osnma_collected_text(i));
     for (i = 0; i < 16; i++) {
         message[2] = (uint8_t)(i << 4 | 15u);
         printf("KS %u: %u bytes signed\n", i, (unsigned)osnma_message_length(message));
