@@ -41,6 +41,21 @@
  *   - Only these calls write a core, and osnma_start is the first. On other contents a call still
  *     stays inside the memory that it is lent and returns, but its answer means nothing.
  *
+ * How long a call takes: a sub-frame's section walks the key chain from its keys down to the held one, a
+ * hash of one block for each slot between (docs/BENCHMARK.md counts such a step): NS times NMACK slots,
+ * at most 108, for each half minute since the held key. That is the last key that an accepted section
+ * brought, or the root if a verdict put one in force since; it may lie days back. What else a call does
+ * does not grow with this gap.
+ *   - A section walks at most 1,000,000 slots. A key that lies further is refused and not walked.
+ *   - A section with a wrong key walks as far before it is refused with OSNMA_KEY_UNFIT, and the held
+ *     key stays: each of 36 satellites may bring one in a half minute. Once a key of that half minute
+ *     is accepted, its other sections walk a few hundred slots.
+ *   - A receiver that must answer sooner limits this itself; no setting does. It reckons the slots
+ *     before it lends. If they are too many for 36 sections, it lends one sub-frame a half minute, of
+ *     another satellite each time, until a section is accepted. If they are too many for one, it starts
+ *     anew: without a chain in force no section walks, and how far a root lies back is read before the
+ *     verdict that puts it in force (week: message[4], low half, and message[5]; hour: message[6]).
+ *
  * Byte strings have the high byte first, and bit 0 is the most significant. "Stays" means that every
  * byte is as before the call.
  */

@@ -230,3 +230,34 @@ impl Gap {
         Gap { before, section }
     }
 }
+
+/// Sections of 36 satellites in one half minute whose keys are wrong, from satellite 36 down. The first one's slot is
+/// 1,000,000 past the held key's, each other's is one less far.
+pub struct Damaged {
+    pub before: Heard,
+    pub sections: Vec<Call>,
+}
+
+impl Damaged {
+    pub fn new(who: Who) -> Damaged {
+        let mut calls = calls("gap_full");
+        let last = calls.pop().expect("a section");
+        // With the sections of the first eight satellites alone slot 8 is held. Slot 1,000,008 is satellite 36's, half a
+        // minute before the run's last section, which in the place of others has the key of another slot.
+        calls.retain(|call| call[0] != 3 || call[1] <= 8);
+        let mut before = Heard::new(who);
+        for call in &calls {
+            before.call(call);
+        }
+        let damaged = |prn| {
+            let mut section = last;
+            section[1] = prn;
+            section[2..6].copy_from_slice(&(time(&last) - 30).to_be_bytes());
+            section
+        };
+        Damaged {
+            before,
+            sections: (1..=36).rev().map(damaged).collect(),
+        }
+    }
+}

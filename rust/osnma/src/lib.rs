@@ -268,6 +268,10 @@ impl Core {
     ///
     /// A half that is refused changes no public key, chain, held key or authentic set.
     ///
+    /// The section walks one hash step for each slot from its key down to the held one, at most 1,000,000,
+    /// also where it is then refused with [`Refusal::KeyUnfit`] (`docs/INTEGRATION.md`, "Threads, room
+    /// and time").
+    ///
     /// # Refusals
     /// In this order, each in both halves, and the core is as before:
     /// - [`Refusal::OutOfRange`]: PRN not 1 to 36, or a time that is no start of a sub-frame;
