@@ -81,7 +81,8 @@ pub enum Item {
     Lost,
 }
 
-// Whether all of the n bits from bit `at` of the section on came: a field brings 32 of them.
+// Whether all of the n bits from bit `at` of the section on came: a field brings 32 of them, so the marks from the first bit's field to the last bit's
+// must all be 1.
 pub fn bits_came(marks: u16, at: usize, n: usize) -> bool
     requires { ⌜ at + n ≤ 480 ⌝ }
     ensures { λ r. ⌜ r ≡ bitsCame marks at n ⌝ }
@@ -89,14 +90,10 @@ pub fn bits_came(marks: u16, at: usize, n: usize) -> bool
     if n == 0 {
         return true;
     }
-    let mut k: usize = at / 32;
-    while 32 * k < at + n {
-        if !field_came(marks, k) {
-            return false;
-        }
-        k += 1;
-    }
-    true
+    let last = (at + n - 1) / 32;
+    let one: u16 = 1;
+    let whole = one << (last - at / 32 + 1);
+    (marks >> (15 - last)) % whole == whole - 1
 }
 
 // The number in the n bits from bit `at` on, if all of them came.
