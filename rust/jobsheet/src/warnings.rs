@@ -286,14 +286,14 @@ fn pages_lost(run: &Run, clock: Clock) -> Option<Warning> {
     Some(Warning::new(
         Grade::Note,
         format!(
-            "Reception was broken in {} of {} half minutes of satellites.",
+            "Reception was broken in {} of {} half minutes, counted for each satellite.",
             lost.count, run.counts.0
         ),
         format!(
             "Ordinary under trees. What came was used{}. {}, {}.",
             match sections.map(|sum| sum.count).sum() {
                 0 => String::new(),
-                n => format!("; of {n} the part with the tags could not be"),
+                n => format!("; in {n} of them the tags could not be"),
             },
             capital(which(run, &lost.prns)),
             span(clock, lost.span)
