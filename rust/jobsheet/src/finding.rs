@@ -233,7 +233,7 @@ fn withdrawn(run: &Run, clock: Clock) -> Option<Finding> {
                 "THE SYSTEM WITHDREW ITS KEYS{}, and no new ones came.",
                 since(event)
             ),
-            "do not rely on older marks. Leave the receiver on until new keys are in force.",
+            "do not rely on older marks. Leave the receiver on until new keys are in force.".into(),
         ),
         Some(new) => (
             format!(
@@ -241,8 +241,7 @@ fn withdrawn(run: &Run, clock: Clock) -> Option<Finding> {
                 since(event),
                 since(new)
             ),
-            "before you spray, see that the first row below ends with the satellites that the boom \
-             needs.",
+            format!("before you spray, see that the first row below ends with {NEEDED} or more."),
         ),
     };
     text.push(boom(run, clock));

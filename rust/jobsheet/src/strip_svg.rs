@@ -23,7 +23,7 @@ const CHECK: f64 = 1900.0;
 /// Cells at the end of a strip in which its satellite is not heard, so that it is said.
 const SILENT: usize = 4;
 /// For all strips of a drawing, at the most.
-const ALL_ROWS: f64 = 1310.0;
+const ALL_ROWS: f64 = 1265.0;
 
 /// Heights in a strip: all of it, what is over the cells, and the cells.
 #[derive(Clone, Copy)]
@@ -353,7 +353,7 @@ impl Row<'_> {
         }
     }
 
-    /// Over the cells from which on the satellite is not heard any more, where there is room.
+    /// Over the cells from which on a marked satellite is not heard any more, where there is room.
     fn silent(&self, out: &mut String) {
         const ROOM: f64 = 140.0;
         let cells = &self.strip.cells;
@@ -364,7 +364,8 @@ impl Row<'_> {
             .count();
         let from = cells.len() - silent;
         let is_label = |(cell, x): (&Cell, &f64)| cell.marked.map(|_| *x);
-        if silent < SILENT || from == 0 || !self.range.contains(&from) {
+        let is_marked = self.strip.at_end.is_some();
+        if !is_marked || silent < SILENT || !self.range.contains(&from) {
             return;
         }
         let x = self.columns.x[from - self.range.start];

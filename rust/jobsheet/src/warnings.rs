@@ -270,7 +270,10 @@ fn silent(run: &Run, clock: Clock) -> Option<Warning> {
         Warning::new(
             Grade::Note,
             format!("Not heard to the end: {told}."),
-            "Tags that others send still judge the data heard before.",
+            match run.vouched.keys {
+                Keys::InForce => "Tags that others send still judge the data heard before.",
+                Keys::NotYet | Keys::Withdrawn => "",
+            },
         )
     })
 }

@@ -201,6 +201,7 @@ fn findings() {
             "THE SYSTEM WITHDREW ITS KEYS at 2017-10-20 00:02:00. New ones were taken at 2017-10-20 00:04:30.",
             "3 satellites with data, all marked. E01 to E08 sent none.",
             "At no time did 4 satellites have a mark of the last 5 minutes; the boom needs 4.",
+            "Do: before you spray, see that the first row below ends with 4 or more.",
         ],
     );
     let fitter = records("fitter");
@@ -563,6 +564,12 @@ fn silent_satellite() {
         (1, [[1; 10].as_slice(), &[0; 50]].concat())
     );
     let titles: Vec<&str> = run.front.iter().map(|w| w.title.as_str()).collect();
+    // The strip says it where the line under its cells ends.
+    let page = html::page(&sheet);
+    let (_, strip) = page.split_once("data-strip=\"E01\"").unwrap();
+    let (strip, others) = strip.split_once("</g>").unwrap();
+    assert!(strip.contains("class=\"silent\" font-size=\"20\">not heard</text>"));
+    assert!(!others.contains("class=\"silent\""));
     let note = "Not heard to the end: E01 since 00:04:30.";
     assert!(titles.contains(&note), "{titles:?}");
     let text = text::sheet(&sheet);

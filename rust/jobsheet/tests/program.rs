@@ -5,7 +5,7 @@ mod common;
 use common::{history, recording, rows};
 use jobsheet::sheet::Sheet;
 use jobsheet::{html, text};
-use std::fs;
+use std::fs::{self, File};
 use std::os::unix::fs::{lchown, symlink, FileTypeExt, MetadataExt, PermissionsExt};
 use std::os::unix::process::CommandExt;
 use std::path::{Path, PathBuf};
@@ -350,6 +350,41 @@ fn closed_pipe() {
             .stderr(writer);
         assert_eq!(command.status().unwrap().code(), Some(2));
     }
+}
+
+// Memory does not grow with the recording: in an address space of 32 MB, 100 MB of records of no kind,
+// and 5,000 half minutes of 36 satellites that send zeros, of which a page of all would be larger.
+#[test]
+fn bounded_memory() {
+    let folder = folder("memory");
+    let start = &recording("nominal")[..256];
+    fs::write(folder.join("zeros.rec"), start).unwrap();
+    let zeros = File::options().append(true).open(folder.join("zeros.rec"));
+    zeros.unwrap().set_len(400_001 * 256).unwrap();
+    let subframe = |n: u32| {
+        let time = (947 << 20 | n / 36 * 30).to_be_bytes();
+        let mut record = [0; 256];
+        record[..2].copy_from_slice(&[3, (n % 36) as u8 + 1]);
+        record[2..6].copy_from_slice(&time);
+        record
+    };
+    let subframes = (0..5_000 * 36).flat_map(subframe);
+    let all: Vec<u8> = start.iter().copied().chain(subframes).collect();
+    fs::write(folder.join("many.rec"), all).unwrap();
+    for name in ["zeros", "many"] {
+        let mut command = Command::new("sh");
+        command.args(["-c", "ulimit -v 32768 && exec \"$0\" \"$1\""]);
+        command.arg(env!("CARGO_BIN_EXE_jobsheet"));
+        let output = command
+            .current_dir(&folder)
+            .arg(format!("{name}.rec"))
+            .output()
+            .unwrap();
+        assert!(output.status.success(), "{name}: {output:?}");
+        let page = fs::read_to_string(folder.join(format!("{name}.html"))).unwrap();
+        assert!(page.ends_with("</html>\n"), "{name}");
+    }
+    fs::remove_dir_all(&folder).unwrap();
 }
 
 #[test]

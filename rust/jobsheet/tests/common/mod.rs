@@ -210,21 +210,24 @@ pub struct OneRun {
     pub text: String,
 }
 
-/// The runs of all recordings that have a sheet.
-pub fn runs() -> impl Iterator<Item = OneRun> {
-    shown().flat_map(|(name, bytes, all)| {
-        (0..all.runs.len()).map(move |run| {
-            let (page, text) = run_page(name, all, run);
-            OneRun {
-                name,
-                lines: lines_of_run(name, all, run),
-                records: of_run(bytes, all, run),
-                sheet: sheet_of(name, all, run).runs.remove(0),
-                page,
-                text,
-            }
-        })
-    })
+/// The runs of all recordings that have a sheet, made once.
+pub fn runs() -> &'static [OneRun] {
+    static ALL: OnceLock<Vec<OneRun>> = OnceLock::new();
+    let one = |(name, bytes, all, run): (&'static str, &'static [u8], &'static History, usize)| {
+        let (page, text) = run_page(name, all, run);
+        OneRun {
+            name,
+            lines: lines_of_run(name, all, run),
+            records: of_run(bytes, all, run),
+            sheet: sheet_of(name, all, run).runs.remove(0),
+            page,
+            text,
+        }
+    };
+    let each = |(name, bytes, all): (&'static str, &'static [u8], &'static History)| {
+        (0..all.runs.len()).map(move |run| (name, bytes, all, run))
+    };
+    ALL.get_or_init(|| shown().flat_map(each).map(one).collect())
 }
 
 /// The time of a sub-frame's or word's record.

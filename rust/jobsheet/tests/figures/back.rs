@@ -326,7 +326,7 @@ impl Heard {
             .split(|stretch| stretch.2)
             .filter_map(length)
             .max();
-        Some((unproved().next()?.0, unproved().last()?.1, longest?))
+        Some((unproved().next()?.0, unproved().next_back()?.1, longest?))
     }
 }
 
@@ -337,13 +337,22 @@ struct Changed {
     tags: Vec<(u32, u8, u8, u8)>,
 }
 
-/// The data of each satellite, and the changes of it under waiting tags.
-type Changes = BTreeMap<u8, BTreeMap<Gst, Changed>>;
+/// What is heard in a run.
+#[derive(Default)]
+struct AllHeard {
+    satellites: BTreeMap<u8, Heard>,
+    /// Changes of data under waiting tags, by satellite and half minute.
+    changes: BTreeMap<u8, BTreeMap<Gst, Changed>>,
+    /// Each tag's satellite, last outcome and IODnav.
+    tags: ByTag<(u8, u8, u16)>,
+}
 
-fn data(lines: &[Line], run: &[u8]) -> (BTreeMap<u8, Heard>, Changes, ByTag<(u8, u8, u16)>) {
-    let mut heard: BTreeMap<u8, Heard> = BTreeMap::new();
-    let mut changes = Changes::new();
-    let mut tags: ByTag<(u8, u8, u16)> = BTreeMap::new();
+fn heard(lines: &[Line], run: &[u8]) -> AllHeard {
+    let AllHeard {
+        mut satellites,
+        mut changes,
+        mut tags,
+    } = AllHeard::default();
     let mut came: ByTag<usize> = BTreeMap::new();
     for (line, record) in lines.iter().zip(run.chunks_exact(RECORD_LEN)) {
         for t in &line.tags {
@@ -354,7 +363,7 @@ fn data(lines: &[Line], run: &[u8]) -> (BTreeMap<u8, Heard>, Changes, ByTag<(u8,
                 t[5],
             );
             tags.insert(name, (t[2], t[0], u16::from_be_bytes([t[6], t[7]])));
-            let heard = heard.entry(t[2]).or_default();
+            let heard = satellites.entry(t[2]).or_default();
             let stretch = *came.entry(name).or_insert(heard.stretches.len());
             if let (1, Some(now)) = (t[0], stretch.checked_sub(1)) {
                 heard.stretches[now].2 = true;
@@ -364,7 +373,7 @@ fn data(lines: &[Line], run: &[u8]) -> (BTreeMap<u8, Heard>, Changes, ByTag<(u8,
             Record::Word { prn, time, word }
                 if line.first == 0 && (1..=5).contains(&(word[0] >> 2)) =>
             {
-                let heard = heard.entry(prn).or_default();
+                let heard = satellites.entry(prn).or_default();
                 let from = heard.iodnav();
                 let changed = heard.word(time, &word);
                 let waiting = tags.iter().filter(|(_, tag)| (tag.0, tag.1) == (prn, 5));
@@ -381,11 +390,15 @@ fn data(lines: &[Line], run: &[u8]) -> (BTreeMap<u8, Heard>, Changes, ByTag<(u8,
         }
     }
     changes.retain(|_, of| !of.is_empty());
-    (heard, changes, tags)
+    AllHeard {
+        satellites,
+        changes,
+        tags,
+    }
 }
 
 /// The rows of the table of changes.
-fn rows(changes: &Changes, tags: &ByTag<(u8, u8, u16)>, clock: Clock) -> Vec<[String; 3]> {
+fn rows(all: &AllHeard, clock: Clock) -> Vec<[String; 3]> {
     let when = |(at, change): (&Gst, &Changed)| {
         format!("{} ({} to {})", clock.say(*at), change.from, change.to)
     };
@@ -394,7 +407,7 @@ fn rows(changes: &Changes, tags: &ByTag<(u8, u8, u16)>, clock: Clock) -> Vec<[St
             change
                 .tags
                 .iter()
-                .map(|name| tags[name])
+                .map(|name| all.tags[name])
                 .filter(move |tag| tag.1 == outcome)
         };
         let issues = |outcome| {
@@ -419,7 +432,7 @@ fn rows(changes: &Changes, tags: &ByTag<(u8, u8, u16)>, clock: Clock) -> Vec<[St
             Vec::from_iter(of.values().map(then)).join("\n"),
         ]
     };
-    changes.iter().map(row).collect()
+    all.changes.iter().map(row).collect()
 }
 
 // Data that changed while slow tags waited, where no chain or root gives tags up.
@@ -431,7 +444,7 @@ fn changes_under_waiting_tags() {
         let (_, lines, _) = second(&bytes);
         let all = history(&bytes);
         let shown = &sheet_of(name, &all, 0).runs[0];
-        let (_, changes, tags) = data(&lines, &bytes);
+        let right = heard(&lines, &bytes);
         let table = shown
             .back
             .iter()
@@ -441,7 +454,7 @@ fn changes_under_waiting_tags() {
             .iter()
             .map(|row| [0, 1, 2].map(|n| row[n].clone()))
             .collect();
-        assert_eq!(told, rows(&changes, &tags, shown.clock), "{name}");
+        assert_eq!(told, rows(&right, shown.clock), "{name}");
         seen += told.len();
     }
     assert!(seen > 5, "{seen}");
@@ -454,7 +467,7 @@ fn data_without_proof() {
     for run in runs() {
         let (name, shown) = (run.name, &run.sheet);
         let (title, text) = (&shown.finding.title, shown.finding.text.join(" "));
-        let (heard, _, _) = data(run.lines, run.records);
+        let heard = heard(run.lines, run.records).satellites;
         let unproved = heard.values().filter_map(Heard::unproved);
         let spans: BTreeSet<(Gst, Gst)> = unproved
             .clone()

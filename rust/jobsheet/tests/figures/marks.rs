@@ -138,8 +138,8 @@ fn head_and_strips() {
 
             let sets = right.get(&strip.prn).cloned().unwrap_or_default();
             let of = |times: &Vec<u32>| {
-                let here = sets.iter().filter(|set| times.contains(&set.0.bits()));
-                here.last().map(|set| set.1)
+                let mut here = sets.iter().filter(|set| times.contains(&set.0.bits()));
+                here.next_back().map(|set| set.1)
             };
             let begins: Vec<Option<u16>> = cells.iter().map(of).collect();
             let marked: Vec<Option<u16>> = strip.cells.iter().map(|cell| cell.marked).collect();
