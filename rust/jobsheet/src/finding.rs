@@ -3,10 +3,11 @@
 use crate::boom::{LIMITS, NEEDED};
 use crate::data::{Data, Unproved};
 use crate::history::{Event, Mark, Run, What, WrongTags};
+use crate::refused::Part;
 use crate::time::{self, Clock, SUBFRAME};
 use crate::vouched::Keys;
 use crate::words::{capital, count, issues, satellites, which};
-use osnma::Gst;
+use osnma::{Gst, Refusal};
 use std::collections::{BTreeMap, BTreeSet};
 
 /// Seconds after which a satellite that is not heard is called silent.
@@ -175,6 +176,12 @@ fn where_from(run: &Run) -> &'static str {
     }
 }
 
+/// Whether every sub-frame had zeros in place of authentication fields.
+fn only_zeros(run: &Run) -> bool {
+    let zeros = run.refused.of(Part::Subframe, Refusal::AllZero);
+    run.counts.0 > 0 && zeros.map(|sum| sum.count).sum::<u64>() == run.counts.0
+}
+
 fn no_keys(run: &Run, clock: Clock) -> Option<Finding> {
     if run.vouched.keys != Keys::NotYet {
         return None;
@@ -196,6 +203,10 @@ fn no_keys(run: &Run, clock: Clock) -> Option<Finding> {
                 clock.say(since)
             ),
             "check the signature chip and its wiring. Without its yes no key is taken.",
+        ),
+        (None, None) if only_zeros(run) => (
+            "the satellites heard sent no keys and no tags.".into(),
+            "check the receiver's Galileo setting. If it is right, the system sends none now.",
         ),
         (None, None) => (
             "the system's keys were not heard whole.".into(),

@@ -3,7 +3,7 @@
 use crate::finding::Finding;
 use crate::phone;
 use crate::sheet::{EventLine, MarkedSet, RunSheet, Sheet, RESTS_ON};
-use crate::strip_svg::{sign, strips, SIGNS};
+use crate::strip_svg::{sign, strips, DETAIL_ROWS, FRONT_ROWS, SIGNS};
 use crate::time::Clock;
 use crate::timeline::{Cell, Said};
 use crate::warnings::{Grade, Table, Warning};
@@ -49,7 +49,7 @@ pub fn page(sheet: &Sheet) -> String {
                 "<section class=\"detail\">\n<h2>What was authentic when <span>a cell is {}</span></h2>",
                 detail.cell_told()
             );
-            strips(&mut out, run, detail);
+            strips(&mut out, run, detail, DETAIL_ROWS);
             out.push_str("</section>\n");
         }
         back(&mut out, run);
@@ -112,7 +112,7 @@ fn front(out: &mut String, sheet: &Sheet, run: &RunSheet, first: bool) {
     finding(out, &run.finding, &format!("<p>{text}</p>"));
     if !run.overview.columns.is_empty() {
         out.push_str("<section class=\"when\">\n<h2>What was authentic when</h2>\n");
-        strips(out, run, &run.overview);
+        strips(out, run, &run.overview, FRONT_ROWS);
         legend(out, run);
         out.push_str("</section>\n");
     }

@@ -22,8 +22,10 @@ const ISSUE: f64 = 1676.0;
 const CHECK: f64 = 1900.0;
 /// Cells at the end of a strip in which its satellite is not heard, so that it is said.
 const SILENT: usize = 4;
-/// For all strips of a drawing, at the most.
-const ALL_ROWS: f64 = 1265.0;
+/// For all strips of the front's drawing, at the most: with 36 the rest of the front has room.
+pub const FRONT_ROWS: f64 = 1265.0;
+/// For those of a drawing behind it: two drawings a page.
+pub const DETAIL_ROWS: f64 = 1110.0;
 
 /// Heights in a strip: all of it, what is over the cells, and the cells.
 #[derive(Clone, Copy)]
@@ -34,9 +36,9 @@ struct Heights {
 }
 
 impl Heights {
-    /// With many strips each is lower, so that all stand on one page.
-    fn of(strips: usize) -> Heights {
-        let row = (ALL_ROWS / strips.max(1) as f64).min(60.0);
+    /// With many strips each is lower, so that all stand within `most`.
+    fn of(strips: usize, most: f64) -> Heights {
+        let row = (most / strips.max(1) as f64).min(60.0);
         Heights {
             row,
             over: row * 0.43,
@@ -49,6 +51,11 @@ impl Heights {
     /// The size of what stands over the cells.
     fn label(self) -> f64 {
         (self.row * 0.42).min(20.0)
+    }
+
+    /// The size of what stands beside them.
+    fn name(self) -> f64 {
+        (self.row * 0.62).min(29.0)
     }
 }
 
@@ -164,17 +171,17 @@ impl Columns<'_> {
     }
 }
 
-/// Strips of a run, sixty columns a drawing.
-pub fn strips(out: &mut String, run: &RunSheet, strips: &Strips) {
+/// Strips of a run, sixty columns a drawing, each drawing's within `most`.
+pub fn strips(out: &mut String, run: &RunSheet, strips: &Strips, most: f64) {
+    let heights = Heights::of(strips.rows.len(), most);
     for from in (0..strips.columns.len()).step_by(COLUMNS) {
         let to = (from + COLUMNS).min(strips.columns.len());
-        panel(out, run.clock, strips, from..to);
+        panel(out, run.clock, strips, from..to, heights);
     }
 }
 
-fn panel(out: &mut String, clock: Clock, strips: &Strips, range: Range<usize>) {
+fn panel(out: &mut String, clock: Clock, strips: &Strips, range: Range<usize>, heights: Heights) {
     let columns = Columns::of(&strips.columns[range.clone()], strips.step);
-    let heights = Heights::of(strips.rows.len());
     let last = range.end == strips.columns.len();
     let top = LATELY * LIMITS.len() as f64 + AXIS;
     let height = top + heights.row * strips.rows.len() as f64 + 4.0;
@@ -285,10 +292,10 @@ impl Row<'_> {
     }
 
     fn draw(&self, out: &mut String, clock: Clock, last: bool) {
-        let Heights { row, over, cell } = self.heights;
+        let Heights { over, cell, .. } = self.heights;
         let base = self.y + over + cell - 3.0;
         let prn = self.strip.prn;
-        let size = (row * 0.5).min(29.0);
+        let size = self.heights.name();
         let _ = writeln!(
             out,
             "<g data-strip=\"E{prn:02}\"><text x=\"0\" y=\"{base:.1}\" class=\"name\" font-size=\"{size:.0}\">E{prn:02}</text>",

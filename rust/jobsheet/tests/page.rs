@@ -217,6 +217,18 @@ fn findings() {
         &boxes(&zeros),
         &["NOTHING WAS HEARD. The receiver was started, but all that came was refused (2 parts)"],
     );
+    // Satellites without authentication fields.
+    let zero = |record: &Vec<u8>| {
+        let mut record = record.clone();
+        if record[0] == 3 {
+            record[6..81].fill(0);
+        }
+        record
+    };
+    says(
+        &boxes(&Vec::from_iter(fitter.iter().take(200).flat_map(zero))),
+        &["NOTHING WAS JUDGED: the satellites heard sent no keys and no tags."],
+    );
     // A chip that never answers, and one that says no.
     let without: Vec<u8> = fitter
         .iter()

@@ -362,7 +362,7 @@ fn bounded_memory() {
     let zeros = File::options().append(true).open(folder.join("zeros.rec"));
     zeros.unwrap().set_len(400_001 * 256).unwrap();
     let subframe = |n: u32| {
-        let time = (947 << 20 | n / 36 * 30).to_be_bytes();
+        let time = ((947 << 20) | (n / 36 * 30)).to_be_bytes();
         let mut record = [0; 256];
         record[..2].copy_from_slice(&[3, (n % 36) as u8 + 1]);
         record[2..6].copy_from_slice(&time);
