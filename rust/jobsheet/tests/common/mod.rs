@@ -25,7 +25,10 @@ fn built() -> Vec<(String, Vec<u8>)> {
     let random = (0..24).map(|seed| (format!("random {seed}"), scenario::random(seed).bytes));
     named
         .chain(random)
-        .chain([("few heard".to_string(), few_heard())])
+        .chain([
+            ("few heard".to_string(), few_heard()),
+            ("spoiled word".to_string(), spoiled_word()),
+        ])
         .map(|(name, mut bytes)| {
             bytes.truncate(bytes.len() / RECORD_LEN * RECORD_LEN);
             (name, bytes)
@@ -44,6 +47,19 @@ pub fn few_heard() -> Vec<u8> {
     let heard = |r: &&[u8]| ![2, 3].contains(&r[0]) || [25, 31, 36].contains(&r[1]);
     let kept = records().filter(|r| heard(r) || time(r) < fifth);
     kept.flatten().copied().collect()
+}
+
+/// Twelve minutes in which, from the fourth on, a repeater spoils one word of satellite 9: its data can be
+/// compared with nothing, so that no tag is wrong.
+pub fn spoiled_word() -> Vec<u8> {
+    let mut bytes = recording("nominal");
+    let from = bytes.len() / RECORD_LEN / 3;
+    for record in bytes.chunks_exact_mut(RECORD_LEN).skip(from) {
+        if record[..2] == [2, 9] && record[6] >> 2 == 1 {
+            record[7] ^= 0x55;
+        }
+    }
+    bytes
 }
 
 /// Them all, built once.
