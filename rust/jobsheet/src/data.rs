@@ -38,6 +38,8 @@ impl Words {
 pub struct Stretch {
     /// The half minute of its first word.
     pub from: Gst,
+    /// That of its last.
+    last: Gst,
     /// Whether all five words are there.
     pub whole: bool,
     /// IODnav of words 1 to 4; none where they differ or lack.
@@ -58,11 +60,6 @@ impl Stretch {
         self.matched > 0 && self.wrong > 0 && !self.is_disputed()
     }
 
-    /// Whether no tag matched it, though it could be compared.
-    fn is_unjudged(&self) -> bool {
-        self.whole && self.iodnav.is_some() && self.matched == 0
-    }
-
     /// Whether tags both matched it and did not, so that the match may be by chance: one came with
     /// or after a wrong one, or too few came before it.
     pub fn is_disputed(&self) -> bool {
@@ -70,6 +67,32 @@ impl Stretch {
         const FEW: u64 = 4;
         let between = self.last_match.zip(self.first_wrong);
         between.is_some_and(|(last, first)| last >= first || self.matched < FEW)
+    }
+}
+
+/// Data that no tag matched: there was none for it, or it could not be compared.
+#[derive(Clone, Copy, Debug, Default, PartialEq, Eq)]
+pub struct Unproved {
+    /// The first half minute in which it came, and the last.
+    pub span: Option<(Gst, Gst)>,
+    /// Seconds of the longest time in which nothing else came.
+    pub longest: u64,
+    /// Since when nothing else has come.
+    since: Option<Gst>,
+}
+
+impl Unproved {
+    /// Takes in the next stretch.
+    fn add(&mut self, stretch: &Stretch) {
+        if stretch.matched > 0 {
+            self.since = None;
+            return;
+        }
+        let since = *self.since.get_or_insert(stretch.from);
+        let (first, _) = self.span.unwrap_or((stretch.from, stretch.last));
+        self.span = Some((first, stretch.last));
+        let seconds = time::seconds(stretch.last).saturating_sub(time::seconds(since));
+        self.longest = self.longest.max(seconds);
     }
 }
 
@@ -98,7 +121,7 @@ pub struct Data {
 struct Before {
     disputed: bool,
     older: bool,
-    unjudged: Option<Gst>,
+    unproved: Unproved,
 }
 
 impl Data {
@@ -122,6 +145,7 @@ impl Data {
             self.begin(at);
         }
         if let Some(now) = self.stretches.back_mut() {
+            now.last = at;
             now.iodnav = to;
             now.whole = self.words.0.iter().all(Option::is_some);
         }
@@ -134,6 +158,7 @@ impl Data {
         }
         self.stretches.push_back(Stretch {
             from,
+            last: from,
             whole: false,
             iodnav: None,
             matched: 0,
@@ -148,8 +173,7 @@ impl Data {
             self.left_out += 1;
             self.before.disputed |= stretch.is_disputed();
             self.before.older |= stretch.is_older();
-            let unjudged = stretch.is_unjudged().then_some(stretch.from);
-            self.before.unjudged = unjudged.or(self.before.unjudged);
+            self.before.unproved.add(&stretch);
         }
     }
 
@@ -163,10 +187,11 @@ impl Data {
         self.before.older || self.stretches.iter().any(Stretch::is_older)
     }
 
-    /// When the last of it came that no tag matched, though it could be compared.
-    pub fn unjudged(&self) -> Option<Gst> {
-        let last = self.stretches.iter().rfind(|stretch| stretch.is_unjudged());
-        last.map(|stretch| stretch.from).or(self.before.unjudged)
+    /// What of it no tag matched.
+    pub fn unproved(&self) -> Unproved {
+        let mut all = self.before.unproved;
+        self.stretches.iter().for_each(|stretch| all.add(stretch));
+        all
     }
 
     /// The number of the present stretch, from 1; 0 where no word came.
@@ -290,6 +315,33 @@ mod tests {
         assert_eq!(judged(&[(1, true), (2, false), (3, false)]), (true, false));
     }
 
+    // Words that do not go together can be compared with nothing, however often they change.
+    #[test]
+    fn unproved() {
+        let mut data = Data::default();
+        assert_eq!(data.unproved(), Unproved::default());
+        all(&mut data, 0, 66);
+        data.judge(1, gst(1), true);
+        all(&mut data, 1, 66);
+        assert_eq!(data.unproved().span, None);
+        for at in 2..9 {
+            data.word(gst(at), &word(1, at as u16, 0));
+        }
+        let unproved = data.unproved();
+        assert_eq!(
+            (unproved.span, unproved.longest),
+            (Some((gst(2), gst(8))), 180)
+        );
+        all(&mut data, 9, 66);
+        data.judge(data.now(), gst(10), true);
+        data.word(gst(10), &word(1, 70, 0));
+        let unproved = data.unproved();
+        assert_eq!(
+            (unproved.span, unproved.longest),
+            (Some((gst(2), gst(10))), 180)
+        );
+    }
+
     #[test]
     fn old() {
         let mut data = Data::default();
@@ -306,9 +358,10 @@ mod tests {
             all(&mut data, n, n as u16 % 1_024);
         }
         assert_eq!((data.now(), data.stretches().count()), (1_000, STRETCHES));
-        assert_eq!(data.unjudged(), Some(gst(999)));
+        let unproved = |data: &Data| (data.unproved().span, data.unproved().longest);
+        assert_eq!(unproved(&data), (Some((gst(0), gst(999))), 999 * 30));
         data.judge(1_000, gst(1_000), true);
-        assert_eq!(data.unjudged(), Some(gst(998)));
+        assert_eq!(unproved(&data), (Some((gst(0), gst(998))), 998 * 30));
         assert!(!data.is_disputed());
         // A match of data that is no more kept: others may have called it wrong.
         assert_eq!(data.judge(3, gst(1_000), true), None);

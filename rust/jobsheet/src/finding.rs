@@ -1,12 +1,13 @@
 //! What a run comes to, in a few plain sentences: read first, and without the papers.
 
 use crate::boom::{LIMITS, NEEDED};
-use crate::data::Data;
+use crate::data::{Data, Unproved};
 use crate::history::{Event, Mark, Run, What, WrongTags};
+use crate::refused::Part;
 use crate::time::{self, Clock, SUBFRAME};
 use crate::vouched::Keys;
 use crate::words::{capital, count, issues, satellites, which};
-use osnma::Gst;
+use osnma::{Gst, Refusal};
 use std::collections::{BTreeMap, BTreeSet};
 
 /// Seconds after which a satellite that is not heard is called silent.
@@ -49,10 +50,18 @@ pub fn of(run: &Run, clock: Clock) -> Finding {
 }
 
 fn nothing_heard(run: &Run) -> Option<Finding> {
+    let refused = run.refused.all().map(|sum| sum.count).sum();
     run.heard.is_empty().then(|| {
         Finding::bad(
             "NOTHING WAS HEARD.".into(),
-            vec!["The receiver was started, but no satellite's data came.".into()],
+            vec![match refused {
+                0 => "The receiver was started, but no satellite's data came.".into(),
+                n => format!(
+                    "The receiver was started, but all that came was refused ({}): the reasons stand \
+                     on the back.",
+                    count(n, "part")
+                ),
+            }],
             "check the antenna, its cable and the receiver's Galileo setting, then record again.",
         )
     })
@@ -157,14 +166,20 @@ fn where_from(run: &Run) -> &'static str {
     });
     match (run.wrong.len(), other_issue.count()) {
         (2.., 2..) => {
-            "keep the recording. Several satellites with data of another issue point to a repeater \
-             or a forged signal near the field: find it before you spray there."
+            "keep the recording. Wrong data for several satellites at once points to a repeater or a \
+             forged signal near the field: find it before you spray there."
         }
         _ => {
             "keep the recording. If it is one satellite or comes with bad reception, look at the \
              antenna; if it comes back in the same place, look for a repeater near the field."
         }
     }
+}
+
+/// Whether every sub-frame had zeros in place of authentication fields.
+fn only_zeros(run: &Run) -> bool {
+    let zeros = run.refused.of(Part::Subframe, Refusal::AllZero);
+    run.counts.0 > 0 && zeros.map(|sum| sum.count).sum::<u64>() == run.counts.0
 }
 
 fn no_keys(run: &Run, clock: Clock) -> Option<Finding> {
@@ -188,6 +203,10 @@ fn no_keys(run: &Run, clock: Clock) -> Option<Finding> {
                 clock.say(since)
             ),
             "check the signature chip and its wiring. Without its yes no key is taken.",
+        ),
+        (None, None) if only_zeros(run) => (
+            "the satellites heard sent no keys and no tags.".into(),
+            "check the receiver's Galileo setting. If it is right, the system sends none now.",
         ),
         (None, None) => (
             "the system's keys were not heard whole.".into(),
@@ -225,7 +244,7 @@ fn withdrawn(run: &Run, clock: Clock) -> Option<Finding> {
                 "THE SYSTEM WITHDREW ITS KEYS{}, and no new ones came.",
                 since(event)
             ),
-            "do not rely on older marks. Leave the receiver on until new keys are in force.",
+            "do not rely on older marks. Leave the receiver on until new keys are in force.".into(),
         ),
         Some(new) => (
             format!(
@@ -233,7 +252,7 @@ fn withdrawn(run: &Run, clock: Clock) -> Option<Finding> {
                 since(event),
                 since(new)
             ),
-            "nothing, if the satellites that you need are marked again.",
+            format!("before you spray, see that the first row below ends with {NEEDED} or more."),
         ),
     };
     text.push(boom(run, clock));
@@ -277,60 +296,72 @@ pub fn unmarked(run: &Run) -> BTreeSet<u8> {
     unmarked.copied().collect()
 }
 
+/// Satellites with data that no tag matched, of these satellites, and when it came.
+fn unproved(run: &Run, of: impl Fn(u8, &Unproved) -> bool, clock: Clock) -> Option<String> {
+    const MOST: usize = 3;
+    let mut by_span: BTreeMap<(Gst, Gst), BTreeSet<u8>> = BTreeMap::new();
+    for (prn, data) in &run.data {
+        let unproved = data.unproved();
+        if let Some(span) = unproved.span.filter(|_| of(*prn, &unproved)) {
+            by_span.entry(span).or_default().insert(*prn);
+        }
+    }
+    let told = |((first, last), prns): (&(Gst, Gst), &BTreeSet<u8>)| {
+        format!("{} {}", which(run, prns), clock.span(*first, *last))
+    };
+    let some = Vec::from_iter(by_span.iter().rev().take(MOST).map(told)).join("; ");
+    let others = match by_span.len() > MOST {
+        true => "; and others",
+        false => "",
+    };
+    (!by_span.is_empty()).then(|| format!("No tag has judged data that came for {some}{others}."))
+}
+
+/// Whether data came for longer than a mark may be old without a tag that matched it.
+fn is_long(unproved: &Unproved) -> bool {
+    unproved.longest > LIMITS[0] * SUBFRAME
+}
+
 fn not_proved(run: &Run, clock: Clock) -> Option<Finding> {
-    let unmarked = unmarked(run);
-    let mut text = vec![boom(run, clock)];
     let to_do =
         "leave the receiver on for some minutes more. If it stays so, look at its reception.";
     if run.data.is_empty() {
         let title = "NO ORBIT DATA WAS HEARD: there was nothing to judge.";
         return Some(Finding::bad(title.into(), Vec::new(), to_do));
     }
+    let unmarked = unmarked(run);
+    let long = run
+        .data
+        .iter()
+        .filter(|(_, data)| is_long(&data.unproved()));
+    let prns: BTreeSet<u8> = long.map(|(prn, _)| *prn).chain(unmarked.clone()).collect();
     let title = match run.marked.len() {
         0 => "NO DATA WAS PROVED.".into(),
-        n => format!(
-            "NOT ALL DATA WAS PROVED: {n} of {} marked.",
-            count(run.data.len() as u64, "satellite")
+        _ => format!(
+            "NOT ALL DATA WAS PROVED for {} of {} ({}).",
+            prns.len(),
+            count(run.heard.len() as u64, "satellite"),
+            satellites(&prns)
         ),
     };
-    text.insert(
-        0,
-        format!(
+    let mut text = Vec::new();
+    if !unmarked.is_empty() {
+        text.push(format!(
             "No tag has shown the data of {} to be authentic; none has shown it to be wrong.",
             which(run, &unmarked)
-        ),
-    );
-    (!unmarked.is_empty()).then(|| Finding::bad(title, text, to_do))
-}
-
-/// Satellites with data that no tag judged, by the half minute in which the last of it came.
-fn unjudged(run: &Run) -> BTreeMap<Gst, BTreeSet<u8>> {
-    let mut all: BTreeMap<Gst, BTreeSet<u8>> = BTreeMap::new();
-    for (prn, data) in &run.data {
-        if let Some(at) = data.unjudged() {
-            all.entry(at).or_default().insert(*prn);
-        }
+        ));
     }
-    all
+    let of = |prn, unproved: &Unproved| is_long(unproved) && !unmarked.contains(&prn);
+    text.extend(unproved(run, of, clock));
+    text.push(boom(run, clock));
+    (!prns.is_empty()).then(|| Finding::bad(title, text, to_do))
 }
 
 fn authentic(run: &Run, clock: Clock) -> Finding {
-    let unjudged = unjudged(run);
-    let told =
-        |(at, prns): (&Gst, &BTreeSet<u8>)| format!("{} at {}", which(run, prns), clock.say(*at));
-    let (title, mut text) = match unjudged.len() {
-        0 => ("All data heard was authentic.", Vec::new()),
-        n => {
-            let some = unjudged.iter().rev().take(3).map(told);
-            let others = if n > 3 { "; and others" } else { "" };
-            let some = Vec::from_iter(some).join("; ");
-            (
-                "All data that was judged was authentic.",
-                vec![format!(
-                    "No tag has judged the data that came for {some}{others}."
-                )],
-            )
-        }
+    let mut text = Vec::from_iter(unproved(run, |_, _| true, clock));
+    let title = match text.is_empty() {
+        true => "All data heard was authentic.",
+        false => "All data that was judged was authentic.",
     };
     text.push(marked_told(run));
     text.push(boom(run, clock));

@@ -1,10 +1,11 @@
 //! The sheet as one page of HTML: no network, no script, prints on A4.
 
+use crate::finding::Finding;
 use crate::phone;
 use crate::sheet::{EventLine, MarkedSet, RunSheet, Sheet, RESTS_ON};
-use crate::strip_svg::{sign, strips, SIGNS};
+use crate::strip_svg::{sign, strips, DETAIL_ROWS, FRONT_ROWS, SIGNS};
 use crate::time::Clock;
-use crate::timeline::Said;
+use crate::timeline::{Cell, Said};
 use crate::warnings::{Grade, Table, Warning};
 use crate::words::count;
 use std::fmt::Write;
@@ -48,7 +49,7 @@ pub fn page(sheet: &Sheet) -> String {
                 "<section class=\"detail\">\n<h2>What was authentic when <span>a cell is {}</span></h2>",
                 detail.cell_told()
             );
-            strips(&mut out, run, detail);
+            strips(&mut out, run, detail, DETAIL_ROWS);
             out.push_str("</section>\n");
         }
         back(&mut out, run);
@@ -94,17 +95,24 @@ fn front(out: &mut String, sheet: &Sheet, run: &RunSheet, first: bool) {
         );
     }
     title(out, sheet, run);
-    if first && !sheet.remarks.is_empty() {
-        out.push_str("<ul class=\"remarks\">\n");
-        for remark in &sheet.remarks {
-            let _ = writeln!(out, "<li>{}</li>", escaped(remark));
-        }
-        out.push_str("</ul>\n");
+    if let (true, Some(before)) = (first, &sheet.before_start) {
+        let _ = writeln!(out, "<p class=\"remark\">{}</p>", escaped(before));
     }
-    finding(out, run);
+    if let (true, Some(all)) = (first, &sheet.all_parts) {
+        let lines = all
+            .text
+            .iter()
+            .map(|line| format!("<p>{}</p>", escaped(line)));
+        finding(out, all, &lines.collect::<String>());
+    }
+    if let Some((n, of)) = run.part {
+        let _ = writeln!(out, "<h2 class=\"part\">Part {n} of {of}</h2>");
+    }
+    let text = escaped(&run.finding.text.join(" "));
+    finding(out, &run.finding, &format!("<p>{text}</p>"));
     if !run.overview.columns.is_empty() {
         out.push_str("<section class=\"when\">\n<h2>What was authentic when</h2>\n");
-        strips(out, run, &run.overview);
+        strips(out, run, &run.overview, FRONT_ROWS);
         legend(out, run);
         out.push_str("</section>\n");
     }
@@ -141,16 +149,15 @@ fn title(out: &mut String, sheet: &Sheet, run: &RunSheet) {
     );
 }
 
-/// The first words: what the run comes to, in a box.
-fn finding(out: &mut String, run: &RunSheet) {
-    let finding = &run.finding;
+/// The first words: what the run comes to, in a box, with a sign that differs without colour.
+fn finding(out: &mut String, finding: &Finding, text: &str) {
     let class = if finding.good { "good" } else { "bad" };
     let _ = writeln!(
         out,
-        "<section class=\"finding {class}\">\n<p class=\"first\">{}</p>\n<p>{}</p>\n\
-         <p><b>Do:</b> {}</p>\n</section>",
+        "<section class=\"finding {class}\">\n\
+         <svg viewBox=\"0 0 40 40\" role=\"img\" aria-label=\"{class}\"><use href=\"#is{class}\"/></svg>\n\
+         <div>\n<p class=\"first\">{}</p>\n{text}\n<p><b>Do:</b> {}</p>\n</div>\n</section>",
         escaped(&finding.title),
-        escaped(&finding.text.join(" ")),
         escaped(&finding.to_do)
     );
 }
@@ -271,20 +278,30 @@ fn legend(out: &mut String, run: &RunSheet) {
     };
     let _ = writeln!(
         out,
-        "<p class=\"how\">A tag is a short code that the system sends with its data: data that it \
-         matches is the system\u{2019}s own, and is marked. A cell is {}, with what the tags said that \
-         came for that satellite{several}; a slow tag, judged five minutes later, stands where it came. \
-         The line over the cells begins when data was marked, with the issue number of that data. The line under \
-         them shows when the satellite was heard itself. Check values are for reading over the phone.\
-         </p>\n<ul class=\"legend\">",
+        "<p class=\"how\">A tag is a short code that the system sends: data that it matches is the \
+         system\u{2019}s own, and is marked. A cell is {} with what the tags for that satellite \
+         said{several}; slow tags are judged later. Over the cells: since when data is marked, with \
+         its issue number. Under them: when the satellite was heard.</p>\n<ul class=\"legend\">",
         strips.cell_told()
     );
+    let cells = || strips.rows.iter().flat_map(|strip| &strip.cells);
     for said in Said::ALL {
-        let (what, more) = said.words();
-        key(out, sign(said), what, more);
+        if cells().any(|cell| cell.said() == said) {
+            let (what, more) = said.words();
+            key(out, sign(said), what, more);
+        }
     }
-    key(out, "ownrefused", "own part refused", "tags by others");
-    key(out, "changed", "data changed", "while a slow tag waited");
+    if cells().any(Cell::has_bar) {
+        key(
+            out,
+            "ownrefused",
+            "refused",
+            "the same, but others sent tags for it",
+        );
+    }
+    if cells().any(|cell| cell.changed) {
+        key(out, "changed", "data changed", "while a slow tag waited");
+    }
     key(out, "selfheard", "heard itself", "");
     out.push_str("</ul>\n");
 }
@@ -295,9 +312,17 @@ fn marked(out: &mut String, name: &str, run: &RunSheet) {
         "<section class=\"marked\">\n<h2>Marked bytes <span>of {name}</span></h2>"
     );
     if run.marked.is_empty() {
-        out.push_str("<p>No data was marked.</p>\n</section>\n");
-        return;
+        out.push_str("<p>No data was marked.</p>\n");
+    } else {
+        marked_sets(out, run);
     }
+    out.push_str(
+        "<p class=\"handed\"><span>Job</span><span>Machine</span><span>Fitter</span>\
+         <span>Date</span></p>\n</section>\n",
+    );
+}
+
+fn marked_sets(out: &mut String, run: &RunSheet) {
     let _ = writeln!(
         out,
         "<p class=\"how\">Words 1 to 5 of the satellite: 549 bits and three zero bits, 69 bytes. \
@@ -317,10 +342,7 @@ fn marked(out: &mut String, name: &str, run: &RunSheet) {
             count(run.sets_left_out, "issue")
         );
     }
-    out.push_str(
-        "</div>\n<p class=\"handed\"><span>Job</span><span>Machine</span><span>Fitter</span>\
-         <span>Date</span></p>\n</section>\n",
-    );
+    out.push_str("</div>\n");
 }
 
 /// Hexadecimal digits in groups of three bytes, eight groups a line.

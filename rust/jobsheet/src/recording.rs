@@ -1,6 +1,7 @@
 //! Recordings as the replay program reads them: 256-byte records, no header (01, The replay
 //! program; 02, P3).
 
+use crate::words::count;
 use osnma::{Gst, Marks, Settings, FIELDS_LEN, MESSAGE_LEN, SIGNATURE_LEN, WORD_LEN};
 use portable_hash::{Sha256, DIGEST_LEN};
 use std::array::from_fn;
@@ -132,8 +133,8 @@ impl fmt::Display for Trouble {
             Trouble::Empty => write!(f, "is empty: a recording has records of 256 bytes"),
             Trouble::NoWholeRecord(Cut { place, len, .. }) => write!(
                 f,
-                "ends in the middle of record {place}: {len} bytes of {RECORD_LEN}, and no record \
-                 is whole"
+                "ends in the middle of record {place}: {} of {RECORD_LEN}, and no record is whole",
+                count(*len as u64, "byte")
             ),
             Trouble::NotARecording => write!(
                 f,

@@ -45,7 +45,7 @@ pub struct Refused {
     pub part: Part,
     /// Why.
     pub refusal: Refusal,
-    /// Whether a chain was in force; told apart for sections alone.
+    /// Whether a chain was in force; told apart for sections that ask for one alone.
     pub keys: Keys,
     /// How many.
     pub count: u64,
@@ -72,9 +72,8 @@ impl Refusals {
         at: Option<Gst>,
         place: u64,
     ) {
-        // Whether a chain was in force says something of a section alone.
-        let keys = match part {
-            Part::Section => keys,
+        let keys = match (part, refusal) {
+            (Part::Section, Refusal::NotInForce) => keys,
             _ => Keys::default(),
         };
         let group = (part, refusal.number(), keys);

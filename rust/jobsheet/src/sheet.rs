@@ -10,7 +10,7 @@ use crate::time::{Clock, Zone};
 use crate::timeline::{Cell, Timeline};
 use crate::vouched::{Root, Vouch};
 use crate::warnings::{self, Grade, Warning};
-use crate::words::{count, hex};
+use crate::words::{count, hex, parts};
 use osnma::{Gst, Outcome};
 use std::collections::BTreeSet;
 use std::sync::Arc;
@@ -170,6 +170,8 @@ pub struct EventLine {
 pub struct RunSheet {
     /// Its number among the starts and how many there were, where there were several.
     pub part: Option<(u64, u64)>,
+    /// The place of its start in the recording, from 1.
+    pub place: u64,
     /// How its times are said.
     pub clock: Clock,
     /// From when to when it was heard.
@@ -226,8 +228,10 @@ pub struct Sheet {
     pub sha256: String,
     /// Where it is cut short: in which record, and the rest of the sentence.
     pub cut: Option<(String, String)>,
-    /// Said before anything else, where there is something to say of the whole recording.
-    pub remarks: Vec<String>,
+    /// What came before the first accepted start.
+    pub before_start: Option<String>,
+    /// What the parts come to together, where there are several.
+    pub all_parts: Option<Finding>,
     /// One for each accepted start.
     pub runs: Vec<RunSheet>,
 }
@@ -236,10 +240,10 @@ impl Sheet {
     /// The sheet of what the core answered to a recording of this name, in the local time of a zone
     /// or in GST.
     pub fn of(name: &str, history: &History, zone: Option<Zone>) -> Sheet {
-        let parts = history.left_out.runs + history.runs.len() as u64;
+        let starts = history.left_out.runs + history.runs.len() as u64;
         let numbers = history.left_out.runs + 1..;
         let runs = numbers.zip(&history.runs).map(|(number, run)| RunSheet {
-            part: (parts > 1).then_some((number, parts)),
+            part: (starts > 1).then_some((number, starts)),
             ..run_sheet(run, zone)
         });
         let runs: Vec<RunSheet> = runs.collect();
@@ -258,7 +262,13 @@ impl Sheet {
                     ),
                 )
             }),
-            remarks: remarks(history, &runs),
+            before_start: (history.before_start > 0).then(|| {
+                format!(
+                    "{} came before the first accepted start and did nothing.",
+                    count(history.before_start, "record")
+                )
+            }),
+            all_parts: all_parts(history, &runs),
             runs,
         }
     }
@@ -269,56 +279,69 @@ impl Sheet {
     }
 }
 
-fn remarks(history: &History, runs: &[RunSheet]) -> Vec<String> {
-    let mut remarks = Vec::new();
-    if history.before_start > 0 {
-        remarks.push(format!(
-            "{} came before the first accepted start and did nothing.",
-            count(history.before_start, "record")
-        ));
-    }
-    let starts = history.left_out.runs + history.runs.len() as u64;
-    if starts > 1 {
-        remarks.push(format!(
-            "The receiver was started {starts} times. Each start forgets everything before it, marks \
-             too; each has a part of its own here."
-        ));
-    }
-    if history.left_out.runs > 0 {
-        let left_out = &history.left_out;
-        remarks.push(format!(
+/// What several starts come to together: said first, so that a good part does not hide a bad one.
+fn all_parts(history: &History, runs: &[RunSheet]) -> Option<Finding> {
+    let left_out = &history.left_out;
+    let starts = left_out.runs + runs.len() as u64;
+    let number = |run: &RunSheet| run.part.map_or(0, |(number, _)| number);
+    let bad: Vec<u64> = runs
+        .iter()
+        .filter(|run| !run.finding.good)
+        .map(number)
+        .collect();
+    let mut text = vec!["Each start forgets everything before it, marks too.".to_string()];
+    if left_out.runs > 0 {
+        text.push(format!(
             "Parts 1 to {} are left out: {} in them, {} of them stopped. To see them, cut the \
              recording before record {}.",
             left_out.runs,
             count(left_out.wrong_tags, "wrong tag"),
             left_out.stopped,
-            history.runs.first().map_or(0, |run| run.place)
+            runs.first().map_or(0, |run| run.place)
         ));
     }
-    remarks.extend(parts_told(runs));
-    remarks
+    text.extend(parts_told(runs));
+    let shown = match left_out.runs {
+        0 => "",
+        _ => " shown here",
+    };
+    let wrong = match bad.len() {
+        0 => format!("nothing is wrong in any part{shown}"),
+        n if n == runs.len() => format!("SOMETHING IS WRONG in every part{shown}"),
+        _ => format!("SOMETHING IS WRONG in {}", parts(&bad)),
+    };
+    (starts > 1).then(|| Finding {
+        good: bad.is_empty() && left_out.runs == 0,
+        title: format!("Started {starts} times: {wrong}."),
+        text,
+        to_do: match &bad[..] {
+            [] => "nothing. Clip this sheet to the job.".into(),
+            bad => format!("read the box of {}.", parts(bad)),
+        },
+    })
 }
 
-/// What each part comes to, where there are several: neighbours that come to the same in one line.
+/// What each part comes to: neighbours that come to the same in one line. Where there are too many
+/// lines, those of parts that are not good.
 fn parts_told(runs: &[RunSheet]) -> Vec<String> {
     const LINES: usize = 12;
-    let mut lines: Vec<(u64, u64, &str)> = Vec::new();
+    let mut lines: Vec<(u64, u64, &Finding)> = Vec::new();
     for run in runs {
-        let (Some((number, _)), title) = (run.part, run.finding.title.as_str()) else {
-            return Vec::new();
-        };
+        let (number, _) = run.part.unwrap_or_default();
         match lines.last_mut() {
-            Some((_, last, other)) if *other == title => *last = number,
-            _ => lines.push((number, number, title)),
+            Some((_, last, other)) if other.title == run.finding.title => *last = number,
+            _ => lines.push((number, number, &run.finding)),
         }
     }
-    let line = |(first, last, title): &(u64, u64, &str)| match first == last {
-        true => format!("Part {first}: {title}"),
-        false => format!("Parts {first} to {last}: {title}"),
+    let many = lines.len() > LINES;
+    lines.retain(|(_, _, finding)| !many || !finding.good);
+    let line = |(first, last, finding): &(u64, u64, &Finding)| match first == last {
+        true => format!("Part {first}: {}", finding.title),
+        false => format!("Parts {first} to {last}: {}", finding.title),
     };
     let mut told: Vec<String> = lines.iter().take(LINES).map(line).collect();
-    if lines.len() > LINES {
-        told.push("What the parts after these come to, each says itself.".into());
+    if many {
+        told.push("What the other parts come to, each says itself.".into());
     }
     told
 }
@@ -344,6 +367,7 @@ fn run_sheet(run: &Run, zone: Option<Zone>) -> RunSheet {
     }
     RunSheet {
         part: None,
+        place: run.place,
         clock,
         span: run.timeline.span().map_or(String::new(), |(first, last)| {
             clock.dated().range(first, last)

@@ -20,8 +20,12 @@ const LATELY: f64 = 36.0;
 const AXIS: f64 = 34.0;
 const ISSUE: f64 = 1676.0;
 const CHECK: f64 = 1900.0;
-/// For all strips of a drawing, at the most.
-const ALL_ROWS: f64 = 1450.0;
+/// Cells at the end of a strip in which its satellite is not heard, so that it is said.
+const SILENT: usize = 4;
+/// For all strips of the front's drawing, at the most: with 36 the rest of the front has room.
+pub const FRONT_ROWS: f64 = 1265.0;
+/// For those of a drawing behind it: two drawings a page.
+pub const DETAIL_ROWS: f64 = 1110.0;
 
 /// Heights in a strip: all of it, what is over the cells, and the cells.
 #[derive(Clone, Copy)]
@@ -32,14 +36,26 @@ struct Heights {
 }
 
 impl Heights {
-    /// With many strips each is lower, so that all stand on one page.
-    fn of(strips: usize) -> Heights {
-        let row = (ALL_ROWS / strips.max(1) as f64).min(60.0);
+    /// With many strips each is lower, so that all stand within `most`.
+    fn of(strips: usize, most: f64) -> Heights {
+        let row = (most / strips.max(1) as f64).min(60.0);
         Heights {
             row,
             over: row * 0.43,
             cell: row * 0.44,
         }
+    }
+}
+
+impl Heights {
+    /// The size of what stands over the cells.
+    fn label(self) -> f64 {
+        (self.row * 0.42).min(20.0)
+    }
+
+    /// The size of what stands beside them.
+    fn name(self) -> f64 {
+        (self.row * 0.62).min(29.0)
     }
 }
 
@@ -56,6 +72,8 @@ pub const SIGNS: &str = r##"<svg width="0" height="0" aria-hidden="true"><defs>
 <symbol id="nothing" viewBox="0 0 20 24" preserveAspectRatio="none"><circle cx="10" cy="12" r="1.4" fill="#aaa"/></symbol>
 <symbol id="selfheard" viewBox="0 0 20 24" preserveAspectRatio="none"><path d="M0 22H20" stroke="#333" stroke-width="2.4"/></symbol>
 <symbol id="ownrefused" viewBox="0 0 20 24" preserveAspectRatio="none"><rect y="19" width="20" height="5" fill="#000"/></symbol>
+<symbol id="isbad" viewBox="0 0 40 40"><path d="M20 2L39 37H1Z" fill="#9c1118"/><path d="M20 14V25M20 29V33" stroke="#fff" stroke-width="4" fill="none"/></symbol>
+<symbol id="isgood" viewBox="0 0 40 40"><circle cx="20" cy="20" r="17" fill="none" stroke="#2c7a70" stroke-width="3.4"/><path d="M11 21L18 28L30 13" fill="none" stroke="#2c7a70" stroke-width="4.4"/></symbol>
 <symbol id="changed" viewBox="0 0 20 20"><path d="M1 3H19L10 19Z" fill="#000"/></symbol>
 </defs></svg>
 "##;
@@ -153,17 +171,17 @@ impl Columns<'_> {
     }
 }
 
-/// Strips of a run, sixty columns a drawing.
-pub fn strips(out: &mut String, run: &RunSheet, strips: &Strips) {
+/// Strips of a run, sixty columns a drawing, each drawing's within `most`.
+pub fn strips(out: &mut String, run: &RunSheet, strips: &Strips, most: f64) {
+    let heights = Heights::of(strips.rows.len(), most);
     for from in (0..strips.columns.len()).step_by(COLUMNS) {
         let to = (from + COLUMNS).min(strips.columns.len());
-        panel(out, run.clock, strips, from..to);
+        panel(out, run.clock, strips, from..to, heights);
     }
 }
 
-fn panel(out: &mut String, clock: Clock, strips: &Strips, range: Range<usize>) {
+fn panel(out: &mut String, clock: Clock, strips: &Strips, range: Range<usize>, heights: Heights) {
     let columns = Columns::of(&strips.columns[range.clone()], strips.step);
-    let heights = Heights::of(strips.rows.len());
     let last = range.end == strips.columns.len();
     let top = LATELY * LIMITS.len() as f64 + AXIS;
     let height = top + heights.row * strips.rows.len() as f64 + 4.0;
@@ -274,15 +292,16 @@ impl Row<'_> {
     }
 
     fn draw(&self, out: &mut String, clock: Clock, last: bool) {
-        let Heights { row, over, cell } = self.heights;
+        let Heights { over, cell, .. } = self.heights;
         let base = self.y + over + cell - 3.0;
         let prn = self.strip.prn;
-        let size = (row * 0.5).min(29.0);
+        let size = self.heights.name();
         let _ = writeln!(
             out,
             "<g data-strip=\"E{prn:02}\"><text x=\"0\" y=\"{base:.1}\" class=\"name\" font-size=\"{size:.0}\">E{prn:02}</text>",
         );
         self.over(out);
+        self.silent(out);
         for (cell, (head, &x)) in self
             .cells()
             .iter()
@@ -334,10 +353,42 @@ impl Row<'_> {
                     out,
                     "<text x=\"{x:.1}\" y=\"{:.1}\" class=\"set\" font-size=\"{:.0}\">{iodnav}</text>",
                     line - 3.5,
-                    self.heights.row / 3.0
+                    self.heights.label()
                 );
                 free = x + 45.0;
             }
+        }
+    }
+
+    /// Over the cells from which on a marked satellite is not heard any more, where there is room.
+    fn silent(&self, out: &mut String) {
+        const ROOM: f64 = 140.0;
+        let cells = &self.strip.cells;
+        let silent = cells
+            .iter()
+            .rev()
+            .take_while(|cell| cell.heard == 0)
+            .count();
+        let from = cells.len() - silent;
+        let is_label = |(cell, x): (&Cell, &f64)| cell.marked.map(|_| *x);
+        let is_marked = self.strip.at_end.is_some();
+        if !is_marked || silent < SILENT || !self.range.contains(&from) {
+            return;
+        }
+        let x = self.columns.x[from - self.range.start];
+        let labels = self
+            .cells()
+            .iter()
+            .zip(&self.columns.x)
+            .filter_map(is_label);
+        let is_free = |label: f64| label + 45.0 < x || label > x + ROOM;
+        if labels.into_iter().all(is_free) {
+            let _ = writeln!(
+                out,
+                "<text x=\"{x:.1}\" y=\"{:.1}\" class=\"silent\" font-size=\"{:.0}\">not heard</text>",
+                self.y + self.heights.over - 5.5,
+                self.heights.label()
+            );
         }
     }
 
@@ -358,7 +409,7 @@ impl Row<'_> {
             );
         };
         put(sign(cell.said()), title);
-        if cell.section_refused && cell.said() != Said::Refused {
+        if cell.has_bar() {
             put("ownrefused", "");
         }
         if cell.changed {

@@ -1,12 +1,14 @@
 //! The sheet as text for a terminal.
 
 use crate::boom::{LIMITS, NEEDED};
+use crate::finding::Finding;
 use crate::html::grouped;
 use crate::phone;
 use crate::sheet::{MarkedSet, RunSheet, Sheet, Strip, Strips, RESTS_ON};
 use crate::time::{Clock, SUBFRAME};
 use crate::timeline::{Cell, Said};
 use crate::warnings::{Grade, Table, Warning};
+use crate::words::count;
 use std::fmt::Write;
 
 /// Columns of a line of text.
@@ -72,14 +74,18 @@ fn told(sheet: &Sheet, with_bytes: bool) -> String {
         sheet.sha256,
         Sheet::made_by()
     );
-    for remark in &sheet.remarks {
-        wrapped(&mut out, "", "  ", remark);
+    if let Some(before) = &sheet.before_start {
+        wrapped(&mut out, "", "  ", before);
+    }
+    if let Some(all) = &sheet.all_parts {
+        finding(&mut out, all, &all.text);
     }
     for run in &sheet.runs {
         if let Some((n, of)) = run.part {
             let _ = writeln!(out, "\nPART {n} OF {of}");
         }
-        finding(&mut out, run);
+        finding(&mut out, &run.finding, &[run.finding.text.join(" ")]);
+        counted(&mut out, run);
         shown(&mut out, run.clock, &run.overview);
         events(&mut out, run);
         out.push_str("\nWARNINGS\n");
@@ -98,17 +104,22 @@ fn told(sheet: &Sheet, with_bytes: bool) -> String {
     out
 }
 
-fn finding(out: &mut String, run: &RunSheet) {
-    let finding = &run.finding;
+/// What it comes to, its text in lines.
+fn finding(out: &mut String, finding: &Finding, lines: &[String]) {
     out.push('\n');
     let sign = if finding.good { "  " } else { "! " };
     wrapped(out, sign, "  ", &finding.title);
-    wrapped(out, "  ", "  ", &finding.text.join(" "));
+    for line in lines {
+        wrapped(out, "  ", "  ", line);
+    }
     wrapped(out, "  ", "  ", &format!("Do: {}", finding.to_do));
+}
+
+fn counted(out: &mut String, run: &RunSheet) {
     let _ = writeln!(
         out,
-        "\n  {} satellites heard, {} marked at the end. {}",
-        run.heard,
+        "\n  {} heard, {} marked at the end. {}",
+        count(run.heard as u64, "satellite"),
         run.marked_at_end(),
         run.span
     );

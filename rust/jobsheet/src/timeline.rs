@@ -80,7 +80,7 @@ impl Said {
             Said::NoPlace => ("no place", "too many slow tags waited"),
             Said::NotTaken => ("not taken", "tag not allowed there"),
             Said::Missing => ("missing", "part of the tag was lost"),
-            Said::Refused => ("refused", "its own part was refused"),
+            Said::Refused => ("refused", "what it sent was refused"),
             Said::Nothing => ("", "no tag"),
         }
     }
@@ -134,6 +134,11 @@ impl Cell {
         })
     }
 
+    /// Whether its own section was refused, but others' tags came.
+    pub fn has_bar(&self) -> bool {
+        self.section_refused && self.said() != Said::Refused
+    }
+
     /// `3 authentic, 1 waits`.
     pub fn told(&self) -> String {
         let tags = Said::BY_TAGS.into_iter().zip(self.tags);
@@ -145,7 +150,7 @@ impl Cell {
             parts.push(Said::Nothing.words().1.into());
         }
         if self.section_refused {
-            parts.push("own part refused".into());
+            parts.push("what it sent was refused".into());
         }
         if self.changed {
             parts.push("data changed while a slow tag waited".into());

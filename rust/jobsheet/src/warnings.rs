@@ -270,7 +270,10 @@ fn silent(run: &Run, clock: Clock) -> Option<Warning> {
         Warning::new(
             Grade::Note,
             format!("Not heard to the end: {told}."),
-            "Tags that others send still judge the data heard before.",
+            match run.vouched.keys {
+                Keys::InForce => "Tags that others send still judge the data heard before.",
+                Keys::NotYet | Keys::Withdrawn => "",
+            },
         )
     })
 }
@@ -286,14 +289,14 @@ fn pages_lost(run: &Run, clock: Clock) -> Option<Warning> {
     Some(Warning::new(
         Grade::Note,
         format!(
-            "Reception was broken in {} of {} half minutes of satellites.",
+            "Reception was broken in {} of {} half minutes, counted for each satellite.",
             lost.count, run.counts.0
         ),
         format!(
             "Ordinary under trees. What came was used{}. {}, {}.",
             match sections.map(|sum| sum.count).sum() {
                 0 => String::new(),
-                n => format!("; of {n} the part with the tags could not be"),
+                n => format!("; in {n} of them the tags could not be"),
             },
             capital(which(run, &lost.prns)),
             span(clock, lost.span)

@@ -19,16 +19,15 @@ pub fn listed(names: &[String]) -> String {
     }
 }
 
-/// `E04, E11 and E27`, `E01 to E35 and E36`: neighbours are joined where they are three or more.
-pub fn satellites(prns: &BTreeSet<u8>) -> String {
-    let mut spans: Vec<(u8, u8)> = Vec::new();
-    for &prn in prns {
+/// `1`, `1 and 2`, `1 to 3 and 5`, each by its name: neighbours are joined where they are three or more.
+fn joined(numbers: impl IntoIterator<Item = u64>, name: impl Fn(u64) -> String) -> String {
+    let mut spans: Vec<(u64, u64)> = Vec::new();
+    for n in numbers {
         match spans.last_mut() {
-            Some((_, last)) if prn - *last == 1 => *last = prn,
-            _ => spans.push((prn, prn)),
+            Some((_, last)) if n - *last == 1 => *last = n,
+            _ => spans.push((n, n)),
         }
     }
-    let name = |prn: u8| format!("E{prn:02}");
     let names: Vec<String> = spans
         .into_iter()
         .flat_map(|(first, last)| match last - first {
@@ -38,6 +37,19 @@ pub fn satellites(prns: &BTreeSet<u8>) -> String {
         })
         .collect();
     listed(&names)
+}
+
+/// `E04, E11 and E27`, `E01 to E35 and E36`.
+pub fn satellites(prns: &BTreeSet<u8>) -> String {
+    let numbers = prns.iter().map(|prn| u64::from(*prn));
+    joined(numbers, |prn| format!("E{prn:02}"))
+}
+
+/// `part 2`, `parts 1 to 3 and 5`.
+pub fn parts(numbers: &[u64]) -> String {
+    let s = if numbers.len() == 1 { "" } else { "s" };
+    let names = joined(numbers.iter().copied(), |n| n.to_string());
+    format!("part{s} {names}")
 }
 
 /// The satellites of a run, by name where they are few.

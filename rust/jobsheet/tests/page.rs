@@ -201,12 +201,33 @@ fn findings() {
             "THE SYSTEM WITHDREW ITS KEYS at 2017-10-20 00:02:00. New ones were taken at 2017-10-20 00:04:30.",
             "3 satellites with data, all marked. E01 to E08 sent none.",
             "At no time did 4 satellites have a mark of the last 5 minutes; the boom needs 4.",
+            "Do: before you spray, see that the first row below ends with 4 or more.",
         ],
     );
     let fitter = records("fitter");
     says(
         &boxes(&fitter[0]),
-        &["NOTHING WAS HEARD.", "Do: check the antenna"],
+        &[
+            "NOTHING WAS HEARD. The receiver was started, but no satellite's data came.",
+            "Do: check the antenna",
+        ],
+    );
+    let zeros = [fitter[0].clone(), vec![0; 2 * RECORD_LEN]].concat();
+    says(
+        &boxes(&zeros),
+        &["NOTHING WAS HEARD. The receiver was started, but all that came was refused (2 parts)"],
+    );
+    // Satellites without authentication fields.
+    let zero = |record: &Vec<u8>| {
+        let mut record = record.clone();
+        if record[0] == 3 {
+            record[6..81].fill(0);
+        }
+        record
+    };
+    says(
+        &boxes(&Vec::from_iter(fitter.iter().take(200).flat_map(zero))),
+        &["NOTHING WAS JUDGED: the satellites heard sent no keys and no tags."],
     );
     // A chip that never answers, and one that says no.
     let without: Vec<u8> = fitter
@@ -309,6 +330,62 @@ fn findings() {
     // Words without a tag for them.
     let few: Vec<u8> = fitter[..140].concat();
     says(&boxes(&few), &["NO DATA WAS PROVED."]);
+}
+
+// The box does not call data authentic that could be compared with nothing.
+#[test]
+fn words_that_do_not_go_together() {
+    says(
+        &boxes(&common::spoiled_word()),
+        &[
+            "NOT ALL DATA WAS PROVED for 1 of 14 satellites (E09).",
+            "No tag has judged data that came for E09 from 2017-10-20 00:03:30 to 00:11:30.",
+        ],
+    );
+    // Only the words of the last half minute have no tag.
+    says(
+        &boxes(&recording("full_sky")),
+        &["All data that was judged was authentic. No tag has judged data that came for all 36 satellites at 00:29:30."],
+    );
+}
+
+// The words of the box are the largest of the page.
+#[test]
+fn verdict_is_largest() {
+    let page = html::page(&sheet("fitter"));
+    let (_, style) = page.split_once("<style>").unwrap();
+    let (style, _) = style.split_once("</style>").unwrap();
+    let size = |rule: &str| {
+        let (name, rest) = rule.split_once('{')?;
+        let (_, rest) = rest.split_once("font-size: ")?;
+        let (points, _) = rest.split_once("pt")?;
+        Some((points.parse::<f64>().ok()?, name.trim().to_string()))
+    };
+    let mut sizes: Vec<(f64, String)> = style.split('}').filter_map(size).collect();
+    sizes.sort_by(|a, b| b.0.total_cmp(&a.0));
+    assert_eq!(sizes[0].1, ".finding .first", "{sizes:?}");
+    assert!(
+        sizes.len() > 10 && sizes[0].0 > sizes[1].0 + 2.0,
+        "{sizes:?}"
+    );
+    assert!(page.contains("<p class=\"first\">WRONG DATA came in"));
+}
+
+// The legend has the signs that occur, and no others.
+#[test]
+fn legend() {
+    let keys = |name: &str| {
+        let page = html::page(&sheet(name));
+        let (_, rest) = page.split_once("<ul class=\"legend\">").unwrap();
+        let (legend, _) = rest.split_once("</ul>").unwrap();
+        let key = |part: &str| part.split_once('"').unwrap().0.to_string();
+        Vec::from_iter(legend.split("href=\"#").skip(1).map(key))
+    };
+    assert_eq!(
+        keys("fitter"),
+        ["authentic", "wrong", "refused", "changed", "selfheard"]
+    );
+    assert!(keys("lost_keys").contains(&"missing".into()));
 }
 
 // A tag that matches data which others call wrong: the page does not call that data proved. One of the
@@ -490,6 +567,12 @@ fn silent_satellite() {
         (1, [[1; 10].as_slice(), &[0; 50]].concat())
     );
     let titles: Vec<&str> = run.front.iter().map(|w| w.title.as_str()).collect();
+    // The strip says it where the line under its cells ends.
+    let page = html::page(&sheet);
+    let (_, strip) = page.split_once("data-strip=\"E01\"").unwrap();
+    let (strip, others) = strip.split_once("</g>").unwrap();
+    assert!(strip.contains("class=\"silent\" font-size=\"20\">not heard</text>"));
+    assert!(!others.contains("class=\"silent\""));
     let note = "Not heard to the end: E01 since 00:04:30.";
     assert!(titles.contains(&note), "{titles:?}");
     let text = text::sheet(&sheet);
@@ -510,8 +593,8 @@ fn lost_fields() {
             &notes,
             &[
                 "Reception was broken in ",
-                "half minutes of satellites. Ordinary under trees. What came was used; of ",
-                "the part with the tags could not be.",
+                "half minutes, counted for each satellite. Ordinary under trees. What came was used; in ",
+                "of them the tags could not be.",
             ],
         );
         says(&notes, &["Bits missing of", "tags."]);
@@ -521,12 +604,13 @@ fn lost_fields() {
         );
         let sheet = sheet(name);
         let page = html::page(&sheet);
-        assert!(page.contains("<use href=\"#missing\""), "{name}");
         assert!(page.contains("with bits missing</dd>"), "{name}");
         assert!(text::sheet(&sheet).contains(": missing"));
         let csv = common::rows(&recording(name));
         assert!(csv.contains(",8,bits missing,"), "{name}");
     }
+    // In a strip such a tag shows where no other came.
+    assert!(html::page(&sheet("lost_keys")).contains("<use href=\"#missing\" x="));
     // Where nothing is lost nothing is said of it.
     let page = html::page(&sheet("nominal"));
     assert!(!page.contains("bits missing<") && !page.contains("Reception was broken"));
@@ -650,14 +734,41 @@ fn several_starts() {
     assert_eq!(first.runs.len(), 2);
     let page = html::page(&first);
     assert!(page.contains("Part 1 of 2") && page.contains("Part 2 of 2"));
-    assert!(page.contains("The receiver was started 2 times."));
-    let front = page.split("</ul>").next().unwrap();
-    assert!(front.contains("Part 1: STOPPED at 2017-10-20 00:01:30"));
-    assert!(front.contains("Part 2: NOTHING WAS JUDGED"));
+    // What they come to together stands before the first part.
+    let (first, _) = page
+        .split_once("<h2 class=\"part\">Part 1 of 2</h2>")
+        .unwrap();
+    assert!(first.contains("<section class=\"finding bad\">"));
+    for told in [
+        "<p class=\"first\">Started 2 times: SOMETHING IS WRONG in every part.</p>",
+        "<p>Part 1: STOPPED at 2017-10-20 00:01:30",
+        "<p>Part 2: NOTHING WAS JUDGED",
+        "<p><b>Do:</b> read the box of parts 1 and 2.</p>",
+    ] {
+        assert!(first.contains(told), "{told}");
+    }
+    // A good part does not hide a bad one.
+    let good = recording("nominal");
+    let mixed = [good.clone(), recording("fitter"), good.clone()].concat();
+    let mixed = Sheet::of("x", &history(&mixed), None);
+    let all = mixed.all_parts.unwrap();
+    assert_eq!(all.title, "Started 3 times: SOMETHING IS WRONG in part 2.");
+    assert!(!all.good && all.to_do == "read the box of part 2.");
+    assert!(all
+        .text
+        .iter()
+        .any(|line| line.starts_with("Part 2: WRONG DATA came in")));
+    let good_parts: Vec<bool> = mixed.runs.iter().map(|run| run.finding.good).collect();
+    assert_eq!(good_parts, [true, false, true]);
+    let twice = Sheet::of("x", &history(&good.repeat(2)), None);
+    let all = twice.all_parts.unwrap();
+    assert_eq!(all.title, "Started 2 times: nothing is wrong in any part.");
+    assert!(all.good);
+    assert!(sheet("nominal").all_parts.is_none());
     // Neighbours that come to the same have one line.
     let thrice = Sheet::of("x", &history(&recording("week_change").repeat(3)), None);
     let told = "Parts 1 to 3: All data heard was authentic. TOO FEW SATELLITES for the boom, all the time.";
-    assert_eq!(thrice.remarks[1..], [told]);
+    assert_eq!(thrice.all_parts.unwrap().text[1..], [told]);
 }
 
 // More starts than parts: the last have one, and what the others came to is said.
@@ -671,6 +782,12 @@ fn many_starts() {
     let page = html::page(&sheet);
     assert!(page.contains("Part 27 of 90") && page.contains("Part 90 of 90"));
     assert!(!page.contains("Part 26 of 90"));
+    let parts = sheet.all_parts.as_ref().unwrap();
+    assert!(parts
+        .title
+        .starts_with("Started 90 times: SOMETHING IS WRONG in"));
+    // One of each title, and that there are others.
+    assert!(parts.text.len() <= 15, "{:#?}", parts.text);
     let told = format!(
         "Parts 1 to 26 are left out: {} wrong tags in them, 9 of them stopped.",
         all.left_out.wrong_tags

@@ -5,7 +5,7 @@ mod common;
 use common::{history, recording, rows};
 use jobsheet::sheet::Sheet;
 use jobsheet::{html, text};
-use std::fs;
+use std::fs::{self, File};
 use std::os::unix::fs::{lchown, symlink, FileTypeExt, MetadataExt, PermissionsExt};
 use std::os::unix::process::CommandExt;
 use std::path::{Path, PathBuf};
@@ -78,8 +78,19 @@ fn bad_input() {
     let good = recording("nominal");
     let mut no_start = recording("nominal");
     no_start[1] = 37;
-    let cases: [(&str, &[u8], &str); 6] = [
+    // Bytes of any kind, none of them at the place of a kind that recordings have.
+    let rubbish = Vec::from_iter((0..100_000u32).map(|n| match n % 256 {
+        0 => 0xFF,
+        _ => (n.wrapping_mul(2_654_435_761) >> 24) as u8,
+    }));
+    let cases: [(&str, &[u8], &str); 8] = [
         ("empty", b"", "is empty"),
+        (
+            "one_byte",
+            &good[..1],
+            "1 byte of 256, and no record is whole",
+        ),
+        ("rubbish", &rubbish, "is no recording"),
         ("cut_text", &[b'<'; 700], "is no recording"),
         (
             "tiny",
@@ -162,10 +173,59 @@ fn cut_short() {
     assert!(output.stdout.starts_with(b"CUT SHORT in record "));
 }
 
-// Links are followed, and a file keeps its mode.
+/// A folder of this test's own that every user reaches.
+fn shared_folder(test: &str) -> PathBuf {
+    let name = format!("jobsheet-{test}-{}", std::process::id());
+    let folder = std::env::temp_dir().join(name);
+    let _ = fs::remove_dir_all(&folder);
+    fs::create_dir_all(&folder).unwrap();
+    folder
+}
+
+/// An ordinary user: this one, or where this is root, nobody.
+fn ordinary_user() -> u32 {
+    match fs::metadata("/proc/self").unwrap().uid() {
+        0 => 65_534,
+        own => own,
+    }
+}
+
+/// Makes a file, a link or a folder with all in it an ordinary user's.
+fn give(path: &Path) {
+    lchown(path, Some(ordinary_user()), Some(ordinary_user())).unwrap();
+    if fs::symlink_metadata(path).unwrap().is_dir() {
+        names(path).iter().for_each(|name| give(&path.join(name)));
+    }
+}
+
+/// The same program as an ordinary user. Where this is root, the program is copied into the folder,
+/// and all of it is made that user's.
+fn as_ordinary_user(folder: &Path, args: &[&str]) -> Command {
+    let mut program = PathBuf::from(env!("CARGO_BIN_EXE_jobsheet"));
+    let root = fs::metadata("/proc/self").unwrap().uid() == 0;
+    if root {
+        let copied = folder.join("jobsheet");
+        if !copied.exists() {
+            // Not by this process: a program that another thread's child has open cannot be run.
+            let mut copy = Command::new("cp");
+            copy.arg(&program).arg(&copied);
+            assert!(copy.status().unwrap().success());
+        }
+        give(folder);
+        program = copied;
+    }
+    let mut command = Command::new(program);
+    command.current_dir(folder).args(args);
+    if root {
+        command.uid(ordinary_user()).gid(ordinary_user());
+    }
+    command
+}
+
+// Links are followed, by an ordinary user, and a file keeps its mode.
 #[test]
 fn links_and_modes() {
-    let folder = folder("links");
+    let folder = shared_folder("links");
     fs::write(folder.join("run.rec"), recording("nominal")).unwrap();
     let page = jobsheet(&folder, &["run.rec", "-o", "-"]).stdout;
     fs::create_dir(folder.join("sheets")).unwrap();
@@ -180,7 +240,9 @@ fn links_and_modes() {
         ("second.html", "old"),
         ("nowhere.html", "new"),
     ] {
-        let output = jobsheet(&folder, &["run.rec", "-o", link]);
+        let output = as_ordinary_user(&folder, &["run.rec", "-o", link])
+            .output()
+            .unwrap();
         assert!(output.status.success(), "{output:?}");
         assert!(
             fs::symlink_metadata(folder.join(link))
@@ -190,6 +252,7 @@ fn links_and_modes() {
         );
         let target = folder.join(format!("sheets/{target}.html"));
         assert_eq!(fs::read(&target).unwrap(), page, "{link}");
+        assert_eq!(fs::metadata(&target).unwrap().uid(), ordinary_user());
         fs::write(&target, "from before").unwrap();
     }
     let mode = fs::metadata(&old).unwrap().permissions().mode();
@@ -204,46 +267,13 @@ fn links_and_modes() {
     symlink("round.html", folder.join("round.html")).unwrap();
     let output = jobsheet(&folder, &["run.rec", "-o", "round.html"]);
     assert_eq!(output.status.code(), Some(1), "{output:?}");
-}
-
-/// The same program as an ordinary user. Where this is root, the program is copied into the folder,
-/// which every user reaches, and all of it is made that user's.
-fn as_ordinary_user(folder: &Path, args: &[&str]) -> Command {
-    const NOBODY: u32 = 65_534;
-    if !is_root() {
-        let mut command = Command::new(env!("CARGO_BIN_EXE_jobsheet"));
-        command.current_dir(folder).args(args);
-        return command;
-    }
-    let program = folder.join("jobsheet");
-    if !program.exists() {
-        // Not by this process: a program that another thread's child has open cannot be run.
-        let mut copy = Command::new("cp");
-        copy.arg(env!("CARGO_BIN_EXE_jobsheet")).arg(&program);
-        assert!(copy.status().unwrap().success());
-    }
-    for name in names(folder).iter().map(Path::new).chain([Path::new("")]) {
-        lchown(folder.join(name), Some(NOBODY), Some(NOBODY)).unwrap();
-    }
-    let mut command = Command::new(program);
-    command
-        .current_dir(folder)
-        .args(args)
-        .uid(NOBODY)
-        .gid(NOBODY);
-    command
-}
-
-fn is_root() -> bool {
-    fs::metadata("/proc/self").is_ok_and(|own| own.uid() == 0)
+    fs::remove_dir_all(&folder).unwrap();
 }
 
 // A device and a pipe are written into, by an ordinary user too, and stay what they are.
 #[test]
 fn devices_and_pipes() {
-    // A folder that every user reaches.
-    let folder = std::env::temp_dir().join(format!("jobsheet-{}", std::process::id()));
-    fs::create_dir_all(&folder).unwrap();
+    let folder = shared_folder("devices");
     fs::write(folder.join("run.rec"), recording("nominal")).unwrap();
     let page = jobsheet(&folder, &["run.rec", "-o", "-"]).stdout;
     let made = Command::new("mkfifo")
@@ -320,6 +350,41 @@ fn closed_pipe() {
             .stderr(writer);
         assert_eq!(command.status().unwrap().code(), Some(2));
     }
+}
+
+// Memory does not grow with the recording: in an address space of 32 MB, 100 MB of records of no kind,
+// and 5,000 half minutes of 36 satellites that send zeros, of which a page of all would be larger.
+#[test]
+fn bounded_memory() {
+    let folder = folder("memory");
+    let start = &recording("nominal")[..256];
+    fs::write(folder.join("zeros.rec"), start).unwrap();
+    let zeros = File::options().append(true).open(folder.join("zeros.rec"));
+    zeros.unwrap().set_len(400_001 * 256).unwrap();
+    let subframe = |n: u32| {
+        let time = ((947 << 20) | (n / 36 * 30)).to_be_bytes();
+        let mut record = [0; 256];
+        record[..2].copy_from_slice(&[3, (n % 36) as u8 + 1]);
+        record[2..6].copy_from_slice(&time);
+        record
+    };
+    let subframes = (0..5_000 * 36).flat_map(subframe);
+    let all: Vec<u8> = start.iter().copied().chain(subframes).collect();
+    fs::write(folder.join("many.rec"), all).unwrap();
+    for name in ["zeros", "many"] {
+        let mut command = Command::new("sh");
+        command.args(["-c", "ulimit -v 32768 && exec \"$0\" \"$1\""]);
+        command.arg(env!("CARGO_BIN_EXE_jobsheet"));
+        let output = command
+            .current_dir(&folder)
+            .arg(format!("{name}.rec"))
+            .output()
+            .unwrap();
+        assert!(output.status.success(), "{name}: {output:?}");
+        let page = fs::read_to_string(folder.join(format!("{name}.html"))).unwrap();
+        assert!(page.ends_with("</html>\n"), "{name}");
+    }
+    fs::remove_dir_all(&folder).unwrap();
 }
 
 #[test]

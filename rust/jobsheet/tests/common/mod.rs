@@ -6,6 +6,8 @@
 use jobsheet::csv::Rows;
 use jobsheet::history::History;
 use jobsheet::recording::RECORD_LEN;
+use jobsheet::sheet::{RunSheet, Sheet};
+use jobsheet::{html, text};
 use second_receiver::replay::replay;
 use second_receiver::Receiver;
 use signal::scenario::{self, SEED};
@@ -23,7 +25,10 @@ fn built() -> Vec<(String, Vec<u8>)> {
     let random = (0..24).map(|seed| (format!("random {seed}"), scenario::random(seed).bytes));
     named
         .chain(random)
-        .chain([("few heard".to_string(), few_heard())])
+        .chain([
+            ("few heard".to_string(), few_heard()),
+            ("spoiled word".to_string(), spoiled_word()),
+        ])
         .map(|(name, mut bytes)| {
             bytes.truncate(bytes.len() / RECORD_LEN * RECORD_LEN);
             (name, bytes)
@@ -42,6 +47,19 @@ pub fn few_heard() -> Vec<u8> {
     let heard = |r: &&[u8]| ![2, 3].contains(&r[0]) || [25, 31, 36].contains(&r[1]);
     let kept = records().filter(|r| heard(r) || time(r) < fifth);
     kept.flatten().copied().collect()
+}
+
+/// Twelve minutes in which, from the fourth on, a repeater spoils one word of satellite 9: its data can be
+/// compared with nothing, so that no tag is wrong.
+pub fn spoiled_word() -> Vec<u8> {
+    let mut bytes = recording("nominal");
+    let from = bytes.len() / RECORD_LEN / 3;
+    for record in bytes.chunks_exact_mut(RECORD_LEN).skip(from) {
+        if record[..2] == [2, 9] && record[6] >> 2 == 1 {
+            record[7] ^= 0x55;
+        }
+    }
+    bytes
 }
 
 /// Them all, built once.
@@ -138,4 +156,97 @@ pub fn of_run<'a>(recording: &'a [u8], history: &History, run: usize) -> &'a [u8
         .map(|next| next.place as usize - 1);
     let to = next.unwrap_or(recording.len() / RECORD_LEN);
     &recording[from * RECORD_LEN..to * RECORD_LEN]
+}
+
+/// The recordings that have a sheet, each with what the core answered.
+pub fn shown() -> impl Iterator<Item = (&'static str, &'static [u8], &'static History)> {
+    static ALL: OnceLock<Vec<Option<History>>> = OnceLock::new();
+    let replayed = |(_, bytes): &(String, Vec<u8>)| jobsheet::replay(&bytes[..], |_| ()).ok();
+    let all = ALL.get_or_init(|| recordings().iter().map(replayed).collect());
+    let both = recordings().iter().zip(all);
+    both.filter_map(|((name, bytes), all)| Some((name.as_str(), &bytes[..], all.as_ref()?)))
+}
+
+/// What stands between two texts.
+pub fn between<'a>(text: &'a str, from: &str, to: &str) -> Option<(&'a str, &'a str)> {
+    let (_, rest) = text.split_once(from)?;
+    rest.split_once(to)
+}
+
+/// A set as the page shows it: satellite, IODnav, check value, digits, and the lines under it.
+pub type Shown = (String, String, String, String, Vec<String>);
+
+/// The sets of the page at the end of a run, or those before them.
+pub fn sets(page: &str, class: &str) -> Vec<Shown> {
+    let mut all = Vec::new();
+    let mut rest = page;
+    let begin = format!("<article class=\"{class}\" data-set=\"");
+    while let Some((article, after)) = between(rest, &begin, "</article>") {
+        let part = |from: &str, to: &str| between(article, from, to).unwrap().0.to_string();
+        let mut lines = Vec::new();
+        let mut list = article;
+        while let Some((line, after)) = between(list, "<dd>", "</dd>") {
+            lines.push(line.to_string());
+            list = after;
+        }
+        all.push((
+            part("<h3>", "</h3>"),
+            part("IODnav <b>", "</b>"),
+            part("class=\"check\">", "</p>"),
+            part("<pre>", "</pre>").replace([' ', '\n'], ""),
+            lines,
+        ));
+        rest = after;
+    }
+    all
+}
+
+/// The sheet of one run of a recording.
+pub fn sheet_of(name: &str, all: &History, run: usize) -> Sheet {
+    let one = History {
+        runs: vec![all.runs[run].clone()],
+        ..History::default()
+    };
+    Sheet::of(name, &one, None)
+}
+
+/// Its page and text.
+pub fn run_page(name: &str, all: &History, run: usize) -> (String, String) {
+    let sheet = sheet_of(name, all, run);
+    (html::page(&sheet), text::sheet(&sheet))
+}
+
+/// One run of a recording: the second receiver's lines, the records, and what the sheet has of it.
+pub struct OneRun {
+    pub name: &'static str,
+    pub lines: &'static [Line],
+    pub records: &'static [u8],
+    pub sheet: RunSheet,
+    pub page: String,
+    pub text: String,
+}
+
+/// The runs of all recordings that have a sheet, made once.
+pub fn runs() -> &'static [OneRun] {
+    static ALL: OnceLock<Vec<OneRun>> = OnceLock::new();
+    let one = |(name, bytes, all, run): (&'static str, &'static [u8], &'static History, usize)| {
+        let (page, text) = run_page(name, all, run);
+        OneRun {
+            name,
+            lines: lines_of_run(name, all, run),
+            records: of_run(bytes, all, run),
+            sheet: sheet_of(name, all, run).runs.remove(0),
+            page,
+            text,
+        }
+    };
+    let each = |(name, bytes, all): (&'static str, &'static [u8], &'static History)| {
+        (0..all.runs.len()).map(move |run| (name, bytes, all, run))
+    };
+    ALL.get_or_init(|| shown().flat_map(each).map(one).collect())
+}
+
+/// The time of a sub-frame's or word's record.
+pub fn subframe_time(record: &[u8]) -> u32 {
+    u32::from_be_bytes(record[2..6].try_into().unwrap())
 }

@@ -1,22 +1,24 @@
 //! Every figure of the sheet beside the second receiver's replay of the same recording: the lines,
 //! the tag records, the reads, the strips as they stand in the page, and the chain in force.
 
+mod back;
+#[path = "../common/mod.rs"]
 mod common;
+mod marks;
 
 use common::{
-    history, lines, lines_of_run, of_run, recording, recordings, replayed, rows, second, Line,
+    between, history, lines, lines_of_run, of_run, recording, recordings, replayed, rows, run_page,
+    second, sets, sheet_of, shown, subframe_time, Line,
 };
 use jobsheet::history::{History, Reads};
 use jobsheet::receiver::{Answer, Receiver};
 use jobsheet::recording::{Reader, Record, RECORD_LEN};
-use jobsheet::sheet::Sheet;
 use jobsheet::time::Clock;
-use jobsheet::{csv, html, phone, text, time};
+use jobsheet::{csv, html, phone, time};
 use osnma::{AuthenticSet, Gst, Marks, Outcome, Refusal, TagRecord, WaitingMessage};
 use second_receiver::navdata::SET_LEN;
 use std::collections::{BTreeMap, BTreeSet};
 use std::fmt::Write;
-use std::sync::OnceLock;
 
 fn number(answer: Result<(), Refusal>) -> u32 {
     answer.err().map_or(0, Refusal::number)
@@ -50,15 +52,6 @@ fn answers_are_the_replays() {
     }
 }
 
-/// The recordings that have a sheet, each with what the core answered.
-fn shown() -> impl Iterator<Item = (&'static str, &'static [u8], &'static History)> {
-    static ALL: OnceLock<Vec<Option<History>>> = OnceLock::new();
-    let replayed = |(_, bytes): &(String, Vec<u8>)| jobsheet::replay(&bytes[..], |_| ()).ok();
-    let all = ALL.get_or_init(|| recordings().iter().map(replayed).collect());
-    let both = recordings().iter().zip(all);
-    both.filter_map(|((name, bytes), all)| Some((name.as_str(), &bytes[..], all.as_ref()?)))
-}
-
 #[test]
 fn csv_has_every_tag_record() {
     let mut records = 0;
@@ -81,55 +74,6 @@ fn csv_has_every_tag_record() {
         assert_eq!(rows.next(), None, "{name}");
     }
     assert!(records > 10_000);
-}
-
-/// What stands between two texts.
-fn between<'a>(text: &'a str, from: &str, to: &str) -> Option<(&'a str, &'a str)> {
-    let (_, rest) = text.split_once(from)?;
-    rest.split_once(to)
-}
-
-/// A set as the page shows it: satellite, IODnav, check value, digits, and the lines under it.
-type Shown = (String, String, String, String, Vec<String>);
-
-/// The sets of the page at the end of a run, or those before them.
-fn sets(page: &str, class: &str) -> Vec<Shown> {
-    let mut all = Vec::new();
-    let mut rest = page;
-    let begin = format!("<article class=\"{class}\" data-set=\"");
-    while let Some((article, after)) = between(rest, &begin, "</article>") {
-        let part = |from: &str, to: &str| between(article, from, to).unwrap().0.to_string();
-        let mut lines = Vec::new();
-        let mut list = article;
-        while let Some((line, after)) = between(list, "<dd>", "</dd>") {
-            lines.push(line.to_string());
-            list = after;
-        }
-        all.push((
-            part("<h3>", "</h3>"),
-            part("IODnav <b>", "</b>"),
-            part("class=\"check\">", "</p>"),
-            part("<pre>", "</pre>").replace([' ', '\n'], ""),
-            lines,
-        ));
-        rest = after;
-    }
-    all
-}
-
-/// The sheet of one run of a recording.
-fn sheet_of(name: &str, all: &History, run: usize) -> Sheet {
-    let one = History {
-        runs: vec![all.runs[run].clone()],
-        ..History::default()
-    };
-    Sheet::of(name, &one, None)
-}
-
-/// Its page and text.
-fn run_page(name: &str, all: &History, run: usize) -> (String, String) {
-    let sheet = sheet_of(name, all, run);
-    (html::page(&sheet), text::sheet(&sheet))
 }
 
 // The marked bytes of the page are what the second receiver reads at the end of each run.
@@ -287,10 +231,6 @@ fn what_a_mark_rests_on() {
             assert!(shown[3].starts_with(&told), "{name}: {shown:?}, {told}");
         }
     }
-}
-
-fn subframe_time(record: &[u8]) -> u32 {
-    u32::from_be_bytes(record[2..6].try_into().unwrap())
 }
 
 // The head's chain is the second receiver's, and as many tags wait.
