@@ -24,7 +24,7 @@ pub enum Gathered {
     Refused,
 }
 
-// ---- a sub-frame's 75 bytes: the turns are counted from the slice's length, so that the compiler keeps the loops
+// ---- a sub-frame's 75 bytes
 
 // The HKROOT section: the first byte of each of 15 fields.
 pub fn hkroot_of(f: &[u8]) -> [u8; 15]
@@ -33,7 +33,7 @@ pub fn hkroot_of(f: &[u8]) -> [u8; 15]
 {
     let mut hk = [0u8; 15];
     let mut i: usize = 0;
-    while i < f.len() / 5 {
+    while i < 15 {
         hk[i] = f[5 * i];
         i += 1;
     }
@@ -47,7 +47,7 @@ pub fn mack_of(f: &[u8]) -> [u8; 60]
 {
     let mut mack = [0u8; 60];
     let mut i: usize = 0;
-    while i < f.len() / 5 {
+    while i < 15 {
         buffer::copy_part(&mut mack, 4 * i, f, 5 * i + 1, 4);
         i += 1;
     }

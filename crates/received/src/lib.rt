@@ -58,15 +58,14 @@ fn put_field(marks: u16, f: &[u8], k: usize, fields: &mut [u8])
     buffer::copy_part(fields, 5 * k, f, 5 * k, 5);
 }
 
-// The fifteen fields of five bytes as they came: zeros stand for a field that did not. The turns are counted from the slice's length, so that the
-// compiler keeps the loop.
+// The fifteen fields of five bytes as they came: zeros stand for a field that did not.
 pub fn received(marks: u16, f: &[u8]) -> [u8; 75]
     requires { ⌜ length (now f) ≡ 75 ⌝ }
     ensures { λ r. ⌜ r ≡ received marks (now (f .entry)) 15 ⌝ }
 {
     let mut fields = [0u8; 75];
     let mut k: usize = 0;
-    while k < f.len() / 5 {
+    while k < 15 {
         put_field(marks, f, k, &mut fields);
         k += 1;
     }
