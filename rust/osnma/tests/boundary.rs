@@ -6,6 +6,7 @@ mod archive;
 mod assurance;
 #[path = "boundary/declarations.rs"]
 mod declarations;
+mod elf;
 
 use archive::Symbols;
 use declarations::{of_header, of_rattle, of_rust, Declarations};
