@@ -6,6 +6,7 @@ mod archive;
 mod assurance;
 #[path = "boundary/declarations.rs"]
 mod declarations;
+mod elf;
 
 use archive::Symbols;
 use declarations::{of_header, of_rattle, of_rust, Declarations};
@@ -128,6 +129,18 @@ fn tests_alone_see_the_regions() {
         }
     }
     assert!(users >= 2, "{users}");
+    // A build of all packages at once turns the feature on for each of them.
+    let mut receivers = Vec::new();
+    for folder in ["demo", "jobsheet", "leaves", "replay"] {
+        sources(&top().join("rust").join(folder), &mut receivers);
+    }
+    sources(&top().join("examples"), &mut receivers);
+    assert!(receivers.len() > 20, "{} sources", receivers.len());
+    for path in receivers {
+        let text = fs::read_to_string(&path).unwrap();
+        let writes = text.contains("regions_mut") || text.contains("osnma::regions");
+        assert!(!writes, "{}", path.display());
+    }
     assert_eq!(
         turning_on("[features]\ndefault = [\"regions\"]\n", "regions"),
         ["[features]"]

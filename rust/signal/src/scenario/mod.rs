@@ -15,6 +15,7 @@ mod tags;
 
 use crate::replay::Run;
 
+pub use parameters::section_after_gap;
 pub use random::{random, random_with, MacFunctions, Pages};
 
 /// A named scenario.

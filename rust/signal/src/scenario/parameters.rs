@@ -264,6 +264,35 @@ pub fn gap_full(name: &str, about: &str, seed: u64) -> Run {
     b.run
 }
 
+/// No named run: a section of satellite 2 so many sub-frames after one of satellite 1 whose tags, but for the first, have these ADKDs by turns. One
+/// block a section, so a sub-frame is 36 slots; tags with a delay fall due in the second section.
+pub fn section_after_gap(subframes: u64, adkds: [u8; 2]) -> Run {
+    let mut b = Bench::new("section_after_gap", "a section after a gap", super::SEED);
+    let mut all = [FLEXIBLE; 14];
+    all[0] = 0;
+    b.start.marks = [all; 2];
+    let params = Params {
+        nmack: 1,
+        ks: 0,
+        ms: 0,
+        ..b.params(0)
+    };
+    let chain = b.chain(params, subframes + 2);
+    fresh(&mut b, &chain);
+    for (prn, time, adkds) in [
+        (1, b.now, adkds),
+        (2, chain.start().plus(subframes as i64), [0; 2]),
+    ] {
+        b.now = time;
+        let infos: Vec<Info> = (0..14).map(|n| Info::new(1, adkds[n % 2], 0)).collect();
+        let mack = b.section_of(prn, b.now, &infos);
+        let hkroot = b.idle();
+        b.subframe(prn, b.now, &hkroot, &mack);
+        b.run.gives(0, 0);
+    }
+    b.run
+}
+
 /// From which key a gap is counted: equal contents leave the held key, a new root takes it back to slot 0.
 pub fn held_key(name: &str, about: &str, seed: u64) -> Run {
     let mut b = Bench::new(name, about, seed);
