@@ -19,7 +19,7 @@ use Rattle.rules.specs.Tags.{entryAt, entryTag, entrySet, isDue, tagKey, tagMat
 use Rattle.rules.specs.declared.Chain.{Chain}
 use Rattle.rules.specs.declared.Tag.{Tag}
 use Rattle.chain.proofs.Steps.{walk-on, walked-key, walked-length}
-use Rattle.due_tag_keys.specs.Outcomes.{entrySlot, matchOutcome, dueOutcome, Outcomes, JudgedAt, JudgedAbove}
+use Rattle.due_tag_keys.specs.Outcomes.{entrySlot, TagOfSlot, matchOutcome, dueOutcome, Outcomes, JudgedAt, JudgedAbove}
 
 -- ---- a list that is filled place by place
 
@@ -46,6 +46,17 @@ best-one f k below best r p q s j h b =
     (λ a. let z = p j a b in omega arith)
     (λ a. rw a (s (rw (← a) b)))
     (equal-or-below j k h)
+
+-- it is 0 or a tag's, as the best before it was
+pub tag-one : (c : Chain) (waiting : List ℕ) (k best slot r : ℕ) → slot ≡ entrySlot c (entryAt waiting k) → (best ≡ 0) ⊎ TagOfSlot c waiting k best → (r ≡ best) ⊎ (r ≡ slot) → (r ≡ 0) ⊎ TagOfSlot c waiting (k + 1) r
+tag-one c waiting k best slot r e b =
+    ⊎-elim
+    (λ p. ⊎-elim (λ z. inl (p ∙ z)) (λ t. inr (record { place = t .place; waits = omega (arith, t .waits); slot-is = t .slot-is ∙ sym p })) b)
+    (λ p. inr (record { place = k; waits = omega arith; slot-is = sym e ∙ sym p }))
+
+pub tag-of-more : (c : Chain) (waiting : List ℕ) (k n r : ℕ) → k ≤ n → (r ≡ 0) ⊎ TagOfSlot c waiting k r → (r ≡ 0) ⊎ TagOfSlot c waiting n r
+tag-of-more c waiting k n r h =
+    ⊎-elim (λ z. inl z) (λ t. inr (record { place = t .place; waits = omega (arith, t .waits); slot-is = t .slot-is }))
 
 -- slot 0 is the root's alone
 pub slot-positive : (c : Chain) (e : List ℕ) → 1 ≤ entrySlot c e

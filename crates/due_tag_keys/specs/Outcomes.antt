@@ -13,6 +13,12 @@ use Rattle.rules.specs.declared.Chain.{Chain}
 unfoldable pub entrySlot : Chain → List ℕ → ℕ
 entrySlot c e = keySlot c ((entryTag e) .time) ((entryTag e) .block) ((entryTag e) .adkd)
 
+-- one of the first n entries has its tag's key at this slot
+pub record TagOfSlot (c : Chain) (waiting : List ℕ) (n slot : ℕ) : Type 0 where
+  pub place : ℕ
+  pub waits : place < n
+  pub slot-is : entrySlot c (entryAt waiting place) ≡ slot
+
 -- the outcome of an entry's tag under the key of its slot
 unfoldable pub matchOutcome : Chain → Held → List ℕ → ℕ
 matchOutcome c h e = cond (tagMatches c h false (entryTag e) (entrySet e)) 1 2

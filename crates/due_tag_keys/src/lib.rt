@@ -7,6 +7,7 @@
 use rules::Chain;
 ghost use mathlib.Core.Path.{_≡_};
 ghost use mathlib.Core.Bool.{cond};
+ghost use mathlib.Core.Logic.{_⊎_};
 ghost use Prim.Native.Nat.{ℕ, _+_, _*_, _^_, _≤_, _<_};
 ghost use lib.Dec.{eqb};
 ghost use lib.ListN.{length, take};
@@ -16,7 +17,7 @@ ghost use Rattle.rules.specs.Tags.{entryAt};
 ghost use Rattle.rules.specs.State.{waitingLength, entryLength};
 ghost use Rattle.rules.specs.declared.Chain.{Chain};
 ghost use Rattle.chain.specs.Sound.{Walks, Met};
-ghost use Rattle.due_tag_keys.specs.Outcomes.{entrySlot, matchOutcome, Outcomes, JudgedAt};
+ghost use Rattle.due_tag_keys.specs.Outcomes.{entrySlot, TagOfSlot, matchOutcome, Outcomes, JudgedAt};
 
 // Steps of a way that are sooner walked again than the waiting tags are looked through.
 const SHORT_WAY: u64 = 256;
@@ -35,7 +36,7 @@ fn entry_slot(c: Chain, waiting: &[u8], k: usize) -> u64
 // The higher of a slot and the best so far, if it is below the bound.
 fn higher(best: u64, slot: u64, below: u64) -> u64
     requires { ⌜ best < below ⌝ }
-    ensures { λ r. ⌜ (r < below) × ((best ≤ r) × (slot < below → slot ≤ r)) ⌝ }
+    ensures { λ r. ⌜ (r < below) × ((best ≤ r) × ((slot < below → slot ≤ r) × ((r ≡ best) ⊎ (r ≡ slot)))) ⌝ }
 {
     if below <= slot {
         return best;
@@ -50,7 +51,8 @@ fn higher(best: u64, slot: u64, below: u64) -> u64
 fn next_below(c: Chain, waiting: &[u8], n: usize, below: u64) -> u64
     requires { ⌜ (Walks c × (1 ≤ below)) × ((length (now waiting) ≡ waitingLength) × (n ≤ 256)) ⌝ }
     ensures { λ r. ⌜ (r < below)
-        × ((k : ℕ) → k < n → entrySlot c (entryAt (now (waiting .entry)) k) < below → entrySlot c (entryAt (now (waiting .entry)) k) ≤ r) ⌝ }
+        × (((k : ℕ) → k < n → entrySlot c (entryAt (now (waiting .entry)) k) < below → entrySlot c (entryAt (now (waiting .entry)) k) ≤ r)
+        × ((r ≡ 0) ⊎ TagOfSlot c (now (waiting .entry)) n r)) ⌝ }
 {
     let mut best: u64 = 0;
     let mut k: usize = 0;
@@ -61,14 +63,15 @@ fn next_below(c: Chain, waiting: &[u8], n: usize, below: u64) -> u64
     best
 }
 
-// The slot whose key is worth keeping on the way between a key of slot `last` and the one of slot `slot`: where the way up is short, `own`; where it
-// is long, one at or below `last` above which no tag that falls due has its slot. Any slot serves, and changes no answer.
+// The slot whose key is worth keeping on the way between a key of slot `last` and the one of slot `slot`. Where the way up is short it is `own`. Where it
+// is long it is one at or below `last`, 0 or a waiting tag's, above which no tag that falls due has its slot. Any slot serves, and changes no answer.
 pub fn slot_to_keep(c: Chain, slot: u64, last: u64, own: u64, waiting: &[u8], n: usize) -> u64
     requires { ⌜ (Walks c × ((slot < 2 ^ 34) × (last < 2 ^ 34))) × ((length (now waiting) ≡ waitingLength) × (n ≤ 256)) ⌝ }
     ensures { λ r. ⌜ (last ≤ slot + 256 → r ≡ own)
         × (slot + 256 < last →
         (r ≤ last)
-        × ((k : ℕ) → k < n → entrySlot c (entryAt (now (waiting .entry)) k) ≤ last → entrySlot c (entryAt (now (waiting .entry)) k) ≤ r)) ⌝ }
+        × (((k : ℕ) → k < n → entrySlot c (entryAt (now (waiting .entry)) k) ≤ last → entrySlot c (entryAt (now (waiting .entry)) k) ≤ r)
+        × ((r ≡ 0) ⊎ TagOfSlot c (now (waiting .entry)) n r))) ⌝ }
 {
     if last <= slot + SHORT_WAY {
         return own;

@@ -12,7 +12,7 @@ use Rattle.rules.specs.State.{State, Tesla, Auth, withTesla, withAuth}
 use Rattle.rules.specs.Tags.{entryAt}
 use Rattle.rules.specs.declared.Chain.{Chain}
 use Rattle.chain.specs.declared.Way.{Way}
-use Rattle.due_tag_keys.specs.Outcomes.{entrySlot}
+use Rattle.due_tag_keys.specs.Outcomes.{entrySlot, TagOfSlot}
 
 -- the held key and the waiting tags, as three regions
 abbrev pub tesla : List ℕ → List ℕ → List ℕ → Tesla
@@ -32,9 +32,10 @@ pub record Gives (m : MackDone) (code count : ℕ) (s : State) (area area′ : L
 -- Keys that were kept while a section's keys were proved, so that no way is walked twice: slot `first` was held before, and the highest key proved has
 -- this slot
 pub record WalkedOnce (c : Chain) (waiting : List ℕ) (n first time prn marks code slot : ℕ) (w : Way) : Type 0 where
-  -- after a long way, up to the last block's key, none of the first n waiting tags that fall due has its slot above a key that was kept on it
+  -- after a long way, up to the last block's key: where one of the first n waiting tags falls due, a key was kept on it that is a tag's, and no tag that
+  -- falls due has its slot above that
   pub due : slot ≡ sentSlot c time (c .nmack) prn → first + 256 < slot → (k : ℕ) → k < n → first < entrySlot c (entryAt waiting k) → entrySlot c (entryAt waiting k) ≤ slot
-      → entrySlot c (entryAt waiting k) ≤ w .near
+      → (entrySlot c (entryAt waiting k) ≤ w .near) × TagOfSlot c waiting n (w .near)
   -- the key that block 1 sent is kept; so is the key of the last block's tags, unless the way up was long
   pub own : code ≡ 0 → keyCame c marks 1 ≡ true → w .low ≡ sentSlot c time 1 prn
   pub last : code ≡ 0 → keyCame c marks 1 ≡ true → sentSlot c time (c .nmack) prn ≤ first + 256 → sentSlot c time 1 prn ≤ keySlot c time (c .nmack) 0 → keySlot c time (c .nmack) 0 ≤ slot

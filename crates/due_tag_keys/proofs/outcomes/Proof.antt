@@ -48,7 +48,7 @@ loop-holds c =
       ((begun c .not-above, begins c), (c .nearer .ensures .0 .0, refl)),
       λ h e k. (
         k,
-        none-above (g .c) h (now (g .waiting)) (g .n) (r .result) (rw e (r .ensures .1)) (replicate 256 0) (λ k q. getD-replicate 256 k 0 0 (omega (arith, a .pre .0 .1 .0 .1))),
+        none-above (g .c) h (now (g .waiting)) (g .n) (r .result) (rw e (r .ensures .1 .0)) (replicate 256 0) (λ k q. getD-replicate 256 k 0 0 (omega (arith, a .pre .0 .1 .0 .1))),
       ),
     )
 
@@ -65,7 +65,7 @@ loop-again c =
           let j = d .ensures .1 h (rw e (l .inv .0 .0 .0)) (i .0) in (
             j .0,
             next-above (g .c) h (now (g .waiting)) (g .n) (l .m) (r .result) (l .judged) (d .last .1 .1 .1 .1 .1 .1 .0)
-                (rw e (omega arith)) (r .ensures .0) (i .1) (j .1) (r .ensures .1),
+                (rw e (omega arith)) (r .ensures .0) (i .1) (j .1) (r .ensures .1 .0),
           ),
     )
 

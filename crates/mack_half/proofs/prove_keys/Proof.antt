@@ -1,6 +1,7 @@
 -- `mack_half::prove_keys` meets its contract: whichever key is kept, the section's keys are judged alike; on a long way it is one from which all tags
 -- that fall due are reached.
 -- Assumes nothing.
+use mathlib.Core.Logic.{⊎-elim}
 use mathlib.Core.Path.{sym, _∙_}
 use native.Mathlib.Omega.{arith}
 use borrow.Author.Needs.{needs}
@@ -36,8 +37,11 @@ returns c =
             due = λ l w k n up due.
                 let last = l ∙ sym sent in
                 let high = b .1 (omega (arith, last)) in
-                let near = e .1 .1 .1 .0 (omega (arith, high .1 k n (omega (arith, last)))) (omega (arith, high .0, last)) in
-                omega (arith, near, high .1 k n (omega (arith, last)));
+                let top = high .1 .0 k n (omega (arith, last)) in
+                let near = e .1 .1 .1 .0 (omega (arith, top)) (omega (arith, high .0, last)) in (
+                  omega (arith, near, top),
+                  ⊎-elim (λ z. absurd (omega (arith, z, top))) (λ t. record { place = t .place; waits = t .waits; slot-is = t .slot-is ∙ sym near }) (high .1 .1),
+                );
             own = λ z k. (e .1 .1 .1 .1 z k) .own-is;
             last = λ z k short l m.
                 let via = b .0 (rw (sent) short) ∙ own in
