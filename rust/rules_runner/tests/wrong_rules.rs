@@ -24,6 +24,15 @@ struct WrongRule {
     run: String,
 }
 
+/// Gone with its value. It stands outside the repository, where every file of definitions must be a crate's.
+struct Folder(PathBuf);
+
+impl Drop for Folder {
+    fn drop(&mut self) {
+        fs::remove_dir_all(&self.0).unwrap();
+    }
+}
+
 fn here() -> &'static Path {
     Path::new(env!("CARGO_MANIFEST_DIR"))
 }
@@ -48,8 +57,9 @@ impl WrongRule {
     }
 
     /// A folder of crates with this rule.
-    fn crates(&self) -> PathBuf {
-        let folder = Path::new(env!("CARGO_TARGET_TMPDIR")).join(&self.name);
+    fn crates(&self) -> Folder {
+        let name = format!("wrong_rules_{}_{}", std::process::id(), self.name);
+        let folder = std::env::temp_dir().join(name);
         for name in DEFINED {
             let to = folder.join(name).join("specs");
             fs::create_dir_all(&to).unwrap();
@@ -62,7 +72,7 @@ impl WrongRule {
         let text = fs::read_to_string(&path).unwrap();
         assert_eq!(text.matches(&self.old).count(), 1, "{}", self.name);
         fs::write(path, text.replace(&self.old, &self.new)).unwrap();
-        folder
+        Folder(folder)
     }
 
     fn input(&self) -> Vec<u8> {
@@ -78,7 +88,7 @@ impl WrongRule {
 
     fn is_noticed(&self) -> bool {
         let (folder, input) = (self.crates(), self.input());
-        let rules = Rules::load(&folder, Hashes::Portable);
+        let rules = Rules::load(&folder.0, Hashes::Portable);
         let rules = rules.unwrap_or_else(|error| panic!("{}: {error}", self.name));
         beside_second(&rules, &input).is_some()
     }

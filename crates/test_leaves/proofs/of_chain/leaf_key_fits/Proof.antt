@@ -5,7 +5,7 @@ use Rattle.test_leaves.proofs.of_chain.leaf_key_fits.Statement.{stateme
 use Rattle.test_leaves.proofs.of_chain.leaf_key_fits.Tie as tie
 
 returns : tie.Need-returns
-returns c = rw (← (c .before .key-fits .ensures)) (c .number .ensures)
+returns c = rw (← (c .before .key-fits .ensures .0)) (c .number .ensures)
 
 pub leaf-key-fits-spec : {M : Type 1} → statement M
 leaf-key-fits-spec = tie.close (tie.spec (λ c κs. search needs) (λ c κs. search needs) returns)
