@@ -128,28 +128,34 @@ one-missing marks last (suc k) l m h =
     (not-ones (marks / 2 ^ (15 - last)) k h)
 
 -- 2 ^ r in sixteen bits
-pub whole-is : (r : ℕ) → r < 16 → 1 * 2 ^ r % 65536 ≡ 2 ^ r
+whole-is : (r : ℕ) → r < 16 → 1 * 2 ^ r % 65536 ≡ 2 ^ r
 whole-is r h =
     let l : 2 ^ r < 65536 = pow-lt {i = r} {j = 16} h in
     omega arith
 
--- the bits by the run of their fields' marks: `first` and `last` are those of the first and the last bit
+pub whole-positive : (r : ℕ) → r < 16 → 0 < 1 * 2 ^ r % 65536
+whole-positive r h = rw (whole-is r h) (pow-pos r)
+
+-- the bits by the run of marks from the first bit's field to the last bit's
 module _ (marks at n last : ℕ) (some : 1 ≤ n) (last-is : last ≡ (at + n - 1) / 32) (high : last ≤ 14) where
   abbrev run : ℕ
   run = last - at / 32 + 1
 
-  pub came-by-ones : marks / 2 ^ (15 - last) % 2 ^ run ≡ 2 ^ run - 1 → bitsCame marks at n ≡ true
+  came-by-ones : marks / 2 ^ (15 - last) % 2 ^ run ≡ 2 ^ run - 1 → bitsCame marks at n ≡ true
   came-by-ones h =
       all-fields marks at n (last + 1) (omega arith)
       (λ j l b.
       let e : last - (last - j) ≡ j = omega arith in
       rw (← e) (all-ones marks last run high (omega arith) h (last - j) (omega arith)))
 
-  pub lost-by-ones : (marks / 2 ^ (15 - last) % 2 ^ run ≡ 2 ^ run - 1 → ⊥) → bitsCame marks at n ≡ false
+  lost-by-ones : (marks / 2 ^ (15 - last) % 2 ^ run ≡ 2 ^ run - 1 → ⊥) → bitsCame marks at n ≡ false
   lost-by-ones h =
       let r = one-missing marks last run high (omega arith) h in
       one-field marks at n (last - r .0) (omega (arith, r .1 .0)) (omega (arith, r .1 .0)) some (r .1 .1)
 
-  pub by-ones : (r : Bool) → r ≡ eqb (marks / 2 ^ (15 - last) % 2 ^ run) (2 ^ run - 1) → r ≡ bitsCame marks at n
+  by-ones : (r : Bool) → r ≡ eqb (marks / 2 ^ (15 - last) % 2 ^ run) (2 ^ run - 1) → r ≡ bitsCame marks at n
   by-ones true e = sym (came-by-ones (eqb-true _ _ (sym e)))
   by-ones false e = sym (lost-by-ones (eqb-false _ _ (sym e)))
+
+  pub by-run : eqb (marks / 2 ^ (15 - last) % (1 * 2 ^ run % 65536)) (1 * 2 ^ run % 65536 - 1) ≡ bitsCame marks at n
+  by-run = rw (whole-is run (omega arith)) (by-ones _ refl)
