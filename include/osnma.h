@@ -72,14 +72,14 @@ extern "C" {
 /* ---- version and layout */
 
 /** The version of this header and of the calls (CHANGELOG.md). */
-#define OSNMA_VERSION "0.1.0"
+#define OSNMA_VERSION "0.2.0"
 
 /**
  * The number of the layout: it rises whenever a region of struct osnma_core, in size or in meaning, or
  * the parameters of an exported function change. The archive exports a function whose name ends in it,
  * and osnma_start calls that function, so that a header and an archive of different layouts do not link.
  */
-#define OSNMA_LAYOUT 1
+#define OSNMA_LAYOUT 2
 #define OSNMA_JOIN_EXPANDED(a, b) a##b
 #define OSNMA_JOIN(a, b) OSNMA_JOIN_EXPANDED(a, b)
 #define OSNMA_LAYOUT_EXPORT OSNMA_JOIN(osnma_layout_, OSNMA_LAYOUT)
@@ -100,6 +100,9 @@ uint32_t OSNMA_LAYOUT_EXPORT(void);
 #define OSNMA_TREE_ROOT 32u  /**< the root of the tree of public keys */
 #define OSNMA_MARKS 28u      /**< 14 marks for second 0 of the minute, then 14 for second 30 */
 #define OSNMA_SATELLITES 36u /**< PRN 1 to 36 */
+
+/** The tag bits that must agree on a set before it is authentic. */
+#define OSNMA_AUTHENTIC_BITS 40u
 
 /** The mark of a flexible field. The others are 0 to 15, the ADKD of a fixed one. */
 #define OSNMA_FLEXIBLE 255u
@@ -126,11 +129,11 @@ uint32_t OSNMA_LAYOUT_EXPORT(void);
 #define OSNMA_NUMBERS_COUNT 2u
 #define OSNMA_HELDKEY_COUNT 32u
 #define OSNMA_WAITING_COUNT 21504u
-#define OSNMA_SETS_COUNT 2484u
-#define OSNMA_ARRIVALS_COUNT 36u
+#define OSNMA_SETS_COUNT 4968u
+#define OSNMA_ARRIVALS_COUNT 108u
 
 /** The size of a core where uint64_t is aligned to 8 bytes; never more. */
-#define OSNMA_CORE_SIZE 32896u
+#define OSNMA_CORE_SIZE 35664u
 
 /* ---- what calls answer */
 
@@ -178,9 +181,25 @@ enum osnma_answer {
     OSNMA_FIELDS_MISSING = 17
 };
 
-/** What became of a tag: document 01's outcomes, and 8 of document 02. */
+/**
+ * What became of a tag: document 01's outcomes, and 8 and 9 of document 02.
+ *
+ * A tag that matches its satellite's set agrees with it. Tag bits that agree on the same 549 bits of a
+ * satellite are summed, and at OSNMA_AUTHENTIC_BITS the set is authentic. Until then it is the
+ * satellite's candidate, of which each satellite has one beside its authentic set. No read gives a
+ * candidate, and its data is not to be used.
+ *   - A tag that agrees with the bits of the authentic set is OSNMA_AUTHENTIC, and the candidate stays.
+ *   - One on the candidate's bits adds its own to their total.
+ *   - One on bits of neither makes them the candidate, with its own bits as the total, unless the
+ *     candidate's latest tag came later: it is then OSNMA_AGREES and counts nowhere.
+ *   - At OSNMA_AUTHENTIC_BITS the candidate becomes the authentic set, with its latest tag as the
+ *     set's; where the old set's tag came later than that one, the old set stays. Either way the
+ *     satellite has no candidate then.
+ * A verdict that changes the chain or drops it clears all candidates, and an accepted start does.
+ */
 enum osnma_outcome {
-    /** It matches its satellite's set, which is now authentic unless a later tag's set is held. */
+    /** It agrees with its satellite's set, on which OSNMA_AUTHENTIC_BITS or more agree. The set is now
+        authentic unless a later tag's set is held. */
     OSNMA_AUTHENTIC = 1,
     /** It does not match. */
     OSNMA_WRONG = 2,
@@ -196,7 +215,10 @@ enum osnma_outcome {
     /** It would wait, but all 256 places are taken. */
     OSNMA_NO_PLACE = 7,
     /** Bits of it, of its block's key, of its MAC-Info or of what MACSEQ is made of are missing. */
-    OSNMA_BITS_MISSING = 8
+    OSNMA_BITS_MISSING = 8,
+    /** It agrees with its satellite's set, which is not authentic: fewer than OSNMA_AUTHENTIC_BITS are
+        summed on it. */
+    OSNMA_AGREES = 9
 };
 
 /** A few words for a number, for logs. Never null. */
@@ -235,7 +257,8 @@ static inline const char *osnma_outcome_text(uint32_t outcome)
         "waits for its key",
         "MACSEQ fails",
         "no place to wait",
-        "bits are missing"};
+        "bits are missing",
+        "agrees, too few bits so far"};
     return outcome >= 1 && outcome <= sizeof text / sizeof text[0] ? text[outcome - 1]
                                                                    : "a number that is not listed";
 }
@@ -303,15 +326,16 @@ struct osnma_core {
     uint8_t heldkey[OSNMA_HELDKEY_COUNT];
     /** 256 places for waiting tags, 84 bytes each, in order of arrival. */
     uint8_t waiting[OSNMA_WAITING_COUNT];
-    /** By PRN: the authentic set. */
+    /** By PRN: the authentic set. Then by PRN: the candidate (enum osnma_outcome says what that is). */
     uint8_t sets[OSNMA_SETS_COUNT];
-    /** By PRN: the stamp of the sub-frame that brought that set's tag. */
+    /** By PRN: the stamp of the sub-frame that brought that set's tag. Then by PRN: that of the candidate's
+        latest tag, 0 where there is no candidate. Then by PRN: the tag bits that agree on it. */
     uint32_t arrivals[OSNMA_ARRIVALS_COUNT];
 };
 
 /** Does not compile where a core is larger than its stated size, or has fewer bytes than its regions. */
 typedef char osnma_core_has_its_size
-    [sizeof(struct osnma_core) <= OSNMA_CORE_SIZE && sizeof(struct osnma_core) >= 32887u ? 1 : -1];
+    [sizeof(struct osnma_core) <= OSNMA_CORE_SIZE && sizeof(struct osnma_core) >= 35659u ? 1 : -1];
 
 /**
  * Whether an emergency message stopped the core. It then answers OSNMA_STOPPED to all but a new start
@@ -401,7 +425,7 @@ static inline uint32_t osnma_key_length(uint8_t key_type)
 
 /**
  * Begins a new list with what it is given and nothing from before: no word, block, message, chain,
- * tag, set or time.
+ * tag, set, candidate or time.
  *
  * Lent: the core, of any contents; the settings, which are read.
  *
@@ -447,13 +471,15 @@ static inline enum osnma_answer osnma_start(struct osnma_core *core,
  *
  * Then the MACK half answers:
  * OSNMA_DONE          The highest proved key is held. Due tags have left their places, tags with a
- *                     delay have taken places, and sets that were shown to be authentic are held.
+ *                     delay have taken places, and the sets that tags agree with are held, as
+ *                     authentic sets or as candidates.
  * OSNMA_STOPPED       This sub-frame brought an emergency message. Its section is not looked at.
  * OSNMA_NOT_IN_FORCE  No chain in force, status 0 or 3, another CID, or before the chain's sub-frame 0.
  * OSNMA_TOO_FAR       A key lies more than 1,000,000 slots past the one held.
  * OSNMA_KEY_UNFIT     A key is not of the chain, or a spare bit is 1.
  * The last two go block by block, and the first block that fails refuses the whole section. A half that
- * is refused leaves public keys, chain, held key, waiting tags and authentic sets as they are.
+ * is refused leaves public keys, chain, held key, waiting tags, authentic sets and candidates as they
+ * are.
  */
 static inline struct osnma_halves osnma_subframe(struct osnma_core *core, uint8_t prn, uint32_t time,
                                                  const uint8_t fields[OSNMA_FIELDS],
@@ -513,11 +539,12 @@ static inline enum osnma_answer osnma_word(struct osnma_core *core, uint8_t prn,
  *
  * Lent: the core; the 45 bytes of the message and the 132 of the signature, which are read.
  *
- * OSNMA_DONE          The wait ends. Status 3 in the message's header drops the chain in force and the
- *                     waiting tags. Status 1 or 2 drops public keys of lower ID than `key_id`; contents
- *                     that are in force already change nothing more, others are put in force: the held
- *                     key begins again at their root, and waiting tags stay only if the chain is the
- *                     same (CID, parameters, alpha) and their key's sub-frame is not before the root's.
+ * OSNMA_DONE          The wait ends. Status 3 in the message's header drops the chain in force, the
+ *                     waiting tags and the candidates. Status 1 or 2 drops public keys of lower ID than
+ *                     `key_id`; contents that are in force already change nothing more, others are put
+ *                     in force: the held key begins again at their root, candidates stay only if the
+ *                     chain is the same (CID, parameters, alpha), and waiting tags only if it is and
+ *                     their key's sub-frame is not before the root's. Authentic sets stay.
  * OSNMA_OUT_OF_RANGE  The core stays. `good` above 1 or `key_id` above 15.
  * OSNMA_STOPPED       The core stays.
  * OSNMA_NOT_WAITING   The core stays. Nothing waits, or another key ID, message or signature.
@@ -541,8 +568,8 @@ static inline enum osnma_answer osnma_verdict_on(struct osnma_core *core,
 }
 
 /**
- * A satellite's authentic set, its IODnav, and the GST_SF at which the tag came that showed it to be
- * authentic. A stopped core answers too.
+ * A satellite's authentic set, its IODnav, and the GST_SF at which the latest of the tags came that agree
+ * with it. A candidate is not given. A stopped core answers too.
  *
  * Lent: the core, which is read; the 69 bytes of the set, its IODnav and its time, which are written.
  *
@@ -639,6 +666,7 @@ uint32_t osnma_regions_verdict(
     uint64_t *numbers, size_t numbers_count,
     uint8_t *heldkey, size_t heldkey_count,
     uint8_t *waiting, size_t waiting_count,
+    uint32_t *arrivals, size_t arrivals_count,
     uint8_t good, uint8_t id,
     const uint8_t *message, size_t message_count,
     const uint8_t *signature, size_t signature_count);
@@ -732,8 +760,8 @@ static inline enum osnma_answer osnma_verdict(struct osnma_core *core, uint8_t g
     return (enum osnma_answer)osnma_regions_verdict(
         core->config, OSNMA_CONFIG_COUNT, core->pubkeys, OSNMA_PUBKEYS_COUNT, core->offer,
         OSNMA_OFFER_COUNT, core->chain, OSNMA_CHAIN_COUNT, core->numbers, OSNMA_NUMBERS_COUNT,
-        core->heldkey, OSNMA_HELDKEY_COUNT, core->waiting, OSNMA_WAITING_COUNT, good, key_id, message,
-        OSNMA_MESSAGE, signature, OSNMA_SIGNATURE);
+        core->heldkey, OSNMA_HELDKEY_COUNT, core->waiting, OSNMA_WAITING_COUNT, core->arrivals,
+        OSNMA_ARRIVALS_COUNT, good, key_id, message, OSNMA_MESSAGE, signature, OSNMA_SIGNATURE);
 }
 
 static inline enum osnma_answer osnma_read_set(const struct osnma_core *core, uint8_t prn,

@@ -44,31 +44,31 @@ unfolding Times.gst Times.weekOf Times.secondOf Times.timeValid Times.secondsOf 
 step-to-root = refl
 
 tag0-is : ownTag chain section18 0 ≡ tag0
-unfolding Bits.bit Bits.bits Bits.bitList Bits.bytesAt Bits.octet Bits.packed Bits.filled Words.wordType Words.svidOf Words.wordIssue Words.heldType Words.wordPlace Words.wordAt Words.wordStored Words.setBits Words.setBytes Words.setOf Words.setIssue Words.wordCame Words.cameBefore Words.oneIssue Words.setUsable Words.usable Tags.macBits Tags.macCode Tags.statusAndSet Tags.firstMessage Tags.tagMessage Tags.tagKey Tags.tagMatches Tags.tagRecord Tags.recordIssue Tags.tagEntry Tags.entryAt Tags.entryTag Tags.entrySet Tags.isDue Tags.setsEntered Tags.arrivalsEntered Tags.marksSet Tags.told Tags.kept Tags.dueJudged Tags.duesJudged Tags.secondHalf Tags.flexible Tags.ownTag Tags.macseqMessage Tags.macseqFits Tags.notAllowed Tags.ownOutcome Tags.ownJudged Tags.ownsJudged Sha256.add Sha256.complement Sha256.shr Sha256.rotr Sha256.ch Sha256.maj Sha256.Σ0 Sha256.Σ1 Sha256.σ0 Sha256.σ1 Sha256.K Sha256.tail Sha256.pad Sha256.block Sha256.words Sha256.H0 Sha256.next Sha256.extended Sha256.schedule Sha256.round Sha256.rounds Sha256.sums Sha256.compress Sha256.hashed Sha256.bytes Sha256.digest Sha256.sha256 Sha256.finished Hmac.zeroPadded Hmac.keyBlock Hmac.xored Hmac.innerPad Hmac.outerPad Hmac.hmac Hmac.keyOf Hmac.hmacWith Bytes.be2 Bytes.be4 Bytes.be8 Bytes.u16at Bytes.u32at Lists.part Lists.splice Lists.same Times.gst Times.weekOf Times.secondOf Times.timeValid Times.secondsOf Times.gstOf Times.stampOf Times.hourSeconds Times.subframeAt Times.slotOf Times.lowestSlot Times.slotSeconds Times.delayOf Times.keySeconds Times.tagSlot Chain.slotTime Chain.keyStep Chain.walk Chain.keyOfSlot Chain.keyFits Chain.higher Chain.sentSlot Chain.keySlot Mack.blockAt Mack.fieldAt Mack.fieldTag Mack.fieldInfo Mack.macseqOf Kroot.blockBits State.markOf
+unfolding Bits.bit Bits.bits Bits.bitList Bits.bytesAt Bits.octet Bits.packed Bits.filled Words.wordType Words.svidOf Words.wordIssue Words.heldType Words.wordPlace Words.wordAt Words.wordStored Words.setBits Words.setBytes Words.setOf Words.setIssue Words.wordCame Words.cameBefore Words.oneIssue Words.setUsable Words.usable Tags.macBits Tags.macCode Tags.statusAndSet Tags.firstMessage Tags.tagMessage Tags.tagKey Tags.tagMatches Tags.tagRecord Tags.recordIssue Tags.tagEntry Tags.entryAt Tags.entryTag Tags.entrySet Tags.isDue Tags.told Tags.kept Tags.dueJudged Tags.duesJudged Tags.secondHalf Tags.flexible Tags.ownTag Tags.macseqMessage Tags.macseqFits Tags.notAllowed Tags.ownOutcome Tags.ownJudged Tags.ownsJudged Sha256.add Sha256.complement Sha256.shr Sha256.rotr Sha256.ch Sha256.maj Sha256.Σ0 Sha256.Σ1 Sha256.σ0 Sha256.σ1 Sha256.K Sha256.tail Sha256.pad Sha256.block Sha256.words Sha256.H0 Sha256.next Sha256.extended Sha256.schedule Sha256.round Sha256.rounds Sha256.sums Sha256.compress Sha256.hashed Sha256.bytes Sha256.digest Sha256.sha256 Sha256.finished Hmac.zeroPadded Hmac.keyBlock Hmac.xored Hmac.innerPad Hmac.outerPad Hmac.hmac Hmac.keyOf Hmac.hmacWith Bytes.be2 Bytes.be4 Bytes.be8 Bytes.u16at Bytes.u32at Lists.part Lists.splice Lists.same Times.gst Times.weekOf Times.secondOf Times.timeValid Times.secondsOf Times.gstOf Times.stampOf Times.hourSeconds Times.subframeAt Times.slotOf Times.lowestSlot Times.slotSeconds Times.delayOf Times.keySeconds Times.tagSlot Chain.slotTime Chain.keyStep Chain.walk Chain.keyOfSlot Chain.keyFits Chain.higher Chain.sentSlot Chain.keySlot Mack.blockAt Mack.fieldAt Mack.fieldTag Mack.fieldInfo Mack.macseqOf Kroot.blockBits State.markOf
 tag0-is = refl
 
 message-0 : firstMessage tag0 navdata ≡ message0
-unfolding Bits.bit Bits.bits Bits.bitList Bits.bytesAt Bits.octet Bits.packed Bits.filled Words.wordType Words.svidOf Words.wordIssue Words.heldType Words.wordPlace Words.wordAt Words.wordStored Words.setBits Words.setBytes Words.setOf Words.setIssue Words.wordCame Words.cameBefore Words.oneIssue Words.setUsable Words.usable Tags.macBits Tags.macCode Tags.statusAndSet Tags.firstMessage Tags.tagMessage Tags.tagKey Tags.tagMatches Tags.tagRecord Tags.recordIssue Tags.tagEntry Tags.entryAt Tags.entryTag Tags.entrySet Tags.isDue Tags.setsEntered Tags.arrivalsEntered Tags.marksSet Tags.told Tags.kept Tags.dueJudged Tags.duesJudged Tags.secondHalf Tags.flexible Tags.ownTag Tags.macseqMessage Tags.macseqFits Tags.notAllowed Tags.ownOutcome Tags.ownJudged Tags.ownsJudged Sha256.add Sha256.complement Sha256.shr Sha256.rotr Sha256.ch Sha256.maj Sha256.Σ0 Sha256.Σ1 Sha256.σ0 Sha256.σ1 Sha256.K Sha256.tail Sha256.pad Sha256.block Sha256.words Sha256.H0 Sha256.next Sha256.extended Sha256.schedule Sha256.round Sha256.rounds Sha256.sums Sha256.compress Sha256.hashed Sha256.bytes Sha256.digest Sha256.sha256 Sha256.finished Hmac.zeroPadded Hmac.keyBlock Hmac.xored Hmac.innerPad Hmac.outerPad Hmac.hmac Hmac.keyOf Hmac.hmacWith Bytes.be2 Bytes.be4 Bytes.be8 Bytes.u16at Bytes.u32at Lists.part Lists.splice Lists.same Times.gst Times.weekOf Times.secondOf Times.timeValid Times.secondsOf Times.gstOf Times.stampOf Times.hourSeconds Times.subframeAt Times.slotOf Times.lowestSlot Times.slotSeconds Times.delayOf Times.keySeconds Times.tagSlot Chain.slotTime Chain.keyStep Chain.walk Chain.keyOfSlot Chain.keyFits Chain.higher Chain.sentSlot Chain.keySlot Mack.blockAt Mack.fieldAt Mack.fieldTag Mack.fieldInfo Mack.macseqOf Kroot.blockBits State.markOf
+unfolding Bits.bit Bits.bits Bits.bitList Bits.bytesAt Bits.octet Bits.packed Bits.filled Words.wordType Words.svidOf Words.wordIssue Words.heldType Words.wordPlace Words.wordAt Words.wordStored Words.setBits Words.setBytes Words.setOf Words.setIssue Words.wordCame Words.cameBefore Words.oneIssue Words.setUsable Words.usable Tags.macBits Tags.macCode Tags.statusAndSet Tags.firstMessage Tags.tagMessage Tags.tagKey Tags.tagMatches Tags.tagRecord Tags.recordIssue Tags.tagEntry Tags.entryAt Tags.entryTag Tags.entrySet Tags.isDue Tags.told Tags.kept Tags.dueJudged Tags.duesJudged Tags.secondHalf Tags.flexible Tags.ownTag Tags.macseqMessage Tags.macseqFits Tags.notAllowed Tags.ownOutcome Tags.ownJudged Tags.ownsJudged Sha256.add Sha256.complement Sha256.shr Sha256.rotr Sha256.ch Sha256.maj Sha256.Σ0 Sha256.Σ1 Sha256.σ0 Sha256.σ1 Sha256.K Sha256.tail Sha256.pad Sha256.block Sha256.words Sha256.H0 Sha256.next Sha256.extended Sha256.schedule Sha256.round Sha256.rounds Sha256.sums Sha256.compress Sha256.hashed Sha256.bytes Sha256.digest Sha256.sha256 Sha256.finished Hmac.zeroPadded Hmac.keyBlock Hmac.xored Hmac.innerPad Hmac.outerPad Hmac.hmac Hmac.keyOf Hmac.hmacWith Bytes.be2 Bytes.be4 Bytes.be8 Bytes.u16at Bytes.u32at Lists.part Lists.splice Lists.same Times.gst Times.weekOf Times.secondOf Times.timeValid Times.secondsOf Times.gstOf Times.stampOf Times.hourSeconds Times.subframeAt Times.slotOf Times.lowestSlot Times.slotSeconds Times.delayOf Times.keySeconds Times.tagSlot Chain.slotTime Chain.keyStep Chain.walk Chain.keyOfSlot Chain.keyFits Chain.higher Chain.sentSlot Chain.keySlot Mack.blockAt Mack.fieldAt Mack.fieldTag Mack.fieldInfo Mack.macseqOf Kroot.blockBits State.markOf
 message-0 = refl
 
 tag0-matches : tagMatches chain (held 73 key73) true tag0 navdata ≡ true
-unfolding Bits.bit Bits.bits Bits.bitList Bits.bytesAt Bits.octet Bits.packed Bits.filled Words.wordType Words.svidOf Words.wordIssue Words.heldType Words.wordPlace Words.wordAt Words.wordStored Words.setBits Words.setBytes Words.setOf Words.setIssue Words.wordCame Words.cameBefore Words.oneIssue Words.setUsable Words.usable Tags.macBits Tags.macCode Tags.statusAndSet Tags.firstMessage Tags.tagMessage Tags.tagKey Tags.tagMatches Tags.tagRecord Tags.recordIssue Tags.tagEntry Tags.entryAt Tags.entryTag Tags.entrySet Tags.isDue Tags.setsEntered Tags.arrivalsEntered Tags.marksSet Tags.told Tags.kept Tags.dueJudged Tags.duesJudged Tags.secondHalf Tags.flexible Tags.ownTag Tags.macseqMessage Tags.macseqFits Tags.notAllowed Tags.ownOutcome Tags.ownJudged Tags.ownsJudged Sha256.add Sha256.complement Sha256.shr Sha256.rotr Sha256.ch Sha256.maj Sha256.Σ0 Sha256.Σ1 Sha256.σ0 Sha256.σ1 Sha256.K Sha256.tail Sha256.pad Sha256.block Sha256.words Sha256.H0 Sha256.next Sha256.extended Sha256.schedule Sha256.round Sha256.rounds Sha256.sums Sha256.compress Sha256.hashed Sha256.bytes Sha256.digest Sha256.sha256 Sha256.finished Hmac.zeroPadded Hmac.keyBlock Hmac.xored Hmac.innerPad Hmac.outerPad Hmac.hmac Hmac.keyOf Hmac.hmacWith Bytes.be2 Bytes.be4 Bytes.be8 Bytes.u16at Bytes.u32at Lists.part Lists.splice Lists.same Times.gst Times.weekOf Times.secondOf Times.timeValid Times.secondsOf Times.gstOf Times.stampOf Times.hourSeconds Times.subframeAt Times.slotOf Times.lowestSlot Times.slotSeconds Times.delayOf Times.keySeconds Times.tagSlot Chain.slotTime Chain.keyStep Chain.walk Chain.keyOfSlot Chain.keyFits Chain.higher Chain.sentSlot Chain.keySlot Mack.blockAt Mack.fieldAt Mack.fieldTag Mack.fieldInfo Mack.macseqOf Kroot.blockBits State.markOf
+unfolding Bits.bit Bits.bits Bits.bitList Bits.bytesAt Bits.octet Bits.packed Bits.filled Words.wordType Words.svidOf Words.wordIssue Words.heldType Words.wordPlace Words.wordAt Words.wordStored Words.setBits Words.setBytes Words.setOf Words.setIssue Words.wordCame Words.cameBefore Words.oneIssue Words.setUsable Words.usable Tags.macBits Tags.macCode Tags.statusAndSet Tags.firstMessage Tags.tagMessage Tags.tagKey Tags.tagMatches Tags.tagRecord Tags.recordIssue Tags.tagEntry Tags.entryAt Tags.entryTag Tags.entrySet Tags.isDue Tags.told Tags.kept Tags.dueJudged Tags.duesJudged Tags.secondHalf Tags.flexible Tags.ownTag Tags.macseqMessage Tags.macseqFits Tags.notAllowed Tags.ownOutcome Tags.ownJudged Tags.ownsJudged Sha256.add Sha256.complement Sha256.shr Sha256.rotr Sha256.ch Sha256.maj Sha256.Σ0 Sha256.Σ1 Sha256.σ0 Sha256.σ1 Sha256.K Sha256.tail Sha256.pad Sha256.block Sha256.words Sha256.H0 Sha256.next Sha256.extended Sha256.schedule Sha256.round Sha256.rounds Sha256.sums Sha256.compress Sha256.hashed Sha256.bytes Sha256.digest Sha256.sha256 Sha256.finished Hmac.zeroPadded Hmac.keyBlock Hmac.xored Hmac.innerPad Hmac.outerPad Hmac.hmac Hmac.keyOf Hmac.hmacWith Bytes.be2 Bytes.be4 Bytes.be8 Bytes.u16at Bytes.u32at Lists.part Lists.splice Lists.same Times.gst Times.weekOf Times.secondOf Times.timeValid Times.secondsOf Times.gstOf Times.stampOf Times.hourSeconds Times.subframeAt Times.slotOf Times.lowestSlot Times.slotSeconds Times.delayOf Times.keySeconds Times.tagSlot Chain.slotTime Chain.keyStep Chain.walk Chain.keyOfSlot Chain.keyFits Chain.higher Chain.sentSlot Chain.keySlot Mack.blockAt Mack.fieldAt Mack.fieldTag Mack.fieldInfo Mack.macseqOf Kroot.blockBits State.markOf
 tag0-matches = refl
 
 message-of-two : tagMessage tagOfTwo navdata ≡ messageOfTwo
-unfolding Bits.bit Bits.bits Bits.bitList Bits.bytesAt Bits.octet Bits.packed Bits.filled Words.wordType Words.svidOf Words.wordIssue Words.heldType Words.wordPlace Words.wordAt Words.wordStored Words.setBits Words.setBytes Words.setOf Words.setIssue Words.wordCame Words.cameBefore Words.oneIssue Words.setUsable Words.usable Tags.macBits Tags.macCode Tags.statusAndSet Tags.firstMessage Tags.tagMessage Tags.tagKey Tags.tagMatches Tags.tagRecord Tags.recordIssue Tags.tagEntry Tags.entryAt Tags.entryTag Tags.entrySet Tags.isDue Tags.setsEntered Tags.arrivalsEntered Tags.marksSet Tags.told Tags.kept Tags.dueJudged Tags.duesJudged Tags.secondHalf Tags.flexible Tags.ownTag Tags.macseqMessage Tags.macseqFits Tags.notAllowed Tags.ownOutcome Tags.ownJudged Tags.ownsJudged Sha256.add Sha256.complement Sha256.shr Sha256.rotr Sha256.ch Sha256.maj Sha256.Σ0 Sha256.Σ1 Sha256.σ0 Sha256.σ1 Sha256.K Sha256.tail Sha256.pad Sha256.block Sha256.words Sha256.H0 Sha256.next Sha256.extended Sha256.schedule Sha256.round Sha256.rounds Sha256.sums Sha256.compress Sha256.hashed Sha256.bytes Sha256.digest Sha256.sha256 Sha256.finished Hmac.zeroPadded Hmac.keyBlock Hmac.xored Hmac.innerPad Hmac.outerPad Hmac.hmac Hmac.keyOf Hmac.hmacWith Bytes.be2 Bytes.be4 Bytes.be8 Bytes.u16at Bytes.u32at Lists.part Lists.splice Lists.same Times.gst Times.weekOf Times.secondOf Times.timeValid Times.secondsOf Times.gstOf Times.stampOf Times.hourSeconds Times.subframeAt Times.slotOf Times.lowestSlot Times.slotSeconds Times.delayOf Times.keySeconds Times.tagSlot Chain.slotTime Chain.keyStep Chain.walk Chain.keyOfSlot Chain.keyFits Chain.higher Chain.sentSlot Chain.keySlot Mack.blockAt Mack.fieldAt Mack.fieldTag Mack.fieldInfo Mack.macseqOf Kroot.blockBits State.markOf
+unfolding Bits.bit Bits.bits Bits.bitList Bits.bytesAt Bits.octet Bits.packed Bits.filled Words.wordType Words.svidOf Words.wordIssue Words.heldType Words.wordPlace Words.wordAt Words.wordStored Words.setBits Words.setBytes Words.setOf Words.setIssue Words.wordCame Words.cameBefore Words.oneIssue Words.setUsable Words.usable Tags.macBits Tags.macCode Tags.statusAndSet Tags.firstMessage Tags.tagMessage Tags.tagKey Tags.tagMatches Tags.tagRecord Tags.recordIssue Tags.tagEntry Tags.entryAt Tags.entryTag Tags.entrySet Tags.isDue Tags.told Tags.kept Tags.dueJudged Tags.duesJudged Tags.secondHalf Tags.flexible Tags.ownTag Tags.macseqMessage Tags.macseqFits Tags.notAllowed Tags.ownOutcome Tags.ownJudged Tags.ownsJudged Sha256.add Sha256.complement Sha256.shr Sha256.rotr Sha256.ch Sha256.maj Sha256.Σ0 Sha256.Σ1 Sha256.σ0 Sha256.σ1 Sha256.K Sha256.tail Sha256.pad Sha256.block Sha256.words Sha256.H0 Sha256.next Sha256.extended Sha256.schedule Sha256.round Sha256.rounds Sha256.sums Sha256.compress Sha256.hashed Sha256.bytes Sha256.digest Sha256.sha256 Sha256.finished Hmac.zeroPadded Hmac.keyBlock Hmac.xored Hmac.innerPad Hmac.outerPad Hmac.hmac Hmac.keyOf Hmac.hmacWith Bytes.be2 Bytes.be4 Bytes.be8 Bytes.u16at Bytes.u32at Lists.part Lists.splice Lists.same Times.gst Times.weekOf Times.secondOf Times.timeValid Times.secondsOf Times.gstOf Times.stampOf Times.hourSeconds Times.subframeAt Times.slotOf Times.lowestSlot Times.slotSeconds Times.delayOf Times.keySeconds Times.tagSlot Chain.slotTime Chain.keyStep Chain.walk Chain.keyOfSlot Chain.keyFits Chain.higher Chain.sentSlot Chain.keySlot Mack.blockAt Mack.fieldAt Mack.fieldTag Mack.fieldInfo Mack.macseqOf Kroot.blockBits State.markOf
 message-of-two = refl
 
 tag-of-two-matches : tagMatches chain (held 73 key73) false tagOfTwo navdata ≡ true
-unfolding Bits.bit Bits.bits Bits.bitList Bits.bytesAt Bits.octet Bits.packed Bits.filled Words.wordType Words.svidOf Words.wordIssue Words.heldType Words.wordPlace Words.wordAt Words.wordStored Words.setBits Words.setBytes Words.setOf Words.setIssue Words.wordCame Words.cameBefore Words.oneIssue Words.setUsable Words.usable Tags.macBits Tags.macCode Tags.statusAndSet Tags.firstMessage Tags.tagMessage Tags.tagKey Tags.tagMatches Tags.tagRecord Tags.recordIssue Tags.tagEntry Tags.entryAt Tags.entryTag Tags.entrySet Tags.isDue Tags.setsEntered Tags.arrivalsEntered Tags.marksSet Tags.told Tags.kept Tags.dueJudged Tags.duesJudged Tags.secondHalf Tags.flexible Tags.ownTag Tags.macseqMessage Tags.macseqFits Tags.notAllowed Tags.ownOutcome Tags.ownJudged Tags.ownsJudged Sha256.add Sha256.complement Sha256.shr Sha256.rotr Sha256.ch Sha256.maj Sha256.Σ0 Sha256.Σ1 Sha256.σ0 Sha256.σ1 Sha256.K Sha256.tail Sha256.pad Sha256.block Sha256.words Sha256.H0 Sha256.next Sha256.extended Sha256.schedule Sha256.round Sha256.rounds Sha256.sums Sha256.compress Sha256.hashed Sha256.bytes Sha256.digest Sha256.sha256 Sha256.finished Hmac.zeroPadded Hmac.keyBlock Hmac.xored Hmac.innerPad Hmac.outerPad Hmac.hmac Hmac.keyOf Hmac.hmacWith Bytes.be2 Bytes.be4 Bytes.be8 Bytes.u16at Bytes.u32at Lists.part Lists.splice Lists.same Times.gst Times.weekOf Times.secondOf Times.timeValid Times.secondsOf Times.gstOf Times.stampOf Times.hourSeconds Times.subframeAt Times.slotOf Times.lowestSlot Times.slotSeconds Times.delayOf Times.keySeconds Times.tagSlot Chain.slotTime Chain.keyStep Chain.walk Chain.keyOfSlot Chain.keyFits Chain.higher Chain.sentSlot Chain.keySlot Mack.blockAt Mack.fieldAt Mack.fieldTag Mack.fieldInfo Mack.macseqOf Kroot.blockBits State.markOf
+unfolding Bits.bit Bits.bits Bits.bitList Bits.bytesAt Bits.octet Bits.packed Bits.filled Words.wordType Words.svidOf Words.wordIssue Words.heldType Words.wordPlace Words.wordAt Words.wordStored Words.setBits Words.setBytes Words.setOf Words.setIssue Words.wordCame Words.cameBefore Words.oneIssue Words.setUsable Words.usable Tags.macBits Tags.macCode Tags.statusAndSet Tags.firstMessage Tags.tagMessage Tags.tagKey Tags.tagMatches Tags.tagRecord Tags.recordIssue Tags.tagEntry Tags.entryAt Tags.entryTag Tags.entrySet Tags.isDue Tags.told Tags.kept Tags.dueJudged Tags.duesJudged Tags.secondHalf Tags.flexible Tags.ownTag Tags.macseqMessage Tags.macseqFits Tags.notAllowed Tags.ownOutcome Tags.ownJudged Tags.ownsJudged Sha256.add Sha256.complement Sha256.shr Sha256.rotr Sha256.ch Sha256.maj Sha256.Σ0 Sha256.Σ1 Sha256.σ0 Sha256.σ1 Sha256.K Sha256.tail Sha256.pad Sha256.block Sha256.words Sha256.H0 Sha256.next Sha256.extended Sha256.schedule Sha256.round Sha256.rounds Sha256.sums Sha256.compress Sha256.hashed Sha256.bytes Sha256.digest Sha256.sha256 Sha256.finished Hmac.zeroPadded Hmac.keyBlock Hmac.xored Hmac.innerPad Hmac.outerPad Hmac.hmac Hmac.keyOf Hmac.hmacWith Bytes.be2 Bytes.be4 Bytes.be8 Bytes.u16at Bytes.u32at Lists.part Lists.splice Lists.same Times.gst Times.weekOf Times.secondOf Times.timeValid Times.secondsOf Times.gstOf Times.stampOf Times.hourSeconds Times.subframeAt Times.slotOf Times.lowestSlot Times.slotSeconds Times.delayOf Times.keySeconds Times.tagSlot Chain.slotTime Chain.keyStep Chain.walk Chain.keyOfSlot Chain.keyFits Chain.higher Chain.sentSlot Chain.keySlot Mack.blockAt Mack.fieldAt Mack.fieldTag Mack.fieldInfo Mack.macseqOf Kroot.blockBits State.markOf
 tag-of-two-matches = refl
 
 macseq-message : macseqMessage config chain section18 8 ≡ 0x12 ∷ 0x3B ∷ 0x36 ∷ 0x97 ∷ 0x9E ∷ 0xFF ∷ 0x40 ∷ 0x12 ∷ 0xB0 ∷ []
-unfolding Bits.bit Bits.bits Bits.bitList Bits.bytesAt Bits.octet Bits.packed Bits.filled Words.wordType Words.svidOf Words.wordIssue Words.heldType Words.wordPlace Words.wordAt Words.wordStored Words.setBits Words.setBytes Words.setOf Words.setIssue Words.wordCame Words.cameBefore Words.oneIssue Words.setUsable Words.usable Tags.macBits Tags.macCode Tags.statusAndSet Tags.firstMessage Tags.tagMessage Tags.tagKey Tags.tagMatches Tags.tagRecord Tags.recordIssue Tags.tagEntry Tags.entryAt Tags.entryTag Tags.entrySet Tags.isDue Tags.setsEntered Tags.arrivalsEntered Tags.marksSet Tags.told Tags.kept Tags.dueJudged Tags.duesJudged Tags.secondHalf Tags.flexible Tags.ownTag Tags.macseqMessage Tags.macseqFits Tags.notAllowed Tags.ownOutcome Tags.ownJudged Tags.ownsJudged Sha256.add Sha256.complement Sha256.shr Sha256.rotr Sha256.ch Sha256.maj Sha256.Σ0 Sha256.Σ1 Sha256.σ0 Sha256.σ1 Sha256.K Sha256.tail Sha256.pad Sha256.block Sha256.words Sha256.H0 Sha256.next Sha256.extended Sha256.schedule Sha256.round Sha256.rounds Sha256.sums Sha256.compress Sha256.hashed Sha256.bytes Sha256.digest Sha256.sha256 Sha256.finished Hmac.zeroPadded Hmac.keyBlock Hmac.xored Hmac.innerPad Hmac.outerPad Hmac.hmac Hmac.keyOf Hmac.hmacWith Bytes.be2 Bytes.be4 Bytes.be8 Bytes.u16at Bytes.u32at Lists.part Lists.splice Lists.same Times.gst Times.weekOf Times.secondOf Times.timeValid Times.secondsOf Times.gstOf Times.stampOf Times.hourSeconds Times.subframeAt Times.slotOf Times.lowestSlot Times.slotSeconds Times.delayOf Times.keySeconds Times.tagSlot Chain.slotTime Chain.keyStep Chain.walk Chain.keyOfSlot Chain.keyFits Chain.higher Chain.sentSlot Chain.keySlot Mack.blockAt Mack.fieldAt Mack.fieldTag Mack.fieldInfo Mack.macseqOf Kroot.blockBits State.markOf
+unfolding Bits.bit Bits.bits Bits.bitList Bits.bytesAt Bits.octet Bits.packed Bits.filled Words.wordType Words.svidOf Words.wordIssue Words.heldType Words.wordPlace Words.wordAt Words.wordStored Words.setBits Words.setBytes Words.setOf Words.setIssue Words.wordCame Words.cameBefore Words.oneIssue Words.setUsable Words.usable Tags.macBits Tags.macCode Tags.statusAndSet Tags.firstMessage Tags.tagMessage Tags.tagKey Tags.tagMatches Tags.tagRecord Tags.recordIssue Tags.tagEntry Tags.entryAt Tags.entryTag Tags.entrySet Tags.isDue Tags.told Tags.kept Tags.dueJudged Tags.duesJudged Tags.secondHalf Tags.flexible Tags.ownTag Tags.macseqMessage Tags.macseqFits Tags.notAllowed Tags.ownOutcome Tags.ownJudged Tags.ownsJudged Sha256.add Sha256.complement Sha256.shr Sha256.rotr Sha256.ch Sha256.maj Sha256.Σ0 Sha256.Σ1 Sha256.σ0 Sha256.σ1 Sha256.K Sha256.tail Sha256.pad Sha256.block Sha256.words Sha256.H0 Sha256.next Sha256.extended Sha256.schedule Sha256.round Sha256.rounds Sha256.sums Sha256.compress Sha256.hashed Sha256.bytes Sha256.digest Sha256.sha256 Sha256.finished Hmac.zeroPadded Hmac.keyBlock Hmac.xored Hmac.innerPad Hmac.outerPad Hmac.hmac Hmac.keyOf Hmac.hmacWith Bytes.be2 Bytes.be4 Bytes.be8 Bytes.u16at Bytes.u32at Lists.part Lists.splice Lists.same Times.gst Times.weekOf Times.secondOf Times.timeValid Times.secondsOf Times.gstOf Times.stampOf Times.hourSeconds Times.subframeAt Times.slotOf Times.lowestSlot Times.slotSeconds Times.delayOf Times.keySeconds Times.tagSlot Chain.slotTime Chain.keyStep Chain.walk Chain.keyOfSlot Chain.keyFits Chain.higher Chain.sentSlot Chain.keySlot Mack.blockAt Mack.fieldAt Mack.fieldTag Mack.fieldInfo Mack.macseqOf Kroot.blockBits State.markOf
 macseq-message = refl
 
 macseq-fits : macseqFits config chain (held 73 key73) section18 ≡ true
-unfolding Bits.bit Bits.bits Bits.bitList Bits.bytesAt Bits.octet Bits.packed Bits.filled Words.wordType Words.svidOf Words.wordIssue Words.heldType Words.wordPlace Words.wordAt Words.wordStored Words.setBits Words.setBytes Words.setOf Words.setIssue Words.wordCame Words.cameBefore Words.oneIssue Words.setUsable Words.usable Tags.macBits Tags.macCode Tags.statusAndSet Tags.firstMessage Tags.tagMessage Tags.tagKey Tags.tagMatches Tags.tagRecord Tags.recordIssue Tags.tagEntry Tags.entryAt Tags.entryTag Tags.entrySet Tags.isDue Tags.setsEntered Tags.arrivalsEntered Tags.marksSet Tags.told Tags.kept Tags.dueJudged Tags.duesJudged Tags.secondHalf Tags.flexible Tags.ownTag Tags.macseqMessage Tags.macseqFits Tags.notAllowed Tags.ownOutcome Tags.ownJudged Tags.ownsJudged Sha256.add Sha256.complement Sha256.shr Sha256.rotr Sha256.ch Sha256.maj Sha256.Σ0 Sha256.Σ1 Sha256.σ0 Sha256.σ1 Sha256.K Sha256.tail Sha256.pad Sha256.block Sha256.words Sha256.H0 Sha256.next Sha256.extended Sha256.schedule Sha256.round Sha256.rounds Sha256.sums Sha256.compress Sha256.hashed Sha256.bytes Sha256.digest Sha256.sha256 Sha256.finished Hmac.zeroPadded Hmac.keyBlock Hmac.xored Hmac.innerPad Hmac.outerPad Hmac.hmac Hmac.keyOf Hmac.hmacWith Bytes.be2 Bytes.be4 Bytes.be8 Bytes.u16at Bytes.u32at Lists.part Lists.splice Lists.same Times.gst Times.weekOf Times.secondOf Times.timeValid Times.secondsOf Times.gstOf Times.stampOf Times.hourSeconds Times.subframeAt Times.slotOf Times.lowestSlot Times.slotSeconds Times.delayOf Times.keySeconds Times.tagSlot Chain.slotTime Chain.keyStep Chain.walk Chain.keyOfSlot Chain.keyFits Chain.higher Chain.sentSlot Chain.keySlot Mack.blockAt Mack.fieldAt Mack.fieldTag Mack.fieldInfo Mack.macseqOf Kroot.blockBits State.markOf
+unfolding Bits.bit Bits.bits Bits.bitList Bits.bytesAt Bits.octet Bits.packed Bits.filled Words.wordType Words.svidOf Words.wordIssue Words.heldType Words.wordPlace Words.wordAt Words.wordStored Words.setBits Words.setBytes Words.setOf Words.setIssue Words.wordCame Words.cameBefore Words.oneIssue Words.setUsable Words.usable Tags.macBits Tags.macCode Tags.statusAndSet Tags.firstMessage Tags.tagMessage Tags.tagKey Tags.tagMatches Tags.tagRecord Tags.recordIssue Tags.tagEntry Tags.entryAt Tags.entryTag Tags.entrySet Tags.isDue Tags.told Tags.kept Tags.dueJudged Tags.duesJudged Tags.secondHalf Tags.flexible Tags.ownTag Tags.macseqMessage Tags.macseqFits Tags.notAllowed Tags.ownOutcome Tags.ownJudged Tags.ownsJudged Sha256.add Sha256.complement Sha256.shr Sha256.rotr Sha256.ch Sha256.maj Sha256.Σ0 Sha256.Σ1 Sha256.σ0 Sha256.σ1 Sha256.K Sha256.tail Sha256.pad Sha256.block Sha256.words Sha256.H0 Sha256.next Sha256.extended Sha256.schedule Sha256.round Sha256.rounds Sha256.sums Sha256.compress Sha256.hashed Sha256.bytes Sha256.digest Sha256.sha256 Sha256.finished Hmac.zeroPadded Hmac.keyBlock Hmac.xored Hmac.innerPad Hmac.outerPad Hmac.hmac Hmac.keyOf Hmac.hmacWith Bytes.be2 Bytes.be4 Bytes.be8 Bytes.u16at Bytes.u32at Lists.part Lists.splice Lists.same Times.gst Times.weekOf Times.secondOf Times.timeValid Times.secondsOf Times.gstOf Times.stampOf Times.hourSeconds Times.subframeAt Times.slotOf Times.lowestSlot Times.slotSeconds Times.delayOf Times.keySeconds Times.tagSlot Chain.slotTime Chain.keyStep Chain.walk Chain.keyOfSlot Chain.keyFits Chain.higher Chain.sentSlot Chain.keySlot Mack.blockAt Mack.fieldAt Mack.fieldTag Mack.fieldInfo Mack.macseqOf Kroot.blockBits State.markOf
 macseq-fits = refl
 
 size-fits : pkrSizeBad dsmPkr ≡ false

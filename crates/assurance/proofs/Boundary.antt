@@ -75,16 +75,16 @@ subframe-only κs args r last d = d
 
 -- ---- verdict: its number, and all of its regions but the settings at exit
 
-pub verdict-asks-nothing : (κs : Lfts 9) (args : Dens κs verdict-kinds.ps) → verdict-reads.Asked κs args
+pub verdict-asks-nothing : (κs : Lfts 10) (args : Dens κs verdict-kinds.ps) → verdict-reads.Asked κs args
 verdict-asks-nothing κs args = tt
 
-abbrev verdict-rule : (κs : Lfts 9) (args : Dens κs verdict-kinds.ps) (r : ℕ) (last : AtExit (endedOf 9 verdict-kinds.ps verdict-kinds.r) κs) → Type 0
+abbrev verdict-rule : (κs : Lfts 10) (args : Dens κs verdict-kinds.ps) (r : ℕ) (last : AtExit (endedOf 10 verdict-kinds.ps verdict-kinds.r) κs) → Type 0
 verdict-rule κs args r last = (s : State) → told r (verdictAfter κs args last s) ≡ verdictCall (verdictBefore κs args s) (verdictGiven κs args)
 
-pub verdict-is : (κs : Lfts 9) (args : Dens κs verdict-kinds.ps) (r : ℕ) (last : AtExit (endedOf 9 verdict-kinds.ps verdict-kinds.r) κs) → verdict-reads.Learnt κs args r last → verdict-rule κs args r last
+pub verdict-is : (κs : Lfts 10) (args : Dens κs verdict-kinds.ps) (r : ℕ) (last : AtExit (endedOf 10 verdict-kinds.ps verdict-kinds.r) κs) → verdict-reads.Learnt κs args r last → verdict-rule κs args r last
 verdict-is κs args r last d = d
 
-pub verdict-only : (κs : Lfts 9) (args : Dens κs verdict-kinds.ps) (r : ℕ) (last : AtExit (endedOf 9 verdict-kinds.ps verdict-kinds.r) κs) → verdict-rule κs args r last → verdict-reads.Learnt κs args r last
+pub verdict-only : (κs : Lfts 10) (args : Dens κs verdict-kinds.ps) (r : ℕ) (last : AtExit (endedOf 10 verdict-kinds.ps verdict-kinds.r) κs) → verdict-rule κs args r last → verdict-reads.Learnt κs args r last
 verdict-only κs args r last d = d
 
 -- ---- the read of an authentic set: its number, its 69 bytes, IODnav and GST_SF at exit

@@ -11,6 +11,7 @@ use Rattle.rules.specs.Claim.{FairHistory}
 use Rattle.rules.specs.Log.{Call, start, Reply, plain, nothing, Stepped, History, advanced, step, asked, ran, ranFrom}
 use Rattle.rules.specs.State.{State}
 use Rattle.rules.proofs.Sound.{claim}
+use Rattle.rules.proofs.Sizes.{tag-sizes}
 use Rattle.rules.proofs.Whole.{lost-fields}
 use Rattle.assurance.specs.Run.{Made, StartDid, WordDid, SubframeDid, VerdictDid, ReadSetDid, ReadOfferDid, Did, started, worded, subframed, judged, set-read, offer-read, Done, Run, historyOf, ExportedClaim, readSetBefore, readOfferBefore}
 use Rattle.laws.specs.Lists.{part}
@@ -101,4 +102,4 @@ begins s s' left left' x d d' =
     sym (a .1) ∙ claim .begins s s' x (a .0) (b .0) ∙ b .1
 
 pub exported-claim : ExportedClaim
-exported-claim = record { steps = steps; fair = fair; begins = begins; refused = claim .refused; lost-fields = lost-fields }
+exported-claim = record { steps = steps; fair = fair; begins = begins; refused = claim .refused; lost-fields = lost-fields; tag-sizes = tag-sizes }

@@ -16,6 +16,7 @@ use Rattle.rules.specs.Log.{Call, start, word, subframe, verdict, ask, Question
 use Rattle.rules.specs.Log as L
 use Rattle.rules.specs.State.{State, state, wordLent, verdictLent, setLent, offerLent}
 use Rattle.rules.specs.Verdict.{Verdict}
+use Rattle.rules.specs.Sizes.{TagSizes}
 use Rattle.rules.specs.Whole.{LostFields}
 use Rattle.osnma.proofs.osnma_regions_start.Reads as start-reads
 use Rattle.osnma.proofs.osnma_regions_start.Kinds as start-kinds
@@ -103,20 +104,20 @@ SubframeDid =
     Made 20 subframe-kinds.ps subframe-kinds.r subframe-reads.Learnt subframeBefore (λ κs args. subframe (subframeGiven κs args .0) (subframeGiven κs args .1))
     subframeAfter subframeReply
 
--- ---- verdict: of its seven regions all but the settings are written
+-- ---- verdict: of its eight regions all but the settings are written
 
-abbrev pub verdictBefore : (κs : Lfts 9) → Dens κs verdict-kinds.ps → State → State
-verdictBefore κs (config, (pubkeys, (offer, (chain, (numbers, (heldkey, (waiting, _))))))) s = verdictLent s (now config) (now pubkeys) (now offer) (now chain) (now numbers) (now heldkey) (now waiting)
+abbrev pub verdictBefore : (κs : Lfts 10) → Dens κs verdict-kinds.ps → State → State
+verdictBefore κs (config, (pubkeys, (offer, (chain, (numbers, (heldkey, (waiting, (arrivals, _)))))))) s = verdictLent s (now config) (now pubkeys) (now offer) (now chain) (now numbers) (now heldkey) (now waiting) (now arrivals)
 
-abbrev pub verdictGiven : (κs : Lfts 9) → Dens κs verdict-kinds.ps → Verdict
-verdictGiven κs (_, (_, (_, (_, (_, (_, (_, (good, (id, (message, (signature, _))))))))))) = record { good = good; id = id; message = now message; signature = now signature }
+abbrev pub verdictGiven : (κs : Lfts 10) → Dens κs verdict-kinds.ps → Verdict
+verdictGiven κs (_, (_, (_, (_, (_, (_, (_, (_, (good, (id, (message, (signature, _)))))))))))) = record { good = good; id = id; message = now message; signature = now signature }
 
-abbrev pub verdictAfter : (κs : Lfts 9) → Dens κs verdict-kinds.ps → AtExit (endedOf 9 verdict-kinds.ps verdict-kinds.r) κs → State → State
-verdictAfter κs (config, _) (_, (pubkeys′, (offer′, (chain′, (numbers′, (heldkey′, (waiting′, _))))))) s = verdictLent s (now config) (now pubkeys′) (now offer′) (now chain′) (now numbers′) (now heldkey′) (now waiting′)
+abbrev pub verdictAfter : (κs : Lfts 10) → Dens κs verdict-kinds.ps → AtExit (endedOf 10 verdict-kinds.ps verdict-kinds.r) κs → State → State
+verdictAfter κs (config, _) (_, (pubkeys′, (offer′, (chain′, (numbers′, (heldkey′, (waiting′, (arrivals′, _)))))))) s = verdictLent s (now config) (now pubkeys′) (now offer′) (now chain′) (now numbers′) (now heldkey′) (now waiting′) (now arrivals′)
 
 abbrev pub VerdictDid : State → Call → Reply → State → Type 0
 VerdictDid =
-    Made 9 verdict-kinds.ps verdict-kinds.r verdict-reads.Learnt verdictBefore (λ κs args. verdict (verdictGiven κs args))
+    Made 10 verdict-kinds.ps verdict-kinds.r verdict-reads.Learnt verdictBefore (λ κs args. verdict (verdictGiven κs args))
     verdictAfter (λ κs r last. plain r)
 
 -- ---- the read of an authentic set writes no region
@@ -191,3 +192,6 @@ pub record ExportedClaim : Type 0 where
   -- 02, P3: with all marks 1 a sub-frame is judged as before, and what is lent for a field that did not come changes nothing; of the exported calls by
   -- `steps`
   pub lost-fields : LostFields
+  -- 02, P4: with tags of 40 bits the tags of a section leave what they left before, and what holds of tags of every size; of the exported calls by
+  -- `steps`
+  pub tag-sizes : TagSizes

@@ -151,7 +151,7 @@ pub fn clear_tags(numbers: &mut [u64], heldkey: &mut [u8], waiting: &mut [u8])
     buffer::fill(waiting, 0, regions::WAITING_LENGTH, 0);
 }
 
-// No satellite has an authentic set.
+// No satellite has an authentic set or a candidate.
 pub fn clear_sets(sets: &mut [u8], arrivals: &mut [u32])
     requires { ⌜ (length (now sets) ≡ setsLength) × (length (now arrivals) ≡ arrivalsLength) ⌝ }
     ensures { λ _. ⌜ auth (now (sets .exit)) (now (arrivals .exit)) ≡ noSets ⌝ }

@@ -14,30 +14,45 @@ use Rattle.laws.specs.Refusal.{firstOf, neb}
 use Rattle.laws.proofs.Splice.{splice-nil}
 use Rattle.rules.specs.Bits.{filled, anyOf, within}
 use Rattle.rules.specs.Calls.{verdictCall, verdictChecks}
+use Rattle.rules.specs.Candidates.{candidatesCleared}
 use Rattle.rules.specs.Gather.{statusOf}
 use Rattle.rules.specs.PublicKeys.{withoutLower}
 use Rattle.rules.specs.Kroot.{krootOf, rootSecondsOf, chainContents, inForce}
-use Rattle.rules.specs.State.{State, Tesla, verdictShaped, stopped, waitingCount, entryLength}
-use Rattle.rules.specs.State.{configLength, pubkeysLength, offerLength, chainLength, numbersLength, heldkeyLength, waitingLength}
+use Rattle.rules.specs.State.{State, Tesla, Auth, verdictShaped, stopped, withAuth, waitingCount, entryLength}
+use Rattle.rules.specs.State.{configLength, pubkeysLength, offerLength, chainLength, numbersLength, heldkeyLength, waitingLength, arrivalsLength}
 use Rattle.rules.proofs.Lengths.{verdict-shaped}
 use Rattle.rules.specs.Verdict as S
 use Rattle.regions.specs.Tesla.{tesla}
 
--- ---- the tags that stay
+-- ---- the chain that stays
 
 module _ (s : State) (config chain c : List ℕ) (m : s .config ≡ config) (e : s .chain ≡ chain) where
-  pub none-in-force : inForce config chain ≡ false → S.stayingAt s c ≡ []
-  unfolding S.stayingAt
+  pub none-in-force : inForce config chain ≡ false → false ≡ S.chainStays s c
+  unfolding S.chainStays
   none-in-force f = rw (m, e, f)
 
-  pub chain-changed : inForce config chain ≡ true → S.chainUnchanged (chainContents chain) c ≡ false → S.stayingAt s c ≡ []
-  unfolding S.stayingAt
-  chain-changed f u = rw (m, e, f, u)
+  pub by-contents : inForce config chain ≡ true → S.chainUnchanged (chainContents chain) c ≡ S.chainStays s c
+  unfolding S.chainStays
+  by-contents f = rw (m, e, f)
 
-  pub same-chain : inForce config chain ≡ true → S.chainUnchanged (chainContents chain) c ≡ true
-      → S.stayingAt s c ≡ S.staying (rootSecondsOf c) (s .tesla .waiting) (waitingCount (s .tesla .numbers))
+-- ---- tags and candidates at a new root
+
+module _ (s : State) (c : List ℕ) where
+  pub new-chain : S.chainStays s c ≡ false → S.stayingAt s c ≡ []
   unfolding S.stayingAt
-  same-chain f u = rw (m, e, f, u)
+  new-chain f = rw f
+
+  pub same-chain : S.chainStays s c ≡ true → S.stayingAt s c ≡ S.staying (rootSecondsOf c) (s .tesla .waiting) (waitingCount (s .tesla .numbers))
+  unfolding S.stayingAt
+  same-chain f = rw f
+
+  pub candidates-stay : S.chainStays s c ≡ true → s .auth ≡ S.candidatesAt s c
+  unfolding S.candidatesAt
+  candidates-stay f = rw f
+
+  pub candidates-go : S.chainStays s c ≡ false → candidatesCleared (s .auth) ≡ S.candidatesAt s c
+  unfolding S.candidatesAt
+  candidates-go f = rw f
 
 -- no tag stays: the region is as it was
 pub none-stay : (waiting stay : List ℕ) → stay ≡ [] → (waiting ≡ splice waiting 0 stay) × (length stay ≡ 0 * entryLength)
@@ -61,21 +76,24 @@ root-held s c numbers heldkey waiting numbers′ heldkey′ waiting′ n t a b d
 -- ---- answered 0
 
 module _ (s : State) (v : S.Verdict) (pubkeys chain : List ℕ) (ts : Tesla) (k : s .pubkeys ≡ pubkeys) (e : s .chain ≡ chain) (t : s .tesla ≡ ts) where
-  pub dropped : statusOf (S.messageHeader (v .message)) ≡ 3
-      → S.trusting s pubkeys (set chain 0 2) (tesla (set (ts .numbers) 1 0) (ts .key) (ts .waiting)) ≡ S.vouched s v
+  pub dropped : (auth′ : Auth) → statusOf (S.messageHeader (v .message)) ≡ 3 → auth′ ≡ candidatesCleared (s .auth)
+      → withAuth (S.trusting s pubkeys (set chain 0 2) (tesla (set (ts .numbers) 1 0) (ts .key) (ts .waiting))) auth′ ≡ S.vouched s v
   unfolding S.vouched S.tagsDropped
-  dropped h = rw (h, k, e, t)
+  dropped auth′ h a = rw (h, a, k, e, t)
 
-  pub renewed : (pubkeys′ chain′ : List ℕ) (ts′ : Tesla) → (statusOf (S.messageHeader (v .message)) ≡ 3 → ⊥) → pubkeys′ ≡ withoutLower pubkeys (v .id)
+  pub renewed : (pubkeys′ chain′ : List ℕ) (ts′ : Tesla) (auth′ : Auth) → (statusOf (S.messageHeader (v .message)) ≡ 3 → ⊥) → pubkeys′ ≡ withoutLower pubkeys (v .id)
       → chain′ ≡ cond (S.sameContents s (S.messageContents (v .message))) (s .chain) (S.forced (S.messageContents (v .message)))
       → ts′ ≡ cond (S.sameContents s (S.messageContents (v .message))) (s .tesla) (S.rootHeld s (S.messageContents (v .message)))
-      → S.trusting s pubkeys′ chain′ ts′ ≡ S.vouched s v
+      → auth′ ≡ cond (S.sameContents s (S.messageContents (v .message))) (s .auth) (S.candidatesAt s (S.messageContents (v .message)))
+      → withAuth (S.trusting s pubkeys′ chain′ ts′) auth′ ≡ S.vouched s v
   unfolding S.vouched
-  renewed pubkeys′ chain′ ts′ h a b d = rw (ne-eqb (statusOf (S.messageHeader (v .message))) 3 h, a, b, d, ← k) (go (S.sameContents s (S.messageContents (v .message))))
+  renewed pubkeys′ chain′ ts′ auth′ h a b d f = rw (ne-eqb (statusOf (S.messageHeader (v .message))) 3 h, a, b, d, f, ← k) (go (S.sameContents s (S.messageContents (v .message))))
     where
       go : (same : Bool)
-          → S.trusting s (withoutLower (s .pubkeys) (v .id)) (cond same (s .chain) (S.forced (S.messageContents (v .message)))) (cond same (s .tesla) (S.rootHeld s (S.messageContents (v .message))))
-          ≡ cond same (S.trusting s (withoutLower (s .pubkeys) (v .id)) (s .chain) (s .tesla)) (S.trusting s (withoutLower (s .pubkeys) (v .id)) (S.forced (S.messageContents (v .message))) (S.rootHeld s (S.messageContents (v .message))))
+          → withAuth (S.trusting s (withoutLower (s .pubkeys) (v .id)) (cond same (s .chain) (S.forced (S.messageContents (v .message)))) (cond same (s .tesla) (S.rootHeld s (S.messageContents (v .message)))))
+          (cond same (s .auth) (S.candidatesAt s (S.messageContents (v .message))))
+          ≡ cond same (S.trusting s (withoutLower (s .pubkeys) (v .id)) (s .chain) (s .tesla))
+          (withAuth (S.trusting s (withoutLower (s .pubkeys) (v .id)) (S.forced (S.messageContents (v .message))) (S.rootHeld s (S.messageContents (v .message)))) (S.candidatesAt s (S.messageContents (v .message))))
       go true = refl
       go false = refl
 
@@ -110,11 +128,12 @@ pub fits : (s : State) (v : S.Verdict)
     → (((length (s .config) ≡ configLength) × (length (s .pubkeys) ≡ pubkeysLength)) × ((length (s .offer) ≡ offerLength) × (length (s .chain) ≡ chainLength)))
     × (((length (s .tesla .numbers) ≡ numbersLength) × (length (s .tesla .key) ≡ heldkeyLength))
     × ((length (s .tesla .waiting) ≡ waitingLength) × ((length (v .message) ≡ 45) × (length (v .signature) ≡ 132))))
+    → length (s .auth .arrivals) ≡ arrivalsLength
     → (verdictShaped s && (eqb (length (v .message)) 45 && eqb (length (v .signature)) 132)) ≡ true
-fits s v l =
+fits s v l a =
     rw (
       verdict-shaped s
-          (record { config = l .0 .0 .0; pubkeys = l .0 .0 .1; offer = l .0 .1 .0; chain = l .0 .1 .1; numbers = l .1 .0 .0; heldkey = l .1 .0 .1; waiting = l .1 .1 .0 }),
+          (record { config = l .0 .0 .0; pubkeys = l .0 .0 .1; offer = l .0 .1 .0; chain = l .0 .1 .1; numbers = l .1 .0 .0; heldkey = l .1 .0 .1; waiting = l .1 .1 .0; arrivals = a }),
       l .1 .1 .1 .0,
       l .1 .1 .1 .1,
     )

@@ -14,10 +14,11 @@ ghost use Rattle.laws.specs.Refusal.{firstOf};
 ghost use Rattle.rules.specs.Bits.{filled};
 ghost use Rattle.rules.specs.Calls.{verdictCall};
 ghost use Rattle.rules.specs.Kroot.{krootOf, noOffer};
-ghost use Rattle.rules.specs.State.{State, verdictLent, waitingCount, entryLength, contentsLength};
-ghost use Rattle.rules.specs.State.{configLength, pubkeysLength, offerLength, chainLength, numbersLength, heldkeyLength, waitingLength};
+ghost use Rattle.rules.specs.State.{State, verdictLent, withAuth, waitingCount, entryLength, contentsLength};
+ghost use Rattle.rules.specs.State.{configLength, pubkeysLength, offerLength, chainLength, numbersLength, heldkeyLength, waitingLength, arrivalsLength};
 ghost use Rattle.rules.specs.Verdict as S;
 ghost use Rattle.regions.specs.Tesla.{tesla};
+ghost use Rattle.authentic_sets.specs.Regions.{auth};
 
 // A verdict: 1 (good) or 0, key ID, message (45 bytes) and signature (132). Out of range, or of a stopped core, it changes nothing.
 pub fn judge_verdict(
@@ -28,6 +29,7 @@ pub fn judge_verdict(
     numbers: &mut [u64],
     heldkey: &mut [u8],
     waiting: &mut [u8],
+    arrivals: &mut [u32],
     good: u8,
     id: u8,
     message: &[u8],
@@ -37,11 +39,12 @@ pub fn judge_verdict(
         × ((length (now offer) ≡ offerLength) × (length (now chain) ≡ chainLength)))
         × (((length (now numbers) ≡ numbersLength) × (length (now heldkey) ≡ heldkeyLength))
         × ((length (now waiting) ≡ waitingLength) × ((length (now message) ≡ 45) × (length (now signature) ≡ 132)))) ⌝ }
+    requires { ⌜ length (now arrivals) ≡ arrivalsLength ⌝ }
     ensures { λ r. ⌜ ((s : State) →
         told r (verdictLent s (now (config .entry)) (now (pubkeys .exit)) (now (offer .exit)) (now (chain .exit))
-        (now (numbers .exit)) (now (heldkey .exit)) (now (waiting .exit)))
+        (now (numbers .exit)) (now (heldkey .exit)) (now (waiting .exit)) (now (arrivals .exit)))
         ≡ verdictCall (verdictLent s (now (config .entry)) (now (pubkeys .entry)) (now (offer .entry)) (now (chain .entry))
-        (now (numbers .entry)) (now (heldkey .entry)) (now (waiting .entry)))
+        (now (numbers .entry)) (now (heldkey .entry)) (now (waiting .entry)) (now (arrivals .entry)))
         (record { good = good; id = id; message = now (message .entry); signature = now (signature .entry) })) ⌝ }
 {
     if 1 < good {
@@ -61,6 +64,7 @@ pub fn judge_verdict(
         numbers,
         heldkey,
         waiting,
+        arrivals,
         good,
         id,
         message,
@@ -77,6 +81,7 @@ fn judge_named(
     numbers: &mut [u64],
     heldkey: &mut [u8],
     waiting: &mut [u8],
+    arrivals: &mut [u32],
     good: u8,
     id: u8,
     message: &[u8],
@@ -86,14 +91,15 @@ fn judge_named(
     requires { ⌜ ((length (now pubkeys) ≡ pubkeysLength) × ((length (now offer) ≡ offerLength) × (length (now chain) ≡ chainLength)))
         × (((length (now numbers) ≡ numbersLength) × (length (now heldkey) ≡ heldkeyLength))
         × ((length (now waiting) ≡ waitingLength) × (length (now message) ≡ 45))) ⌝ }
+    requires { ⌜ length (now arrivals) ≡ arrivalsLength ⌝ }
     ensures { λ r. ⌜ ((s : State) →
         (r ≡ firstOf (S.vouchChecks (verdictLent s (now (config .entry)) (now (pubkeys .entry)) (now (offer .entry)) (now (chain .entry))
-        (now (numbers .entry)) (now (heldkey .entry)) (now (waiting .entry)))
+        (now (numbers .entry)) (now (heldkey .entry)) (now (waiting .entry)) (now (arrivals .entry)))
         (record { good = good; id = id; message = now (message .entry); signature = now (signature .entry) })))
         × (verdictLent s (now (config .entry)) (now (pubkeys .exit)) (now (offer .exit)) (now (chain .exit))
-        (now (numbers .exit)) (now (heldkey .exit)) (now (waiting .exit))
+        (now (numbers .exit)) (now (heldkey .exit)) (now (waiting .exit)) (now (arrivals .exit))
         ≡ S.judgedVerdict (verdictLent s (now (config .entry)) (now (pubkeys .entry)) (now (offer .entry)) (now (chain .entry))
-        (now (numbers .entry)) (now (heldkey .entry)) (now (waiting .entry)))
+        (now (numbers .entry)) (now (heldkey .entry)) (now (waiting .entry)) (now (arrivals .entry)))
         (record { good = good; id = id; message = now (message .entry); signature = now (signature .entry) }) r)) ⌝ }
 {
     let code = call_verdict_checks::vouch_refusal(
@@ -119,6 +125,7 @@ fn judge_named(
         numbers,
         heldkey,
         waiting,
+        arrivals,
         id,
         message,
     );
@@ -133,7 +140,7 @@ fn end_wait(offer: &mut [u8])
     buffer::fill(offer, 0, regions::OFFER_LENGTH, 0);
 }
 
-// Status 3 drops the chain and the waiting tags. Any other drops keys of lower ID and puts the root in force.
+// Status 3 drops the chain, the waiting tags and the candidates. Any other drops keys of lower ID and puts the root in force.
 fn vouch(
     config: &[u8],
     pubkeys: &mut [u8],
@@ -141,50 +148,93 @@ fn vouch(
     numbers: &mut [u64],
     heldkey: &mut [u8],
     waiting: &mut [u8],
+    arrivals: &mut [u32],
     id: u8,
     message: &[u8],
 )
     requires { ⌜ (id < 16) × (length (now config) ≡ configLength) ⌝ }
     requires { ⌜ ((length (now pubkeys) ≡ pubkeysLength) × ((length (now chain) ≡ chainLength) × (length (now numbers) ≡ numbersLength)))
         × ((length (now heldkey) ≡ heldkeyLength) × ((length (now waiting) ≡ waitingLength) × (length (now message) ≡ 45))) ⌝ }
+    requires { ⌜ length (now arrivals) ≡ arrivalsLength ⌝ }
     ensures { λ _. ⌜ ((s : State) (good : ℕ) (signature : List ℕ) → s .config ≡ now (config .entry) → s .pubkeys ≡ now (pubkeys .entry) →
         s .chain ≡ now (chain .entry) → s .tesla ≡ tesla (now (numbers .entry)) (now (heldkey .entry)) (now (waiting .entry)) →
-        S.trusting s (now (pubkeys .exit)) (now (chain .exit)) (tesla (now (numbers .exit)) (now (heldkey .exit)) (now (waiting .exit)))
+        s .auth .arrivals ≡ now (arrivals .entry) →
+        withAuth (S.trusting s (now (pubkeys .exit)) (now (chain .exit)) (tesla (now (numbers .exit)) (now (heldkey .exit)) (now (waiting .exit))))
+        (auth (s .auth .sets) (now (arrivals .exit)))
         ≡ S.vouched s (record { good = good; id = id; message = now (message .entry); signature = signature })) ⌝ }
 {
     if gather::status_of(message[0]) == 3 {
         chain[0] = 2;
         numbers[1] = 0;
+        authentic_sets::clear_candidates(arrivals);
         return;
     }
     public_keys::drop_lower(pubkeys, id);
-    renew(config, chain, numbers, heldkey, waiting, &message[1..45]);
+    renew(
+        config,
+        chain,
+        numbers,
+        heldkey,
+        waiting,
+        arrivals,
+        &message[1..45],
+    );
 }
 
 // ---- a root in force
 
-// Contents that are in force stay so; others are put in force, and the held key begins again at their root.
+// Contents that are in force stay so; others are put in force, and the held key begins again at their root. A new chain clears candidates.
 fn renew(
     config: &[u8],
     chain: &mut [u8],
     numbers: &mut [u64],
     heldkey: &mut [u8],
     waiting: &mut [u8],
+    arrivals: &mut [u32],
     c: &[u8],
 )
     requires { ⌜ ((length (now config) ≡ configLength) × ((length (now chain) ≡ chainLength) × (length (now numbers) ≡ numbersLength)))
         × ((length (now heldkey) ≡ heldkeyLength) × ((length (now waiting) ≡ waitingLength) × (length (now c) ≡ contentsLength))) ⌝ }
+    requires { ⌜ length (now arrivals) ≡ arrivalsLength ⌝ }
     ensures { λ _. ⌜ ((s : State) → s .config ≡ now (config .entry) → s .chain ≡ now (chain .entry) →
-        s .tesla ≡ tesla (now (numbers .entry)) (now (heldkey .entry)) (now (waiting .entry)) →
-        (now (chain .exit) ≡ cond (S.sameContents s (now (c .entry))) (s .chain) (S.forced (now (c .entry))))
+        s .tesla ≡ tesla (now (numbers .entry)) (now (heldkey .entry)) (now (waiting .entry)) → s .auth .arrivals ≡ now (arrivals .entry) →
+        ((now (chain .exit) ≡ cond (S.sameContents s (now (c .entry))) (s .chain) (S.forced (now (c .entry))))
         × (tesla (now (numbers .exit)) (now (heldkey .exit)) (now (waiting .exit))
-        ≡ cond (S.sameContents s (now (c .entry))) (s .tesla) (S.rootHeld s (now (c .entry))))) ⌝ }
+        ≡ cond (S.sameContents s (now (c .entry))) (s .tesla) (S.rootHeld s (now (c .entry)))))
+        × (auth (s .auth .sets) (now (arrivals .exit))
+        ≡ cond (S.sameContents s (now (c .entry))) (s .auth) (S.candidatesAt s (now (c .entry))))) ⌝ }
 {
     if call_verdict_checks::same_contents(config, chain, c) {
         return;
     }
+    keep_candidates(config, chain, arrivals, c);
     hold_root(config, chain, numbers, heldkey, waiting, c);
     put_in_force(chain, c);
+}
+
+// Candidates stay where there is a chain in force and the contents leave it unchanged.
+fn keep_candidates(config: &[u8], chain: &[u8], arrivals: &mut [u32], c: &[u8])
+    requires { ⌜ ((length (now config) ≡ configLength) × (length (now chain) ≡ chainLength))
+        × ((length (now arrivals) ≡ arrivalsLength) × (length (now c) ≡ contentsLength)) ⌝ }
+    ensures { λ _. ⌜ ((s : State) → s .config ≡ now (config .entry) → s .chain ≡ now (chain .entry) → s .auth .arrivals ≡ now (arrivals .entry) →
+        auth (s .auth .sets) (now (arrivals .exit)) ≡ S.candidatesAt s (now (c .entry))) ⌝ }
+{
+    if chain_stays(config, chain, c) {
+        return;
+    }
+    authentic_sets::clear_candidates(arrivals);
+}
+
+// There is a chain in force, and the contents leave it unchanged.
+fn chain_stays(config: &[u8], chain: &[u8], c: &[u8]) -> bool
+    requires { ⌜ (length (now config) ≡ configLength) × ((length (now chain) ≡ chainLength) × (length (now c) ≡ contentsLength)) ⌝ }
+    ensures { λ r. ⌜ ((s : State) → s .config ≡ now (config .entry) → s .chain ≡ now (chain .entry) →
+        r ≡ S.chainStays s (now (c .entry))) ⌝ }
+{
+    if !kroot::in_force(config, chain) {
+        return false;
+    }
+    kroot::chain_unchanged(kroot::chain_contents(chain), c)
 }
 
 // The contents are those in force from now on.
@@ -235,10 +285,7 @@ fn keep_tags(config: &[u8], chain: &[u8], waiting: &mut [u8], n: usize, c: &[u8]
         (now (waiting .exit) ≡ splice (now (waiting .entry)) 0 (S.stayingAt s (now (c .entry))))
         × (length (S.stayingAt s (now (c .entry))) ≡ r * entryLength)) ⌝ }
 {
-    if !kroot::in_force(config, chain) {
-        return 0;
-    }
-    if !kroot::chain_unchanged(kroot::chain_contents(chain), c) {
+    if !chain_stays(config, chain, c) {
         return 0;
     }
     waiting_tags::keep_staying(waiting, kroot::root_seconds(c), n)

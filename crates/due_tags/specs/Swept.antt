@@ -5,12 +5,12 @@ use mathlib.Core.List.{List}
 use lib.ListN.{getD}
 use Rattle.rules.specs.Tags.{Work, told, kept, entryAt, entryTag, entrySet}
 
--- an entry of this outcome
-unfoldable pub sweptOne : ℕ → List ℕ → Work → Work
-sweptOne zero e w = kept e w
-sweptOne (suc o) e w = told (suc o) (entryTag e) (entrySet e) w
+-- an entry of this outcome, of a chain with tags of `ms` bits
+unfoldable pub sweptOne : ℕ → ℕ → List ℕ → Work → Work
+sweptOne ms zero e w = kept e w
+sweptOne ms (suc o) e w = told ms (suc o) (entryTag e) (entrySet e) w
 
 -- the first n entries, in arrival order
-unfoldable pub swept : List ℕ → List ℕ → ℕ → Work → Work
-swept outcomes waiting zero w = w
-swept outcomes waiting (suc n) w = sweptOne (getD outcomes n 0) (entryAt waiting n) (swept outcomes waiting n w)
+unfoldable pub swept : ℕ → List ℕ → List ℕ → ℕ → Work → Work
+swept ms outcomes waiting zero w = w
+swept ms outcomes waiting (suc n) w = sweptOne ms (getD outcomes n 0) (entryAt waiting n) (swept ms outcomes waiting n w)

@@ -1,5 +1,5 @@
 // The sweep of the waiting tags (01, "MACK": "Due tags are judged in arrival order before the section's own, and free their places").
-// A tag that is due gets its record, and for outcome 1 its set becomes the satellite's authentic one; the others close up, in order.
+// A tag that is due gets its record, and where it agrees with its set, the satellite's sets follow (02, P4); the others close up, in order.
 // `judge_due` is the public call: keys, outcomes, records, sets and places.
 use rules::Chain;
 use rules::Tag;
@@ -17,6 +17,7 @@ ghost use Rattle.due_tags.specs.Swept.{sweptOne, swept};
 
 // The record and the set of the tag of entry k, with the copy of its set.
 fn tell_entry(
+    ms: u64,
     outcome: u8,
     waiting: &[u8],
     k: usize,
@@ -27,20 +28,22 @@ fn tell_entry(
 )
     requires { ⌜ ((length (now sets) ≡ setsLength) × (length (now arrivals) ≡ arrivalsLength))
         × ((k * entryLength + entryLength ≤ length (now waiting)) × (at + 12 ≤ length (now area))) ⌝ }
+    requires { ⌜ ms ≤ 40 ⌝ }
     ensures { λ _. ⌜ Tells
-        (told outcome (entryTag (entryAt (now (waiting .entry)) k)) (entrySet (entryAt (now (waiting .entry)) k))
+        (told ms outcome (entryTag (entryAt (now (waiting .entry)) k)) (entrySet (entryAt (now (waiting .entry)) k))
         (start 0 (now (sets .entry)) (now (arrivals .entry)))) at (now (area .entry)) (now (sets .exit)) (now (arrivals .exit)) (now (area .exit)) ⌝ }
 {
     let t = waiting_tags::entry_tag(waiting, k);
     let mut set = [0u8; regions::COPY_LENGTH];
     waiting_tags::copy_set(waiting, k, &mut set);
-    tag_records::tell(outcome, t, &set, sets, arrivals, area, at);
+    tag_records::tell(ms, outcome, t, &set, sets, arrivals, area, at);
 }
 
 // ---- arrival order
 
 // Entry k, of this outcome, after `kept` that stay: it closes up, or it gets its record. Gives how many stay then.
 fn sweep_one(
+    ms: u64,
     outcome: u8,
     waiting: &mut [u8],
     k: usize,
@@ -51,20 +54,30 @@ fn sweep_one(
 ) -> usize
     requires { ⌜ ((length (now sets) ≡ setsLength) × (length (now arrivals) ≡ arrivalsLength))
         × ((length (now waiting) ≡ waitingLength) × (length (now area) ≡ areaLength)) ⌝ }
-    requires { ⌜ (kept ≤ k) × (k < 256) ⌝ }
-    ensures { λ r. ⌜ Leaves (sweptOne outcome (entryAt (now (waiting .entry)) k) (start kept (now (sets .entry)) (now (arrivals .entry)))) kept
+    requires { ⌜ ((kept ≤ k) × (k < 256)) × (ms ≤ 40) ⌝ }
+    ensures { λ r. ⌜ Leaves (sweptOne ms outcome (entryAt (now (waiting .entry)) k) (start kept (now (sets .entry)) (now (arrivals .entry)))) kept
         (k - kept) (now (waiting .entry)) (now (area .entry)) (now (waiting .exit)) (now (sets .exit)) (now (arrivals .exit)) (now (area .exit)) r ⌝ }
 {
     if outcome == 0 {
         waiting_tags::move_entry(waiting, k, kept);
         return kept + 1;
     }
-    tell_entry(outcome, waiting, k, sets, arrivals, area, (k - kept) * 12);
+    tell_entry(
+        ms,
+        outcome,
+        waiting,
+        k,
+        sets,
+        arrivals,
+        area,
+        (k - kept) * 12,
+    );
     kept
 }
 
 // The first n entries, of these outcomes. Gives how many stay.
 fn sweep(
+    ms: u64,
     outcomes: &[u8],
     waiting: &mut [u8],
     n: usize,
@@ -74,16 +87,16 @@ fn sweep(
 ) -> usize
     requires { ⌜ ((length (now sets) ≡ setsLength) × (length (now arrivals) ≡ arrivalsLength))
         × ((length (now waiting) ≡ waitingLength) × (length (now area) ≡ areaLength)) ⌝ }
-    requires { ⌜ (length (now outcomes) ≡ 256) × (n ≤ 256) ⌝ }
-    ensures { λ r. ⌜ Leaves (swept (now (outcomes .entry)) (now (waiting .entry)) n (start 0 (now (sets .entry)) (now (arrivals .entry)))) 0 0
+    requires { ⌜ ((length (now outcomes) ≡ 256) × (n ≤ 256)) × (ms ≤ 40) ⌝ }
+    ensures { λ r. ⌜ Leaves (swept ms (now (outcomes .entry)) (now (waiting .entry)) n (start 0 (now (sets .entry)) (now (arrivals .entry)))) 0 0
         (now (waiting .entry)) (now (area .entry)) (now (waiting .exit)) (now (sets .exit)) (now (arrivals .exit)) (now (area .exit)) r
-        × Counts (swept (now (outcomes .entry)) (now (waiting .entry)) n (start 0 (now (sets .entry)) (now (arrivals .entry)))) n r ⌝ }
+        × Counts (swept ms (now (outcomes .entry)) (now (waiting .entry)) n (start 0 (now (sets .entry)) (now (arrivals .entry)))) n r ⌝ }
 {
     let mut kept: usize = 0;
     let mut k: usize = 0;
     while k < n {
         let outcome = outcomes[k];
-        kept = sweep_one(outcome, waiting, k, kept, sets, arrivals, area);
+        kept = sweep_one(ms, outcome, waiting, k, kept, sets, arrivals, area);
         k += 1;
     }
     kept
@@ -113,5 +126,5 @@ pub fn judge_due(
         r ⌝ }
 {
     let outcomes = due_tag_keys::outcomes(c, slot, known, near, met, waiting, n);
-    sweep(&outcomes, waiting, n, sets, arrivals, area)
+    sweep(c.ms, &outcomes, waiting, n, sets, arrivals, area)
 }

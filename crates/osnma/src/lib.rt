@@ -2,7 +2,7 @@
 // include/osnma.h and rust/osnma have the calls over one object. Nobody but these calls writes the regions between a start and the last call, and the
 // regions do not overlap.
 // No function asks anything of its caller: any lengths, bytes, numbers and times. A call is lent the regions that it reads or writes: start and
-// sub-frame all sixteen, a word four, a verdict seven, a read two; the others have no part in it, whatever they hold. Each function looks at the
+// sub-frame all sixteen, a word four, a verdict eight, a read two; the others have no part in it, whatever they hold. Each function looks at the
 // lengths (row 1 of 01's table) and hands on what it was lent.
 ghost use mathlib.Core.Path.{_≡_};
 ghost use Rattle.regions.specs.Told.{told};
@@ -13,10 +13,10 @@ ghost use Rattle.rules.specs.State.{State, state, wordLent, verdictLent, setLen
 
 // The number of the layout of regions and exported parameters, in the name too: a caller that was written for another one does not link.
 #[no_mangle]
-pub extern "C" fn osnma_layout_1() -> u32
-    ensures { λ r. ⌜ r ≡ 1 ⌝ }
+pub extern "C" fn osnma_layout_2() -> u32
+    ensures { λ r. ⌜ r ≡ 2 ⌝ }
 {
-    1
+    2
 }
 
 // Begins: installs the settings and the first public key, and clears all else (01, start).
@@ -238,6 +238,7 @@ pub extern "C" fn osnma_regions_verdict(
     numbers: &mut [u64],
     heldkey: &mut [u8],
     waiting: &mut [u8],
+    arrivals: &mut [u32],
     good: u8,
     id: u8,
     message: &[u8],
@@ -245,12 +246,21 @@ pub extern "C" fn osnma_regions_verdict(
 ) -> u32
     ensures { λ r. ⌜ ((s : State) →
         told r (verdictLent s (now (config .entry)) (now (pubkeys .exit)) (now (offer .exit)) (now (chain .exit))
-        (now (numbers .exit)) (now (heldkey .exit)) (now (waiting .exit)))
+        (now (numbers .exit)) (now (heldkey .exit)) (now (waiting .exit)) (now (arrivals .exit)))
         ≡ verdictCall (verdictLent s (now (config .entry)) (now (pubkeys .entry)) (now (offer .entry)) (now (chain .entry))
-        (now (numbers .entry)) (now (heldkey .entry)) (now (waiting .entry)))
+        (now (numbers .entry)) (now (heldkey .entry)) (now (waiting .entry)) (now (arrivals .entry)))
         (record { good = good; id = id; message = now (message .entry); signature = now (signature .entry) })) ⌝ }
 {
-    let shaped = regions::verdict_shaped(config, pubkeys, offer, chain, numbers, heldkey, waiting);
+    let shaped = regions::verdict_shaped(
+        config,
+        pubkeys,
+        offer,
+        chain,
+        numbers,
+        heldkey,
+        waiting,
+        arrivals,
+    );
     if !(shaped & ((message.len() == 45) & (signature.len() == 132))) {
         return 1;
     }
@@ -262,6 +272,7 @@ pub extern "C" fn osnma_regions_verdict(
         numbers,
         heldkey,
         waiting,
+        arrivals,
         good,
         id,
         message,

@@ -48,9 +48,9 @@ pub const ENTRY_LENGTH: usize = 84;
 
 pub const WAITING_LENGTH: usize = 21504;
 
-pub const SETS_LENGTH: usize = 2484;
+pub const SETS_LENGTH: usize = 4968;
 
-pub const ARRIVALS_LENGTH: usize = 36;
+pub const ARRIVALS_LENGTH: usize = 108;
 
 // The area lent for the records of a sub-frame.
 pub const AREA_LENGTH: usize = 3240;
@@ -133,16 +133,21 @@ pub fn verdict_shaped(
     numbers: &[u64],
     heldkey: &[u8],
     waiting: &[u8],
+    arrivals: &[u32],
 ) -> bool
     ensures { λ r. ⌜ ((s : State) →
         r ≡ S.verdictShaped (verdictLent s (now (config .entry)) (now (pubkeys .entry)) (now (offer .entry)) (now (chain .entry))
-        (now (numbers .entry)) (now (heldkey .entry)) (now (waiting .entry)))) ⌝ }
+        (now (numbers .entry)) (now (heldkey .entry)) (now (waiting .entry)) (now (arrivals .entry)))) ⌝ }
 {
+    let last = bools::both(
+        waiting.len() == WAITING_LENGTH,
+        arrivals.len() == ARRIVALS_LENGTH,
+    );
     let tesla = four(
         chain.len() == CHAIN_LENGTH,
         numbers.len() == NUMBERS_LENGTH,
         heldkey.len() == HELDKEY_LENGTH,
-        waiting.len() == WAITING_LENGTH,
+        last,
     );
     four(
         config.len() == CONFIG_LENGTH,

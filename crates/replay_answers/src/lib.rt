@@ -133,6 +133,7 @@ pub fn answer(
             numbers,
             heldkey,
             waiting,
+            arrivals,
             *started,
             input,
         ));
@@ -375,6 +376,7 @@ fn verdict(
     numbers: &mut [u64; NUMBERS_LENGTH],
     heldkey: &mut [u8; HELDKEY_LENGTH],
     waiting: &mut [u8; WAITING_LENGTH],
+    arrivals: &mut [u32; ARRIVALS_LENGTH],
     started: u8,
     input: &[u8],
 ) -> u32
@@ -382,10 +384,10 @@ fn verdict(
     ensures { λ r. ⌜ ((s : State) (area : List ℕ) →
         gave r 0 0 (session
         (verdictLent s (now (config .entry)) (now (pubkeys .exit)) (now (offer .exit)) (now (chain .exit))
-        (now (numbers .exit)) (now (heldkey .exit)) (now (waiting .exit))) area started)
+        (now (numbers .exit)) (now (heldkey .exit)) (now (waiting .exit)) (now (arrivals .exit))) area started)
         ≡ verdictAnswered (session
         (verdictLent s (now (config .entry)) (now (pubkeys .entry)) (now (offer .entry)) (now (chain .entry))
-        (now (numbers .entry)) (now (heldkey .entry)) (now (waiting .entry))) area started)
+        (now (numbers .entry)) (now (heldkey .entry)) (now (waiting .entry)) (now (arrivals .entry))) area started)
         (now (input .entry))) ⌝ }
 {
     if started == 0 {
@@ -399,6 +401,7 @@ fn verdict(
         numbers,
         heldkey,
         waiting,
+        arrivals,
         input[1],
         input[2],
         &input[3..48],

@@ -7,7 +7,7 @@ use mathlib.Core.List.{List, []}
 use Prim.Native.Nat.{ℕ, zero, suc, _+_, _*_, _≤_}
 use native.Mathlib.Omega.{arith}
 use lib.Dec.{eqb}
-use lib.ListN.{length, getD, length-append}
+use lib.ListN.{length, getD}
 use borrow.Author.Tests.{eqb-true, not-false, not-true}
 use Rattle.laws.specs.Refusal.{firstOf, unless, neb}
 use Rattle.laws.proofs.Refusal.{by-test, clear}
@@ -15,7 +15,7 @@ use Rattle.laws.proofs.Splice.{either}
 use Rattle.laws.proofs.Tests.{and-left, and-right, neither}
 use Rattle.rules.proofs.Bounds.{count-bound, ns-range}
 use Rattle.rules.proofs.Choices.{by-number}
-use Rattle.rules.proofs.TagRecords.{length-record}
+use Rattle.rules.proofs.TagRecords.{told-long}
 use Rattle.section_checks.proofs.Forced.{chain-laid}
 use Rattle.rules.specs.Calls.{Subframe, SubframeTold, MackDone, fieldsOf, hkrootReceived, noted, chainOf, sectionUnfit, sectionProved, tagsWorked, mackHalf, halvesDone, subframeChecks, subframeCall}
 use Rattle.rules.specs.Chain.{Held}
@@ -34,10 +34,6 @@ use Rattle.replay_records.specs.Written.{room}
 
 -- ---- each tag has at most one record
 
-told-one : (o : ℕ) (t : Tag) (n : List ℕ) (w : Work) → length ((told o t n w) .records) ≡ length (w .records) + 12
-unfolding told
-told-one o t n w = simp (length-append, length-record)
-
 kept-none : (e : List ℕ) (w : Work) → length ((kept e w) .records) ≡ length (w .records)
 unfolding kept
 kept-none e w = refl
@@ -45,7 +41,7 @@ kept-none e w = refl
 due-one : (c : Chain) (h : Held) (e : List ℕ) (w : Work) → length ((dueJudged c h e w) .records) ≤ length (w .records) + 12
 unfolding dueJudged
 due-one c h e w =
-    by-test (λ (v : Work). length (v .records) ≤ length (w .records) + 12) (isDue c h (entryTag e)) (λ _. omega (arith, told-one (cond (tagMatches c h false (entryTag e) (entrySet e)) 1 2) (entryTag e) (entrySet e) w)) (λ _. omega (arith, kept-none e w))
+    by-test (λ (v : Work). length (v .records) ≤ length (w .records) + 12) (isDue c h (entryTag e)) (λ _. omega (arith, told-long (c .ms) (entryTag e) (entrySet e) (cond (tagMatches c h false (entryTag e) (entrySet e)) 1 2) w)) (λ _. omega (arith, kept-none e w))
 
 dues-few : (c : Chain) (h : Held) (waiting : List ℕ) (n : ℕ) (w : Work) → length ((duesJudged c h waiting n w) .records) ≤ length (w .records) + n * 12
 unfolding duesJudged
@@ -59,14 +55,14 @@ own-one config s c h x j w =
     let t = ownTag c x j in
     let n = setOf (s .nav .words) (t .prn) in
     let o = ownOutcome config (s .nav) c h x j (w .count) in
-    by-test (λ (v : Work). length (v .records) ≤ length (w .records) + 12) (eqb o 5) (λ _. omega (arith, told-one o t n w, kept-none (tagEntry t n) (told o t n w))) (λ _. omega (arith, told-one o t n w))
+    by-test (λ (v : Work). length (v .records) ≤ length (w .records) + 12) (eqb o 5) (λ _. omega (arith, told-long (c .ms) t n o w, kept-none (tagEntry t n) (told (c .ms) o t n w))) (λ _. omega (arith, told-long (c .ms) t n o w))
 
 -- a lost field has one too
 field-one : (config : List ℕ) (s : State) (c : Chain) (h : Held) (x : Section) (marks j : ℕ) (w : Work)
     → length ((fieldJudged config (s .nav) c h x marks j w) .records) ≤ length (w .records) + 12
 unfolding fieldJudged
 field-one config s c h x marks j w =
-    by-test (λ (v : Work). length (v .records) ≤ length (w .records) + 12) (fieldLost config c (x .time) marks j) (λ _. omega (arith, told-one 8 (lostTag c x marks j) [] w)) (λ _. own-one config s c h x j w)
+    by-test (λ (v : Work). length (v .records) ≤ length (w .records) + 12) (fieldLost config c (x .time) marks j) (λ _. omega (arith, told-long (c .ms) (lostTag c x marks j) [] 8 w)) (λ _. own-one config s c h x j w)
 
 judged-few : (config : List ℕ) (s : State) (c : Chain) (h : Held) (x : Section) (marks n : ℕ) (w : Work)
     → length ((fieldsJudged config (s .nav) c h x marks n w) .records) ≤ length (w .records) + n * 12

@@ -1,7 +1,7 @@
 -- Judging under the held key of a section answered 0: a tag that matches has the four things. And the waiting tags, in arrival order.
 use Prim.Native.Nat.{ℕ, zero, suc, _-_, _≤_, _<_}
 use mathlib.Core.Path.{_≡_, refl, _∙_}
-use mathlib.Core.Logic.{_⊎_, inl, inr}
+use mathlib.Core.Logic.{_≢_, _⊎_, inl, inr}
 use mathlib.Core.Bool.{Bool, true, false, cond}
 use mathlib.Core.List.{List, _∷_}
 use mathlib.Core.Option.{some}
@@ -12,9 +12,9 @@ use borrow.Author.Tests.{leb-true, eqb-true}
 use Rattle.laws.proofs.Refusal.{by-test}
 use Rattle.rules.specs.Calls.{Start, Subframe}
 use Rattle.rules.specs.Chain.{Held, walk, keyOfSlot, keySlot}
-use Rattle.rules.specs.Claim.{Arrived, Disclosed, Vouched, FourThings, contentsBy, chainBy, rootBy, slotOfTag}
+use Rattle.rules.specs.Claim.{Arrived, Disclosed, Vouched, FourThings, tagName, NoneOf, contentsBy, chainBy, rootBy, slotOfTag}
 use Rattle.rules.specs.Kroot.{chainWith, rootSecondsOf}
-use Rattle.rules.specs.Log.{Entry, Log, Once, sectionIn, chainIn}
+use Rattle.rules.specs.Log.{Entry, Log, Once, sectionIn, chainIn, chainTurns}
 use Rattle.rules.specs.State.{State, entryLength, waitingLength}
 use Rattle.rules.specs.Tags.{Work, tagMatches, tagKey, entryAt, entryTag, entrySet, isDue, dueJudged, duesJudged}
 use Rattle.rules.specs.Times.{keySeconds, tagSlot, lowestSlot, slotOf}
@@ -22,8 +22,9 @@ use Rattle.rules.specs.Verdict.{Verdict, chainUnchanged}
 use Rattle.rules.specs.declared.Chain.{Chain}
 use Rattle.rules.specs.declared.Tag.{Tag}
 use Rattle.rules.proofs.Entries.{length-entry, length-entry-set}
-use Rattle.rules.proofs.Invariant.{HeldIs, WaitIs}
-use Rattle.rules.proofs.TagRecords.{WorkIs, told-is, kept-is}
+use Rattle.rules.proofs.Invariant.{HeldIs, WaitIs, NamesAre}
+use Rattle.rules.proofs.Names.{Undue, next-undue, less-undue}
+use Rattle.rules.proofs.TagRecords.{WorkIs, work-less, told-is, kept-is}
 use Rattle.rules.proofs.Walks.{walk-through}
 
 -- a section answered 0: the chain in force, vouched for, and the key held then
@@ -55,7 +56,7 @@ module _ (o : Start) (b : State) (said : Verdict) (h : Held) (x : Entry) (l : Lo
   disclosed-of (inr d) p = d
 
   -- a tag that arrived, and whose key is at or below the held one
-  pub matched-by : (by : Verdict) (t : Tag) (first : Bool) (navdata : List ℕ) → Once (Arrived o by t first navdata) (x ∷ l) → chainUnchanged (contentsBy by) (contentsBy said) ≡ true
+  pub matched-by : (by : Verdict) (t : Tag) (first : Bool) (navdata : List ℕ) → Once (Arrived o by (chainTurns (x ∷ l)) t first navdata) (x ∷ l) → chainUnchanged (contentsBy by) (contentsBy said) ≡ true
       → rootSecondsOf (contentsBy said) ≤ keySeconds (t .time) (t .adkd) → slotOfTag chain t ≤ h .slot → tagMatches chain h first t navdata ≡ true → FourThings o b t navdata x l
   unfolding tagMatches tagKey keyOfSlot
   matched-by by t first navdata arrived unchanged not-before le m =
@@ -77,19 +78,24 @@ module _ (o : Start) (b : State) (said : Verdict) (h : Held) (x : Entry) (l : Lo
 
   -- ---- due tags
 
-  due-is : (e : List ℕ) (w : Work) → length e ≡ entryLength → WaitIs o (contentsBy said) e (x ∷ l) → WorkIs o b (contentsBy said) x l w → WorkIs o b (contentsBy said) x l (dueJudged chain h e w)
+  due-is : (U U2 : List ℕ → Type 0) (e : List ℕ) (w : Work) → length e ≡ entryLength → WaitIs o (contentsBy said) e (x ∷ l) → U (tagName (entryTag e)) → ((n : List ℕ) → U2 n → U n × (n ≢ tagName (entryTag e)))
+      → WorkIs o b said x l U w → WorkIs o b said x l U2 (dueJudged chain h e w)
   unfolding dueJudged isDue
-  due-is e w size i k =
-      by-test (WorkIs o b (contentsBy said) x l) (leb (slotOfTag chain (entryTag e)) (h .slot))
+  due-is U U2 e w size i new less k =
+      by-test (WorkIs o b said x l U2) (leb (slotOfTag chain (entryTag e)) (h .slot))
       (λ due.
-      told-is o b (contentsBy said) x l (cond (tagMatches chain h false (entryTag e) (entrySet e)) 1 2) (entryTag e) (entrySet e) w k (length-entry-set e size)
+      told-is o b said x l (v .in-force) U U2 (cond (tagMatches chain h false (entryTag e) (entrySet e)) 1 2) (entryTag e) (entrySet e) w k (length-entry-set e size)
       (λ one.
-      matched-by (i .by) (entryTag e) false (entrySet e) (i .arrived) (i .unchanged) (i .not-before) (leb-true _ (h .slot) due) (one-true (tagMatches chain h false (entryTag e) (entrySet e)) one)))
-      (λ _. kept-is o b (contentsBy said) x l e w k size i)
+      matched-by (i .by) (entryTag e) false (entrySet e) (i .arrived) (i .unchanged) (i .not-before) (leb-true _ (h .slot) due) (one-true (tagMatches chain h false (entryTag e) (entrySet e)) one))
+      new less)
+      (λ _. kept-is o b said x l (v .in-force) U U2 e w k size i new less)
 
-  pub dues-are : (waiting : List ℕ) (n : ℕ) (w : Work) → length waiting ≡ waitingLength → n ≤ 256 → ((k : ℕ) → k < n → WaitIs o (contentsBy said) (entryAt waiting k) (x ∷ l))
-      → WorkIs o b (contentsBy said) x l w → WorkIs o b (contentsBy said) x l (duesJudged chain h waiting n w)
+  pub dues-are : (U : List ℕ → Type 0) (used : List (List ℕ)) (waiting : List ℕ) (all : ℕ) → length waiting ≡ waitingLength → all ≤ 256 → NamesAre U waiting all used
+      → ((k : ℕ) → k < all → WaitIs o (contentsBy said) (entryAt waiting k) (x ∷ l)) → (n : ℕ) (w : Work) → n ≤ all
+      → WorkIs o b said x l (λ (m : List ℕ). NoneOf m used) w → WorkIs o b said x l (Undue used waiting n) (duesJudged chain h waiting n w)
   unfolding duesJudged
-  dues-are waiting zero w size le i k = k
-  dues-are waiting (suc n) w size le i k =
-      due-is (entryAt waiting n) (duesJudged chain h waiting n w) (length-entry waiting n (omega arith)) (i n (omega arith)) (dues-are waiting n w size (omega arith) (λ j g. i j (omega arith)) k)
+  dues-are U used waiting all size le names i zero w lt k = work-less o b said x l (v .in-force) (λ (m : List ℕ). NoneOf m used) (Undue used waiting 0) w (λ m u. u .0) k
+  dues-are U used waiting all size le names i (suc n) w lt k =
+      due-is (Undue used waiting n) (Undue used waiting (suc n)) (entryAt waiting n) (duesJudged chain h waiting n w) (length-entry waiting n (omega arith)) (i n (omega arith))
+      (next-undue U used waiting all n (omega arith) names) (less-undue used waiting n)
+      (dues-are U used waiting all size le names i n w (omega arith) k)

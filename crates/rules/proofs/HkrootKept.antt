@@ -215,3 +215,17 @@ module _ (o : Start) (s : State) (x : Entry) (sub : Subframe) (l : Log) (half-is
   pub received-is : (t : ℕ) → Done (hkrootReceived s t (sub .marks) (hkrootOf (fieldsOf sub) 15))
   unfolding hkrootReceived
   received-is t = by-test Done (eqb (fieldsCame (sub .marks) 15) 15) (λ _. hkroot-is t) (λ _. missing-is)
+
+-- ---- clocks are not the half's
+
+half-clocks : (s : State) (t : ℕ) (hk : List ℕ) → (hkrootHalf s t hk) .state .clocks ≡ s .clocks
+unfolding hkrootHalf storeDone krootDone pkrDone
+half-clocks s t hk =
+    let P : HkrootDone → Type 0 = λ a. a .state .clocks ≡ s .clocks in
+    let g = gathered (s .store) t hk in
+    by-test P (eqb (length (g .dsm)) 0) (λ _. refl) (λ _. by-test P (leb (dsmIdOf hk) 11) (λ _. refl) (λ _. refl))
+
+pub received-clocks : (s : State) (t marks : ℕ) (hk : List ℕ) → (hkrootReceived s t marks hk) .state .clocks ≡ s .clocks
+unfolding hkrootReceived
+received-clocks s t marks hk =
+    by-test (λ (a : HkrootDone). a .state .clocks ≡ s .clocks) (eqb (fieldsCame marks 15) 15) (λ _. half-clocks s t hk) (λ _. refl)

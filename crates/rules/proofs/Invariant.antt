@@ -1,25 +1,27 @@
 -- What ties the state to the history: one record for each part of the state, and one for all. `o` is the accepted start, `b` the state that it left.
 -- Lengths of regions are no part of it: every call that is taken has tested them (row 1).
-use Prim.Native.Nat.{ℕ, _-_, _/_, _^_, _≤_, _<_}
+use Prim.Native.Nat.{ℕ, _/_, _^_, _≤_, _<_}
 use mathlib.Core.Path.{_≡_}
 use mathlib.Core.Logic.{_≢_, _⊎_}
 use mathlib.Core.Bool.{true, false}
 use mathlib.Core.List.{List}
 use mathlib.Core.Option.{some}
 use lib.ListN.{length, getD}
-use Rattle.rules.specs.Calls.{Start, chainOf, heldOf, authStamp, authSet}
+use Rattle.rules.specs.Calls.{Start, chainOf, heldOf}
+use Rattle.rules.specs.Candidates.{pairAt}
 use Rattle.rules.specs.Chain.{Held, walk}
-use Rattle.rules.specs.Claim.{PublicKey, BlockCame, KeyKnown, Vouched, Arrived, Disclosed, SetBacked, contentsBy}
+use Rattle.rules.specs.Claim.{PublicKey, BlockCame, KeyKnown, Vouched, Arrived, Disclosed, Agreed, Counted, tagName, NoneOf, contentsBy}
 use Rattle.rules.specs.Gather.{marked, storedBlock, totalOf}
 use Rattle.rules.specs.Kroot.{krootOf, rootSecondsOf, chainContents, inForce, offerWaits, offerId}
-use Rattle.rules.specs.Log.{Log, Once, stateAt, lastWord, chainIn}
+use Rattle.rules.specs.Log.{Log, Once, stateAt, lastWord, chainIn, chainTurns}
 use Rattle.rules.specs.Navdata.{wordAt, wordPlace}
 use Rattle.rules.specs.PublicKeys.{keyHeld, keyType, keyBytes}
-use Rattle.rules.specs.State.{State, Nav, Store, Auth, nsOf, treeRoot, prnValid, waitingCount}
+use Rattle.rules.specs.State.{State, Nav, Store, Auth, nsOf, treeRoot, prnValid, lastSubframeOf, waitingCount}
 use Rattle.rules.specs.Tags.{entryAt, entryTag, entrySet}
-use Rattle.rules.specs.Times.{keySeconds}
+use Rattle.rules.specs.Times.{keySeconds, stampOf}
 use Rattle.rules.specs.Verdict.{Verdict, chainUnchanged}
 use Rattle.rules.specs.declared.Chain.{Chain}
+use Rattle.rules.proofs.Agreements.{PairIs}
 
 -- a satellite that is heard, and a type that is held
 pub record Place (prn kind : ℕ) : Type 0 where
@@ -62,17 +64,39 @@ pub record HeldIs (c : Chain) (root : List ℕ) (h : Held) (l : Log) : Type 0 wh
   pub down : walk c (h .slot) 0 (h .key) ≡ root
   pub from : (h .slot ≡ 0) ⊎ Once (Disclosed c (h .slot) (h .key)) l
 
--- a waiting entry holds a tag that arrived, with its set then, under a chain that these contents leave unchanged, and its key is not before the
+-- a waiting entry holds a tag that arrived since the last drop, with its set then, under a chain that these contents leave unchanged, and its key is not before the
 -- sub-frame 0 of their root
 pub record WaitIs (o : Start) (contents e : List ℕ) (l : Log) : Type 0 where
   pub by : Verdict
-  pub arrived : Once (Arrived o by (entryTag e) false (entrySet e)) l
+  pub arrived : Once (Arrived o by (chainTurns l) (entryTag e) false (entrySet e)) l
   pub unchanged : chainUnchanged (contentsBy by) contents ≡ true
   pub not-before : rootSecondsOf contents ≤ keySeconds ((entryTag e) .time) ((entryTag e) .adkd)
 
--- every authentic set was marked
-pub record SetsAre (o : Start) (b : State) (a : Auth) (l : Log) : Type 0 where
-  pub backed : (prn : ℕ) → prnValid prn ≡ true → authStamp a prn ≢ 0 → SetBacked o b prn (authStamp a prn - 1) (authSet a prn) l
+-- ---- names of tags: no tag is judged twice
+
+-- the name of waiting entry k
+abbrev pub nameAt : List ℕ → ℕ → List ℕ
+nameAt waiting k = tagName (entryTag (entryAt waiting k))
+
+-- the waiting tags differ from each other and from those that were judged, `used`; so does any tag that is `U`
+pub record NamesAre (U : List ℕ → Type 0) (waiting : List ℕ) (count : ℕ) (used : List (List ℕ)) : Type 0 where
+  pub apart : (j k : ℕ) → j < k → k < count → nameAt waiting j ≢ nameAt waiting k
+  pub unused : (k : ℕ) → k < count → NoneOf (nameAt waiting k) used
+  pub unseen : (n : List ℕ) → U n → NoneOf n used × ((k : ℕ) → k < count → n ≢ nameAt waiting k)
+
+-- a tag of this name comes after its sender's last sub-frame
+abbrev pub Newer : List ℕ → List ℕ → Type 0
+Newer clocks n = (prnValid (getD n 0 0) ≡ true) × (lastSubframeOf clocks (getD n 0 0) < stampOf (getD n 1 0))
+
+-- ---- authentic sets and candidates
+
+-- the tag agreed with these bits of this satellite, in this log
+abbrev pub AgreedIn : Start → State → Log → ℕ → List ℕ → ℕ → Counted → Type 0
+AgreedIn o b l prn navdata turn c = Once (Agreed o b prn navdata turn c) l
+
+-- every authentic set has its forty bits, and every candidate the bits of its total
+pub record SetsAre (o : Start) (b : State) (a : Auth) (used : List (List ℕ)) (l : Log) : Type 0 where
+  pub backed : (prn : ℕ) → prnValid prn ≡ true → PairIs (AgreedIn o b l prn) used (chainTurns l) (pairAt (a .sets) (a .arrivals) prn)
 
 -- ---- all
 
@@ -87,4 +111,7 @@ pub record Inv (o : Start) (b : State) (s : State) (l : Log) : Type 0 where
   pub force : inForce (s .config) (s .chain) ≡ true → InForce o b (chainContents (s .chain)) l
   pub held : inForce (s .config) (s .chain) ≡ true → HeldIs (chainOf s) (krootOf (chainContents (s .chain))) (heldOf s) l
   pub waiting : inForce (s .config) (s .chain) ≡ true → (k : ℕ) → k < waitingCount (s .tesla .numbers) → WaitIs o (chainContents (s .chain)) (entryAt (s .tesla .waiting) k) l
-  pub auth : SetsAre o b (s .auth) l
+  -- the names of the tags that were judged
+  pub used : List (List ℕ)
+  pub names : NamesAre (Newer (s .clocks)) (s .tesla .waiting) (waitingCount (s .tesla .numbers)) used
+  pub auth : SetsAre o b (s .auth) used l

@@ -4,13 +4,17 @@ use mathlib.Core.Path.{_≡_, refl, sym, _∙_, ap}
 use mathlib.Core.Logic.{_⊎_, inl, inr}
 use mathlib.Core.List.{List, _∷_}
 use mathlib.Core.Option.{none}
+use native.Mathlib.Nat.{le-refl}
 use Rattle.rules.specs.Calls.{Start, Subframe, chainOf, heldOf}
+use Rattle.rules.specs.Candidates.{SetPair, pairAt}
 use Rattle.rules.specs.Chain.{Held}
-use Rattle.rules.specs.Claim.{PublicKey, KeyProved, KeyKnown, given, proved, SetBacked}
-use Rattle.rules.specs.Log.{Call, Question, subframe, ask, Entry, Log, Once, earlier, stateAt, step, wordIn, verdictIn}
-use Rattle.rules.specs.State.{State, Nav, Store, Auth}
+use Rattle.rules.specs.Claim.{PublicKey, KeyProved, KeyKnown, given, proved}
+use Rattle.rules.specs.Log.{Call, Question, subframe, ask, Entry, Log, Once, earlier, stateAt, step, wordIn, verdictIn, chainTurns}
+use Rattle.rules.specs.State.{State, Nav, Store, Auth, lastSubframeOf, waitingCount}
 use Rattle.rules.specs.declared.Chain.{Chain}
-use Rattle.rules.proofs.Invariant.{Inv, WordsAre, BlocksAre, KeysAre, OfferHeld, InForce, HeldIs, WaitIs, SetsAre}
+use Rattle.rules.proofs.Agreements.{PairIs, pair-map}
+use Rattle.rules.proofs.Invariant.{Inv, WordsAre, BlocksAre, KeysAre, OfferHeld, InForce, HeldIs, WaitIs, Newer, AgreedIn, SetsAre}
+use Rattle.rules.proofs.Names.{Onward, newer-before, names-less}
 
 -- a call as it is logged
 abbrev pub entry : State → Call → Entry
@@ -81,23 +85,27 @@ from-later (inr o) = inr (earlier o)
 pub held-later : {c : Chain} {root : List ℕ} {h : Held} {l : Log} {x : Entry} → HeldIs c root h l → HeldIs c root h (x ∷ l)
 held-later v = record { width = v .width; down = v .down; from = from-later (v .from) }
 
-pub wait-later : {o : Start} {contents e : List ℕ} {l : Log} {x : Entry} → WaitIs o contents e l → WaitIs o contents e (x ∷ l)
-wait-later v = record { by = v .by; arrived = earlier (v .arrived); unchanged = v .unchanged; not-before = v .not-before }
+pub same-turn : (x : Entry) (l : Log) → verdictIn x ≡ none → chainTurns (x ∷ l) ≡ chainTurns l
+same-turn x l q = rw q refl
 
-pub set-later : {o : Start} {b : State} {prn time : ℕ} {navdata : List ℕ} {l : Log} {x : Entry} → SetBacked o b prn time navdata l → SetBacked o b prn time navdata (x ∷ l)
-set-later v = record { tag = v .tag; place = v .place; prn-is = v .prn-is; time-is = v .time-is; marked = earlier (v .marked) }
+pub wait-later : {o : Start} {contents e : List ℕ} {l : Log} {x : Entry} → chainTurns (x ∷ l) ≡ chainTurns l → WaitIs o contents e l → WaitIs o contents e (x ∷ l)
+wait-later q v = record { by = v .by; arrived = rw q (earlier (v .arrived)); unchanged = v .unchanged; not-before = v .not-before }
 
-pub sets-later : {o : Start} {b : State} {a : Auth} {l : Log} {x : Entry} → SetsAre o b a l → SetsAre o b a (x ∷ l)
-sets-later v = record { backed = λ prn p n. set-later (v .backed prn p n) }
+-- what a log says of agreed tags a longer one says
+pub agreed-later : (o : Start) (b : State) (l : Log) (x : Entry) (prn : ℕ) (used : List (List ℕ)) (turn : ℕ) (p : SetPair) → PairIs (AgreedIn o b l prn) used turn p → PairIs (AgreedIn o b (x ∷ l) prn) used turn p
+agreed-later o b l x prn used turn p v = pair-map (AgreedIn o b l prn) (AgreedIn o b (x ∷ l) prn) used turn p (λ d t c a. earlier a) v
+
+pub sets-later : (o : Start) (b : State) (a : Auth) (used : List (List ℕ)) (l : Log) (x : Entry) → chainTurns (x ∷ l) ≡ chainTurns l → SetsAre o b a used l → SetsAre o b a used (x ∷ l)
+sets-later o b a used l x same v = record { backed = λ prn p. rw same (agreed-later o b l x prn used (chainTurns l) (pairAt (a .sets) (a .arrivals) prn) (v .backed prn p)) }
 
 -- ---- a call that leaves the parts alone; clocks, words and what waits may change
 
 pub same-inv : (o : Start) (b s s' : State) (x : Entry) (l : Log) → Inv o b s l → verdictIn x ≡ none → s' ≡ stateAt b (x ∷ l)
     → s' .config ≡ s .config → s' .store ≡ s .store → s' .pubkeys ≡ s .pubkeys → s' .chain ≡ s .chain → s' .tesla ≡ s .tesla → s' .auth ≡ s .auth
-    → OfferHeld (s .pubkeys) (s' .offer) → WordsAre (s' .nav) (x ∷ l)
+    → OfferHeld (s .pubkeys) (s' .offer) → WordsAre (s' .nav) (x ∷ l) → Onward (s .clocks) (s' .clocks)
     → Inv o b s' (x ∷ l)
 unfolding chainOf heldOf
-same-inv o b s s' x l v q at config store keys chain tesla auth offer words =
+same-inv o b s s' x l v q at config store keys chain tesla auth offer words onward =
     record {
       at = at;
       ns = rw config (v .ns);
@@ -108,13 +116,18 @@ same-inv o b s s' x l v q at config store keys chain tesla auth offer words =
       offer = rw keys offer;
       force = rw (config, chain) (λ h. force-later q (v .force h));
       held = rw (config, chain, tesla) (λ h. held-later (v .held h));
-      waiting = rw (config, chain, tesla) (λ h k i. wait-later (v .waiting h k i));
-      auth = rw auth (sets-later (v .auth));
+      waiting = rw (config, chain, tesla) (λ h k i. wait-later (same-turn x l q) (v .waiting h k i));
+      used = v .used;
+      names = rw tesla (names-less (Newer (s .clocks)) (Newer (s' .clocks)) (s .tesla .waiting) (waitingCount (s .tesla .numbers)) (v .used) (newer-before (s .clocks) (s' .clocks) onward) (v .names));
+      auth = rw auth (sets-later o b (s .auth) (v .used) l x (same-turn x l q) (v .auth));
     }
+
+pub still : (clocks : List ℕ) → Onward clocks clocks
+still clocks prn p = le-refl (lastSubframeOf clocks prn)
 
 -- the state as it was
 pub unchanged-inv : (o : Start) (b s : State) (x : Entry) (l : Log) → Inv o b s l → Quiet x → s ≡ stateAt b (x ∷ l) → Inv o b s (x ∷ l)
-unchanged-inv o b s x l v q at = same-inv o b s s x l v (q .no-verdict) at refl refl refl refl refl refl (v .offer) (words-later (q .no-word) (v .words))
+unchanged-inv o b s x l v q at = same-inv o b s s x l v (q .no-verdict) at refl refl refl refl refl refl (v .offer) (words-later (q .no-word) (v .words)) (still (s .clocks))
 
 -- a refused call that leaves it so
 pub refused-inv : (o : Start) (b s : State) (l : Log) (c : Call) (n : ℕ) → Inv o b s l → (step s c) .reply .code ≡ suc n → (step s c) .state ≡ s → Inv o b ((step s c) .state) (entry s c ∷ l)

@@ -100,6 +100,7 @@ pub record VerdictSized (s : State) : Type 0 where
   pub numbers : length (s .tesla .numbers) ≡ numbersLength
   pub heldkey : length (s .tesla .key) ≡ heldkeyLength
   pub waiting : length (s .tesla .waiting) ≡ waitingLength
+  pub arrivals : length (s .auth .arrivals) ≡ arrivalsLength
 
 pub verdict-sized : (s : State) → verdictShaped s ≡ true → VerdictSized s
 unfolding verdictShaped
@@ -112,11 +113,12 @@ verdict-sized s h =
       numbers = eqb-true _ numbersLength (each (verdictShapes s) h 4);
       heldkey = eqb-true _ heldkeyLength (each (verdictShapes s) h 5);
       waiting = eqb-true _ waitingLength (each (verdictShapes s) h 6);
+      arrivals = eqb-true _ arrivalsLength (each (verdictShapes s) h 7);
     }
 
 pub verdict-shaped : (s : State) → VerdictSized s → verdictShaped s ≡ true
 unfolding verdictShaped
-verdict-shaped s z = rw (z .config, z .pubkeys, z .offer, z .chain, z .numbers, z .heldkey, z .waiting)
+verdict-shaped s z = rw (z .config, z .pubkeys, z .offer, z .chain, z .numbers, z .heldkey, z .waiting, z .arrivals)
 
 -- of what the reads are lent
 pub set-shaped : (s : State) → length (s .auth .sets) ≡ setsLength → length (s .auth .arrivals) ≡ arrivalsLength → setShaped s ≡ true

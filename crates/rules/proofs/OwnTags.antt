@@ -1,12 +1,13 @@
 -- The section's own tags: one of outcome 1 arrived here and has the four things, one of outcome 5 arrived here and waits with its set.
-use Prim.Native.Nat.{ℕ, zero, suc, _+_, _*_, _/_, _^_, _≤_, _<_}
+use Prim.Native.Nat.{ℕ, zero, suc, _+_, _*_, _/_, _%_, _^_, _≤_, _<_}
 use mathlib.Core.Path.{_≡_, refl, sym, _∙_, ap}
+use mathlib.Core.Logic.{_≢_}
 use mathlib.Core.Bool.{Bool, true, false, cond, _&&_, _||_, not}
 use mathlib.Core.List.{List, [], _∷_}
-use native.Mathlib.Nat.{div-lt-iff-lt-mul, le-trans, mul-zero, zero-lt-suc, zero-mod}
+use native.Mathlib.Nat.{div-add-mod, div-lt-iff-lt-mul, le-trans, mul-zero, zero-lt-suc, zero-mod}
 use native.Mathlib.Omega.{arith}
 use lib.Dec.{eqb, ltb}
-use lib.ListN.{replicate}
+use lib.ListN.{getD}
 use lib.Pow.{pow-mono}
 use borrow.Author.Tests.{eqb-true, not-false}
 use Rattle.laws.specs.Refusal.{neb}
@@ -15,15 +16,15 @@ use Rattle.laws.proofs.Tests.{and-left, and-right, neither}
 use Rattle.rules.specs.Bits.{anyOf}
 use Rattle.rules.specs.Calls.{Start, Subframe, fieldsOf}
 use Rattle.rules.specs.Chain.{Held, keySlot, sentSlot}
-use Rattle.rules.specs.Claim.{Arrived, FourThings, contentsBy, chainBy, sectionOf, slotOfTag, setIn, usableIn}
+use Rattle.rules.specs.Claim.{Arrived, FourThings, tagName, contentsBy, chainBy, sectionOf, slotOfTag, setIn, usableIn}
 use Rattle.rules.specs.Gather.{headerOf, hkrootOf, mackOf}
 use Rattle.rules.specs.Kroot.{chainWith, tagWidth, msOf, rootSecondsOf}
-use Rattle.rules.specs.Log.{Entry, Log, here, lastWord}
+use Rattle.rules.specs.Log.{Entry, Log, here, lastWord, chainTurns}
 use Rattle.rules.specs.Mack.{fieldTag}
 use Rattle.rules.specs.Navdata.{wordCame, usable, setOf}
 use Rattle.rules.specs.Received.{keyCame, fieldLost, lostTag, fieldJudged, fieldsJudged}
 use Rattle.rules.specs.State.{State, Nav, prnValid, markOf, copyLength}
-use Rattle.rules.specs.Tags.{Work, told, marksSet, recordIssue, ownTag, ownOutcome, ownJudged, notAllowed, flexible, secondHalf, macseqFits, tagMatches, tagEntry}
+use Rattle.rules.specs.Tags.{Work, told, ownTag, ownOutcome, ownJudged, notAllowed, flexible, secondHalf, macseqFits, tagMatches, tagEntry, entryTag}
 use Rattle.rules.specs.Times.{secondsOf, keySeconds, delayOf, timeValid, tagSlot, lowestSlot, slotOf}
 use Rattle.rules.specs.Verdict.{Verdict}
 use Rattle.rules.specs.declared.Chain.{Chain}
@@ -35,12 +36,12 @@ use Rattle.rules.proofs.Entries.{entry-tag, entry-set, length-tag-entry
 use Rattle.rules.proofs.Invariant.{WordsAre, Place, WaitIs}
 use Rattle.rules.proofs.Parts.{length-set-of}
 use Rattle.rules.proofs.Received.{not-lost-key, not-lost-tag, not-lost-info}
-use Rattle.rules.proofs.TagRecords.{WorkIs, told-is, kept-is}
+use Rattle.rules.proofs.TagRecords.{WorkIs, work-less, told-plain, told-is, kept-is}
 use Rattle.rules.proofs.Unchanged.{unchanged-refl}
 
 -- ---- outcomes
 
-outcome-one : (a b c d e f : Bool) → _≡_ {A = ℕ} (cond a 4 (cond b 6 (cond c 3 (cond d 1 (cond e 2 (cond f 5 7)))))) 1 → (a ≡ false) × ((c ≡ false) × (d ≡ true))
+pub outcome-one : (a b c d e f : Bool) → _≡_ {A = ℕ} (cond a 4 (cond b 6 (cond c 3 (cond d 1 (cond e 2 (cond f 5 7)))))) 1 → (a ≡ false) × ((c ≡ false) × (d ≡ true))
 outcome-one true b c d e f h = absurd (omega (arith, h))
 outcome-one false true c d e f h = absurd (omega (arith, h))
 outcome-one false false true d e f h = absurd (omega (arith, h))
@@ -109,10 +110,14 @@ block-in j nmack (suc f) h = div-lt-iff-lt-mul (zero-lt-suc f) .1 h
 
 -- ---- a field of the section
 
+-- the names that are new to the section, and none of its first n tags'
+abbrev pub UnheardOf : (List ℕ → Type 0) → Chain → Subframe → ℕ → List ℕ → Type 0
+UnheardOf U c sub n m = U m × ((i : ℕ) → i < n → m ≢ tagName (ownTag c (sectionOf sub) i))
+
 module _ (o : Start) (b : State) (said : Verdict) (h : Held) (x : Entry) (l : Log) (sub : Subframe) (v : SectionIs o b said h x l sub)
     (config : List ℕ) (nav : Nav) (words : WordsAre nav l) (not-before : rootSecondsOf (contentsBy said) ≤ secondsOf (sub .time))
     (reached : (k : ℕ) → k < (chainBy o said) .nmack → keyCame (chainBy o said) (sub .marks) (suc k) ≡ true → sentSlot (chainBy o said) (sub .time) (suc k) (sub .prn) ≤ h .slot)
-    (time-valid : timeValid (sub .time) ≡ true) where
+    (time-valid : timeValid (sub .time) ≡ true) (U : List ℕ → Type 0) (new : (block position : ℕ) → U (sub .prn ∷ sub .time ∷ block ∷ position ∷ [])) where
   abbrev chain : Chain
   chain = chainBy o said
 
@@ -126,13 +131,34 @@ module _ (o : Start) (b : State) (said : Verdict) (h : Held) (x : Entry) (l : Lo
   abbrev outcomeAt : ℕ → ℕ → ℕ
   outcomeAt j count = ownOutcome config nav chain h (sectionOf sub) j count
 
+  abbrev Unheard : ℕ → List ℕ → Type 0
+  Unheard n = UnheardOf U chain sub n
+
+  -- a field is told by its block and position
+  fields-apart : (i j : ℕ) → i ≢ j → tagName (tagAt j) ≢ tagName (tagAt i)
+  unfolding ownTag
+  fields-apart i j d e =
+      let f = chain .fields in
+      let a : j / f + 1 ≡ i / f + 1 = ap (λ (n : List ℕ). getD n 2 0) e in
+      let c : j % f + 1 ≡ i % f + 1 = ap (λ (n : List ℕ). getD n 3 0) e in
+      let q : j / f ≡ i / f = omega arith in
+      let r : j % f ≡ i % f = omega arith in
+      d (sym (div-add-mod i f) ∙ ap (λ (z : ℕ). f * z + i % f) (sym q) ∙ ap (λ (z : ℕ). f * (j / f) + z) (sym r) ∙ div-add-mod j f)
+
+  unheard : (j : ℕ) → j < (chainBy o said) .nmack * (chainBy o said) .fields → Unheard j (tagName (tagAt j))
+  unfolding ownTag
+  unheard j in-section = (new _ _, λ i g. fields-apart i j (λ z. absurd (omega (arith, z, g))))
+
+  unheard-less : (j : ℕ) (m : List ℕ) → Unheard (suc j) m → Unheard j m × (m ≢ tagName (tagAt j))
+  unheard-less j m u = ((u .0, λ i g. u .1 i (omega arith)), u .1 j (omega arith))
+
   module _ (j : ℕ) (in-section : j < (chainBy o said) .nmack * (chainBy o said) .fields) (came : fieldLost config (chainBy o said) (sub .time) (sub .marks) j ≡ false) where
     tag-time : (tagAt j) .time ≡ sub .time
     unfolding ownTag
     tag-time = refl
 
     -- the tag arrives here
-    arrived-here : notAllowed config j (tagAt j) ≡ false → not (usable nav ((tagAt j) .prn) ((tagAt j) .time)) ≡ false → Arrived o said (tagAt j) (eqb j 0) (setAt j) x l
+    arrived-here : notAllowed config j (tagAt j) ≡ false → not (usable nav ((tagAt j) .prn) ((tagAt j) .time)) ≡ false → Arrived o said (chainTurns (x ∷ l)) (tagAt j) (eqb j 0) (setAt j) x l
     unfolding notAllowed
     arrived-here allowed u =
         let a = neither (not (anyOf (eqb ((tagAt j) .adkd) 0 ∷ eqb ((tagAt j) .adkd) 11 ∷ eqb ((tagAt j) .adkd) 12 ∷ []))) _ allowed in
@@ -143,6 +169,7 @@ module _ (o : Start) (b : State) (said : Verdict) (h : Held) (x : Entry) (l : Lo
           sub = sub;
           section-is = v .section-is;
           in-force = v .in-force;
+          turn-is = refl;
           field = j;
           in-section = in-section;
           tag-is = refl;
@@ -202,28 +229,38 @@ module _ (o : Start) (b : State) (said : Verdict) (h : Held) (x : Entry) (l : Lo
         let s = entry-set (tagAt j) (setAt j) (length-set-of (nav .words) ((tagAt j) .prn)) in
         record { by = said; arrived = rw (t, s) (here (rw f at a)); unchanged = unchanged-refl (contentsBy said); not-before = rw t own-not-before }
 
-    own-is : (w : Work) → WorkIs o b (contentsBy said) x l w → WorkIs o b (contentsBy said) x l (ownJudged config nav chain h (sectionOf sub) j w)
+    -- what is kept of it has its name
+    kept-name : tagName (entryTag (tagEntry (tagAt j) (setAt j))) ≡ tagName (tagAt j)
+    kept-name = ap tagName (entry-tag (tagAt j) (setAt j) (tag-small .0) (tag-small .1 .0) (tag-small .1 .1))
+
+    own-is : (w : Work) → WorkIs o b said x l (Unheard j) w → WorkIs o b said x l (Unheard (suc j)) (ownJudged config nav chain h (sectionOf sub) j w)
     unfolding ownJudged
     own-is w k =
         let size = length-set-of (nav .words) ((tagAt j) .prn) in
-        let done = told-is o b (contentsBy said) x l (outcomeAt j (w .count)) (tagAt j) (setAt j) w k size (one-four (w .count)) in
-        by-test (WorkIs o b (contentsBy said) x l) (eqb (outcomeAt j (w .count)) 5)
-        (λ e. kept-is o b (contentsBy said) x l (tagEntry (tagAt j) (setAt j)) _ done (length-tag-entry (tagAt j) (setAt j) size) (five-waits (w .count) (eqb-true _ 5 e)))
-        (λ _. done)
+        let new = unheard j in-section in
+        by-test (WorkIs o b said x l (Unheard (suc j))) (eqb (outcomeAt j (w .count)) 5)
+        (λ e. (
+        let five = eqb-true (outcomeAt j (w .count)) 5 e in
+        kept-is o b said x l (v .in-force) (Unheard j) (Unheard (suc j)) (tagEntry (tagAt j) (setAt j)) _
+        (told-plain o b said x l (v .in-force) (Unheard j) (outcomeAt j (w .count)) (tagAt j) (setAt j) w k (λ one. absurd (omega (arith, five, one))))
+        (length-tag-entry (tagAt j) (setAt j) size) (five-waits (w .count) five) (rw kept-name new) (rw kept-name (unheard-less j))
+        ))
+        (λ _. told-is o b said x l (v .in-force) (Unheard j) (Unheard (suc j)) (outcomeAt j (w .count)) (tagAt j) (setAt j) w k size (one-four (w .count)) new (unheard-less j))
 
   -- outcome 8 marks nothing
-  lost-is : (j : ℕ) (w : Work) → WorkIs o b (contentsBy said) x l w → WorkIs o b (contentsBy said) x l (told 8 (lostTag chain (sectionOf sub) (sub .marks) j) [] w)
-  unfolding told marksSet recordIssue
-  lost-is j w k = told-is o b (contentsBy said) x l 8 (lostTag chain (sectionOf sub) (sub .marks) j) (replicate copyLength 0) w k refl (λ e. absurd (omega (arith, e)))
+  lost-is : (U : List ℕ → Type 0) (j : ℕ) (w : Work) → WorkIs o b said x l U w → WorkIs o b said x l U (told (chain .ms) 8 (lostTag chain (sectionOf sub) (sub .marks) j) [] w)
+  lost-is U j w k = told-plain o b said x l (v .in-force) U 8 (lostTag chain (sectionOf sub) (sub .marks) j) [] w k (λ e. absurd (omega (arith, e)))
 
-  field-is : (j : ℕ) (w : Work) → j < (chainBy o said) .nmack * (chainBy o said) .fields → WorkIs o b (contentsBy said) x l w
-      → WorkIs o b (contentsBy said) x l (fieldJudged config nav chain h (sectionOf sub) (sub .marks) j w)
+  field-is : (j : ℕ) (w : Work) → j < (chainBy o said) .nmack * (chainBy o said) .fields → WorkIs o b said x l (Unheard j) w
+      → WorkIs o b said x l (Unheard (suc j)) (fieldJudged config nav chain h (sectionOf sub) (sub .marks) j w)
   unfolding fieldJudged
   field-is j w in-section k =
-      by-test (WorkIs o b (contentsBy said) x l) (fieldLost config chain (sub .time) (sub .marks) j) (λ _. lost-is j w k) (λ came. own-is j in-section came w k)
+      by-test (WorkIs o b said x l (Unheard (suc j))) (fieldLost config chain (sub .time) (sub .marks) j)
+      (λ _. lost-is (Unheard (suc j)) j w (work-less o b said x l (v .in-force) (Unheard j) (Unheard (suc j)) w (λ m u. (unheard-less j m u) .0) k))
+      (λ came. own-is j in-section came w k)
 
-  pub fields-are : (n : ℕ) (w : Work) → n ≤ (chainBy o said) .nmack * (chainBy o said) .fields → WorkIs o b (contentsBy said) x l w
-      → WorkIs o b (contentsBy said) x l (fieldsJudged config nav chain h (sectionOf sub) (sub .marks) n w)
+  pub fields-are : (n : ℕ) (w : Work) → n ≤ (chainBy o said) .nmack * (chainBy o said) .fields → WorkIs o b said x l U w
+      → WorkIs o b said x l (Unheard n) (fieldsJudged config nav chain h (sectionOf sub) (sub .marks) n w)
   unfolding fieldsJudged
-  fields-are zero w le k = k
+  fields-are zero w le k = work-less o b said x l (v .in-force) U (Unheard 0) w (λ m u. u .0) k
   fields-are (suc j) w le k = field-is j (fieldsJudged config nav chain h (sectionOf sub) (sub .marks) j w) (omega arith) (fields-are j w (omega arith) k)

@@ -10,14 +10,16 @@ use Rattle.laws.specs.Refusal.{firstOf, unless}
 use Rattle.laws.proofs.Refusal.{clear}
 use Rattle.laws.proofs.Tests.{and-left}
 use Rattle.rules.specs.Calls.{Start, SetRead, OfferRead, setRead, setReadChecks, offerRead, offerReadChecks, authStamp, authSet}
-use Rattle.rules.specs.Claim.{KeyKnown, SetBacked, HandedFairly, MarkBacked, Fair, wouldHand}
+use Rattle.rules.specs.Candidates.{pairAt}
+use Rattle.rules.specs.Claim.{KeyKnown, Counted, FortyBits, SetBacked, HandedFairly, MarkBacked, Fair, wouldHand}
 use Rattle.rules.specs.Kroot.{offerWaits, offerId, offerMessage, offerSignature}
 use Rattle.rules.specs.Log.{Call, start, word, subframe, verdict, Question, set, offer, ask, asked, Entry, Log, step, stateAt}
 use Rattle.rules.specs.Navdata.{setIssue}
 use Rattle.rules.specs.PublicKeys.{keyType, keyBytes}
+use Rattle.rules.proofs.Agreements.{Forty}
 use Rattle.rules.specs.State.{State, offerShaped, prnValid}
 use Rattle.rules.proofs.Bounds.{offer-id-bound}
-use Rattle.rules.proofs.Invariant.{Inv, heldkey}
+use Rattle.rules.proofs.Invariant.{Inv, heldkey, AgreedIn}
 use Rattle.rules.proofs.Later.{entry, unchanged-inv, quiet-ask}
 
 -- ---- what waits
@@ -74,8 +76,24 @@ plain-fair o b x l e s h = record { marks = λ k i m. no-marks o b x l e k i; re
 
 -- ---- a read of a set
 
+-- forty bits, as the claim has them
+pub forty-bits : (A : ℕ → Counted → Type 0) (time : ℕ) → Forty A time → FortyBits A
+forty-bits A time f = record { tags = f .tags; turn = f .turn; each = f .rests .each; distinct = f .rests .distinct; enough = f .enough }
+
+backed-by : (o : Start) (b : State) (l : Log) (prn time : ℕ) (navdata : List ℕ) → Forty (AgreedIn o b l prn navdata) time → SetBacked o b prn time navdata l
+unfolding forty-bits
+backed-by o b l prn time navdata f =
+    record {
+      forty = forty-bits (AgreedIn o b l prn navdata) time f;
+      latest = f .rests .latest;
+      last = f .rests .last;
+      last-turn = f .rests .last-turn;
+      came = f .rests .came;
+      last-agreed = f .rests .agreed;
+    }
+
 set-backed : (o : Start) (b s : State) (l : Log) → Inv o b s l → (prn : ℕ) (out : List ℕ) → (setRead s prn out) .code ≡ 0 → SetBacked o b prn ((setRead s prn out) .time) ((setRead s prn out) .out) l
-unfolding setRead setReadChecks
+unfolding setRead setReadChecks authStamp authSet pairAt
 set-backed o b s l v prn out ok = go (firstOf (setReadChecks s prn out)) refl ok
   where
     res : ℕ → SetRead
@@ -92,7 +110,7 @@ set-backed o b s l v prn out ok = go (firstOf (setReadChecks s prn out)) refl ok
     go : (n : ℕ) → firstOf (setReadChecks s prn out) ≡ n → (res n) .code ≡ 0 → SetBacked o b prn ((res n) .time) ((res n) .out) l
     go zero e ok =
         let c = clear (setReadChecks s prn out) tt e in
-        v .auth .backed prn (not-false (prnValid prn) (c .1 .0)) (eqb-false (authStamp (s .auth) prn) 0 (c .1 .1 .0))
+        backed-by o b l prn _ _ ((v .auth .backed prn (not-false (prnValid prn) (c .1 .0))) .set (eqb-false (authStamp (s .auth) prn) 0 (c .1 .1 .0)))
     go (suc n) e ok = absurd (omega (arith, ok))
 
 set-fair : (o : Start) (b s : State) (l : Log) (prn : ℕ) (out : List ℕ) → Inv o b s l → Fair o b (entry s (ask (set prn out))) l

@@ -15,19 +15,21 @@ use Rattle.laws.proofs.Refusal.{clear, unless-accepted}
 use Rattle.laws.proofs.Splice.{part-first, part-second, either}
 use Rattle.laws.proofs.Tests.{and-left, and-right, neither}
 use Rattle.rules.specs.Bits.{filled, within}
-use Rattle.rules.specs.Calls.{Start, startCall, startChecks, startUnfit, startLengths, fresh, authStamp}
+use Rattle.rules.specs.Calls.{Start, startCall, startChecks, startUnfit, startLengths, fresh}
+use Rattle.rules.specs.Candidates.{pairAt}
 use Rattle.rules.specs.Claim.{Fair, KeyKnown, given}
 use Rattle.rules.specs.Gather.{marked}
 use Rattle.rules.specs.Kroot.{noOffer, offerWaits, inForce}
 use Rattle.rules.specs.Log.{Log, start, stateAt, step}
 use Rattle.rules.specs.Navdata.{wordAt, wordPlace}
 use Rattle.rules.specs.PublicKeys.{keyLength, keyHeld, keyType, keyBytes, withKey}
-use Rattle.rules.specs.State.{State, nsOf, treeRoot, shaped, wordsLength, stampsLength, dsmIds, pubkeysLength, arrivalsLength}
+use Rattle.rules.specs.State.{State, nsOf, treeRoot, shaped, wordsLength, stampsLength, dsmIds, pubkeysLength, arrivalsLength, waitingCount, clocksLength, waitingLength, satellites}
 use Rattle.rules.proofs.Choices.{no, not-zero}
-use Rattle.rules.proofs.Invariant.{Inv, WordsAre, BlocksAre, KeysAre, SetsAre, heldkey}
+use Rattle.rules.proofs.Invariant.{Inv, WordsAre, BlocksAre, KeysAre, NamesAre, Newer, SetsAre, heldkey}
 use Rattle.rules.proofs.KeyPlaces.{keyNumber, added-number, added-bytes, other-number}
 use Rattle.rules.proofs.Later.{entry, refused-inv}
 use Rattle.rules.proofs.Marks.{none-marked}
+use Rattle.rules.proofs.Names.{no-names}
 use Rattle.rules.proofs.Parts.{getD-zeros, part-zeros, part-whole}
 use Rattle.rules.proofs.ReadsFair.{plain-fair}
 use Rattle.rules.proofs.Refused.{start-kept}
@@ -134,9 +136,19 @@ fresh-keys x f =
     none-held : (id : ℕ) → id < 16 → id ≢ x .id → keyHeld (withKey none (x .id) (x .type) key) id ≡ false
     none-held id h n = rw (other-number none (x .id) (x .type) key none-length (f .id) (key-short x f) id h n) (rw (getD-zeros pubkeysLength (id * 68)) refl)
 
-fresh-sets : (x : Start) (b : State) → SetsAre x b ((fresh x) .auth) []
-unfolding fresh authStamp
-fresh-sets x b = record { backed = λ prn p n. absurd (n (getD-zeros arrivalsLength (prn - 1))) }
+fresh-sets : (x : Start) (b : State) → SetsAre x b ((fresh x) .auth) [] []
+unfolding fresh pairAt
+fresh-sets x b =
+    record {
+      backed = λ prn p. (
+          let none = getD-zeros arrivalsLength (satellites + (prn - 1)) in
+          record { set = λ n. absurd (n (getD-zeros arrivalsLength (prn - 1))); candidate = λ n. absurd (n none); short = λ n. absurd (n none) }
+          );
+    }
+
+fresh-names : (x : Start) → NamesAre (Newer ((fresh x) .clocks)) ((fresh x) .tesla .waiting) (waitingCount ((fresh x) .tesla .numbers)) []
+unfolding fresh waitingCount
+fresh-names x = no-names (Newer (replicate clocksLength 0)) (replicate waitingLength 0) 0 [] refl (λ n u. tt)
 
 no-offer : (x : Start) → offerWaits ((fresh x) .offer) ≡ false
 unfolding fresh noOffer offerWaits
@@ -160,6 +172,8 @@ fresh-inv x f =
       force = λ e. no (no-chain x _) e;
       held = λ e. no (no-chain x _) e;
       waiting = λ e. no (no-chain x _) e;
+      used = [];
+      names = fresh-names x;
       auth = fresh-sets x (fresh x);
     }
 

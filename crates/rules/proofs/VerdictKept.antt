@@ -1,11 +1,12 @@
 -- Verdicts: what is in force is the message of the last verdict that counts, vouched for; what waits over a new root has its chain unchanged and is not
 -- before it.
-use Prim.Native.Nat.{ℕ, zero, suc, _+_, _/_, _≤_, _<_}
+use Prim.Native.Nat.{ℕ, zero, suc, _+_, _-_, _/_, _≤_, _<_}
 use mathlib.Core.Path.{_≡_, refl, sym, _∙_, ap}
 use mathlib.Core.Logic.{inl, ⊎-elim}
 use mathlib.Core.Bool.{Bool, true, false, cond, _&&_, not}
 use mathlib.Core.List.{List, [], _∷_, _++_, append-nil}
 use mathlib.Core.Option.{some}
+use native.Mathlib.Nat.{le-refl}
 use native.Mathlib.Omega.{arith}
 use lib.Dec.{eqb, leb, ltb}
 use lib.ListN.{length, set, take}
@@ -19,27 +20,31 @@ use Rattle.laws.proofs.Splice.{length-part, below?}
 use Rattle.laws.proofs.Tests.{and-left, and-right, neither, both-true}
 use Rattle.rules.specs.Bits.{filled, same, within, anyOf}
 use Rattle.rules.specs.Calls.{Start, verdictCall, verdictChecks, chainOf, heldOf}
+use Rattle.rules.specs.Candidates.{pairAt, candidatesCleared}
 use Rattle.rules.specs.Chain.{held, walk}
-use Rattle.rules.specs.Claim.{Vouched, Fair, wouldHand, contentsBy}
+use Rattle.rules.specs.Claim.{Vouched, Fair, NoneOf, wouldHand, contentsBy}
 use Rattle.rules.specs.Gather.{statusOf, cidOf}
 use Rattle.rules.specs.Kroot.{cidkrOf, ksOf, keyWidth, krootOf, rootSecondsOf, chainWith, chainContents, inForce, offerWaits, offerId, offerMessage, offerSignature, noOffer}
-use Rattle.rules.specs.Log.{verdict, Entry, Log, here, step, stateAt, chainIn}
+use Rattle.rules.specs.Log.{verdict, Entry, Log, here, earlier, step, stateAt, chainIn, chainTurns}
 use Rattle.rules.specs.PublicKeys.{keyHeld, keyType, withoutLower}
-use Rattle.rules.specs.State.{State, verdictShaped, contentsLength, entryLength, nsOf, heldSlot, waitingCount, pubkeysLength, chainLength, waitingLength}
+use Rattle.rules.specs.State.{State, verdictShaped, contentsLength, entryLength, nsOf, heldSlot, waitingCount, pubkeysLength, chainLength, waitingLength, Tesla, Auth, withAuth, numbersLength, arrivalsLength}
 use Rattle.rules.specs.Tags.{entryAt, entryTag}
 use Rattle.rules.specs.Times.{keySeconds}
-use Rattle.rules.specs.Verdict.{Verdict, messageHeader, messageContents, namesOffer, sameContents, statusUnfit, vouchChecks, keyNotBefore, staying, stayingAt, rootHeld, tagsDropped, vouched, judgedVerdict, trusting, chainUnchanged, cidInForce, forced}
+use Rattle.rules.proofs.Agreements.{forty-map}
+use Rattle.rules.specs.Verdict.{Verdict, messageHeader, messageContents, namesOffer, sameContents, statusUnfit, vouchChecks, keyNotBefore, staying, stayingAt, rootHeld, tagsDropped, vouched, judgedVerdict, trusting, chainUnchanged, cidInForce, forced, chainStays, candidatesAt}
 use Rattle.rules.proofs.Bounds.{status-bound, key-width-bound, count-bound, count-written}
 use Rattle.rules.proofs.Choices.{answered, each, no, not-zero}
 use Rattle.rules.proofs.Entries.{Entries, no-entries, one-more, entries-in, length-entry}
-use Rattle.rules.proofs.Invariant.{Inv, KeysAre, OfferHeld, InForce, HeldIs, WaitIs}
+use Rattle.rules.proofs.Invariant.{Inv, KeysAre, OfferHeld, InForce, HeldIs, WaitIs, NamesAre, Newer, AgreedIn, SetsAre}
 use Rattle.rules.proofs.KeyPlaces.{lower-number, upper-number, upper-bytes}
-use Rattle.rules.proofs.Later.{entry, stepped-at, same-inv, unchanged-inv, quiet-refused, words-later, blocks-later, keys-later, known-later, held-later, wait-later, sets-later}
+use Rattle.rules.proofs.Later.{entry, stepped-at, same-inv, unchanged-inv, quiet-refused, words-later, blocks-later, keys-later, known-later, held-later, wait-later, sets-later, still}
 use Rattle.rules.proofs.Lengths.{VerdictSized, verdict-sized, offer-shaped}
+use Rattle.rules.proofs.Names.{Undue, next-undue, less-undue, no-names, names-less, names-kept, names-in}
+use Rattle.rules.proofs.PairPlaces.{cleared-set, cleared-stamp, cleared-latest}
 use Rattle.rules.proofs.Parts.{filled-back}
 use Rattle.rules.proofs.ReadsFair.{plain-fair, would-hand, offer-known, handing}
 use Rattle.rules.proofs.Refused.{verdict-refused}
-use Rattle.rules.proofs.Unchanged.{unchanged-trans}
+use Rattle.rules.proofs.Unchanged.{unchanged-refl, unchanged-trans}
 
 -- ---- what the checks of a verdict answered 0 say
 
@@ -172,34 +177,88 @@ waits-on : (o : Start) (a c e : List ℕ) (l : Log) → chainUnchanged a c ≡ t
 waits-on o a c e l u w h =
     record { by = w .by; arrived = w .arrived; unchanged = unchanged-trans (contentsBy (w .by)) a c (w .unchanged) u; not-before = not-before-of (rootSecondsOf c) e h }
 
-module _ (o : Start) (a c waiting : List ℕ) (l : Log) (same-chain : chainUnchanged a c ≡ true) (size : length waiting ≡ waitingLength) where
+-- entries that stay: what waits arrived, and its names are apart from each other and from those used
+record StayIs (o : Start) (c : List ℕ) (l : Log) (U : List ℕ → Type 0) (used : List (List ℕ)) (w : List ℕ) : Type 0 where
+  m : ℕ
+  entries : Entries (λ (e : List ℕ). WaitIs o c e l) w m
+  names : NamesAre U w m used
+
+none-stay : (o : Start) (c : List ℕ) (l : Log) (U : List ℕ → Type 0) (used : List (List ℕ)) → ((n : List ℕ) → U n → NoneOf n used) → StayIs o c l U used []
+none-stay o c l U used f = record { m = 0; entries = no-entries (λ (e : List ℕ). WaitIs o c e l); names = no-names U [] 0 used refl f }
+
+module _ (o : Start) (a c waiting : List ℕ) (l : Log) (same-chain : chainUnchanged a c ≡ true) (size : length waiting ≡ waitingLength)
+    (U : List ℕ → Type 0) (used : List (List ℕ)) (all : ℕ) (few : all ≤ 256) (names : NamesAre U waiting all used) (v : (k : ℕ) → k < all → WaitIs o a (entryAt waiting k) l) where
   abbrev Stays : List ℕ → Type 0
   Stays e = WaitIs o c e l
 
-  staying-entries : (n : ℕ) → n ≤ 256 → ((k : ℕ) → k < n → WaitIs o a (entryAt waiting k) l) → (m : ℕ) × Entries Stays (staying (rootSecondsOf c) waiting n) m
+  staying-entries : (n : ℕ) → n ≤ all → StayIs o c l (Undue used waiting n) used (staying (rootSecondsOf c) waiting n)
   unfolding staying
-  staying-entries zero h v = (0, no-entries Stays)
-  staying-entries (suc n) h v =
-      let ih = staying-entries n (omega arith) (λ k g. v k (omega arith)) in
-      go (keyNotBefore (rootSecondsOf c) (entryAt waiting n)) refl (ih .0) (ih .1)
+  staying-entries zero h = none-stay o c l (Undue used waiting 0) used (λ n u. u .0)
+  staying-entries (suc n) h = go (keyNotBefore (rootSecondsOf c) (entryAt waiting n)) refl (staying-entries n (omega arith))
     where
-      go : (t : Bool) → keyNotBefore (rootSecondsOf c) (entryAt waiting n) ≡ t → (m : ℕ) → Entries Stays (staying (rootSecondsOf c) waiting n) m
-          → (m : ℕ) × Entries Stays (staying (rootSecondsOf c) waiting n ++ cond t (entryAt waiting n) []) m
-      go true e m p =
-          (m + 1, one-more Stays (staying (rootSecondsOf c) waiting n) (entryAt waiting n) m p (length-entry waiting n (omega arith)) (waits-on o a c (entryAt waiting n) l same-chain (v n (omega arith)) e))
-      go false e m p = (m, rw append-nil p)
+      go : (t : Bool) → keyNotBefore (rootSecondsOf c) (entryAt waiting n) ≡ t → StayIs o c l (Undue used waiting n) used (staying (rootSecondsOf c) waiting n)
+          → StayIs o c l (Undue used waiting (suc n)) used (staying (rootSecondsOf c) waiting n ++ cond t (entryAt waiting n) [])
+      go true e p =
+          record {
+            m = p .m + 1;
+            entries =
+                one-more Stays (staying (rootSecondsOf c) waiting n) (entryAt waiting n) (p .m) (p .entries) (length-entry waiting n (omega arith))
+                (waits-on o a c (entryAt waiting n) l same-chain (v n (omega arith)) e);
+            names =
+                names-kept (Undue used waiting n) (Undue used waiting (suc n)) (staying (rootSecondsOf c) waiting n) (p .m) used (entryAt waiting n) (p .entries .size) (length-entry waiting n (omega arith))
+                (next-undue U used waiting all n (omega arith) names) (less-undue used waiting n) (p .names);
+          }
+      go false e p =
+          rw append-nil
+          (record {
+            m = p .m;
+            entries = p .entries;
+            names = names-less (Undue used waiting n) (Undue used waiting (suc n)) (staying (rootSecondsOf c) waiting n) (p .m) used (λ m u. (less-undue used waiting n m u) .0) (p .names);
+          })
 
-stay-entries : (o : Start) (b s : State) (c : List ℕ) (x : Entry) (l : Log) → Inv o b s l → length (s .tesla .waiting) ≡ waitingLength
-    → (m : ℕ) × Entries (λ (e : List ℕ). WaitIs o c e (x ∷ l)) (stayingAt s c) m
-unfolding stayingAt
-stay-entries o b s c x l i size =
-    by-test (λ (w : List ℕ). (m : ℕ) × Entries (λ (e : List ℕ). WaitIs o c e (x ∷ l)) w m) (inForce (s .config) (s .chain) && chainUnchanged (chainContents (s .chain)) c)
+stay-entries : (o : Start) (b s : State) (c : List ℕ) (x : Entry) (l : Log) (i : Inv o b s l) → (chainStays s c ≡ true → chainTurns (x ∷ l) ≡ chainTurns l) → length (s .tesla .waiting) ≡ waitingLength
+    → StayIs o c (x ∷ l) (Newer (s .clocks)) (i .used) (stayingAt s c)
+unfolding stayingAt chainStays
+stay-entries o b s c x l i q size =
+    by-test (StayIs o c (x ∷ l) (Newer (s .clocks)) (i .used)) (chainStays s c)
     (λ e. (
     let f = and-left (inForce (s .config) (s .chain)) _ e in
     let u = and-right (inForce (s .config) (s .chain)) _ e in
-    staying-entries o (chainContents (s .chain)) c (s .tesla .waiting) (x ∷ l) u size (waitingCount (s .tesla .numbers)) (count-bound (s .tesla .numbers)) (λ k h. wait-later (i .waiting f k h))
+    let count = waitingCount (s .tesla .numbers) in
+    let p =
+    staying-entries o (chainContents (s .chain)) c (s .tesla .waiting) (x ∷ l) u size (Newer (s .clocks)) (i .used) count (count-bound (s .tesla .numbers)) (i .names)
+    (λ k h. wait-later (q e) (i .waiting f k h)) count (le-refl count) in
+    record {
+      m = p .m;
+      entries = p .entries;
+      names = names-less (Undue (i .used) (s .tesla .waiting) count) (Newer (s .clocks)) _ (p .m) (i .used) (i .names .unseen) (p .names);
+    }
     ))
-    (λ _. (0, no-entries (λ (e : List ℕ). WaitIs o c e (x ∷ l))))
+    (λ _. none-stay o c (x ∷ l) (Newer (s .clocks)) (i .used) (λ n u. (i .names .unseen n u) .0))
+
+-- ---- candidates
+
+-- "A new chain or a drop clears candidates.": authentic sets stay
+cleared-sets : (o : Start) (b : State) (a : Auth) (used : List (List ℕ)) (x : Entry) (l : Log) → length (a .arrivals) ≡ arrivalsLength → SetsAre o b a used l → SetsAre o b (candidatesCleared a) used (x ∷ l)
+cleared-sets o b a used x l size v =
+    record {
+      backed = λ prn p. (
+          let q = cleared-set a size prn p in
+          let r = cleared-stamp a size prn p in
+          record {
+            set = λ n.
+                rw (q, r)
+                (forty-map (AgreedIn o b l prn ((pairAt (a .sets) (a .arrivals) prn) .set)) (AgreedIn o b (x ∷ l) prn ((pairAt (a .sets) (a .arrivals) prn) .set)) ((pairAt (a .sets) (a .arrivals) prn) .stamp - 1) (λ turn c g. earlier g)
+                ((v .backed prn p) .set (λ z. n (r ∙ z))));
+            candidate = λ n. absurd (n (cleared-latest a size prn p));
+            short = λ n. absurd (n (cleared-latest a size prn p));
+          }
+          );
+    }
+
+drop-count : (t : Tesla) → length (t .numbers) ≡ numbersLength → waitingCount ((tagsDropped t) .numbers) ≡ 0
+unfolding tagsDropped waitingCount
+drop-count t h = let e = getD-set-same (t .numbers) 1 0 0 (omega arith) in rw e refl
 
 -- ---- the three effects
 
@@ -217,7 +276,7 @@ module _ (o : Start) (b s : State) (v : Verdict) (x : Entry) (l : Log) (i : Inv 
   size = verdict-sized s (f .shape)
 
   -- "Status 3 .. drops the chain and the waiting tags"
-  dropped-inv : Left (trusting s (s .pubkeys) (set (s .chain) 0 2) (tagsDropped (s .tesla)))
+  dropped-inv : Left (withAuth (trusting s (s .pubkeys) (set (s .chain) 0 2) (tagsDropped (s .tesla))) (candidatesCleared (s .auth)))
   dropped-inv at =
       record {
         at = at;
@@ -230,12 +289,21 @@ module _ (o : Start) (b s : State) (v : Verdict) (x : Entry) (l : Log) (i : Inv 
         force = λ h. no (drop-ends (s .config) (s .chain) (size .chain)) h;
         held = λ h. no (drop-ends (s .config) (s .chain) (size .chain)) h;
         waiting = λ h. no (drop-ends (s .config) (s .chain) (size .chain)) h;
-        auth = sets-later (i .auth);
+        used = i .used;
+        names = no-names (Newer (s .clocks)) _ _ (i .used) (drop-count (s .tesla) (size .numbers)) (λ n u. (i .names .unseen n u) .0);
+        auth = cleared-sets o b (s .auth) (i .used) x l (size .arrivals) (i .auth);
       }
 
   module _ (n : eqb (statusOf (messageHeader (v .message))) 3 ≡ false) where
     in-force-now : (c : List ℕ) → c ≡ contents → InForce o b c (x ∷ l)
     in-force-now c e = record { said = v; in-force = put-in-force s v x l is ok f n; contents-are = e; vouched = here (vouched-here o b s v x l i is ok f) }
+
+    -- the chain in force stays over contents that leave it unchanged
+    turn-stays : inForce (s .config) (s .chain) ≡ true → chainUnchanged (chainContents (s .chain)) contents ≡ true → chainTurns (x ∷ l) ≡ chainTurns l
+    turn-stays g u =
+        let k = i .force g in
+        let e : chainUnchanged (messageContents (k .said .message)) contents ≡ true = rw (← (k .contents-are)) u in
+        rw (is, ok) (rw n (rw (put-status s v f n) (rw (k .in-force) (rw e refl))))
 
     -- "Contents equal to those in force (message without its header) change nothing but the public keys."
     same-contents-inv : sameContents s contents ≡ true → Left (trusting s lower (s .chain) (s .tesla))
@@ -251,12 +319,31 @@ module _ (o : Start) (b s : State) (v : Verdict) (x : Entry) (l : Log) (i : Inv 
           offer = no-offer lower;
           force = λ h. in-force-now (chainContents (s .chain)) (same-true (chainContents (s .chain)) contents (and-right (inForce (s .config) (s .chain)) _ e));
           held = λ h. held-later (i .held h);
-          waiting = λ h k j. wait-later (i .waiting h k j);
-          auth = sets-later (i .auth);
+          waiting = λ h k j. wait-later same (i .waiting h k j);
+          used = i .used;
+          names = i .names;
+          auth = sets-later o b (s .auth) (i .used) l x same (i .auth);
         }
+      where
+        equal : chainUnchanged (chainContents (s .chain)) contents ≡ true
+        equal = rw (same-true (chainContents (s .chain)) contents (and-right (inForce (s .config) (s .chain)) _ e)) (unchanged-refl contents)
+
+        same : chainTurns (x ∷ l) ≡ chainTurns l
+        same = turn-stays (and-left (inForce (s .config) (s .chain)) _ e) equal
+
+    turn-over : chainStays s contents ≡ true → chainTurns (x ∷ l) ≡ chainTurns l
+    unfolding chainStays
+    turn-over e = turn-stays (and-left (inForce (s .config) (s .chain)) _ e) (and-right (inForce (s .config) (s .chain)) _ e)
+
+    candidates-over : SetsAre o b (candidatesAt s contents) (i .used) (x ∷ l)
+    unfolding candidatesAt chainStays
+    candidates-over =
+        by-test (λ (a : Auth). SetsAre o b a (i .used) (x ∷ l)) (chainStays s contents)
+        (λ e. sets-later o b (s .auth) (i .used) l x (turn-over e) (i .auth))
+        (λ _. cleared-sets o b (s .auth) (i .used) x l (size .arrivals) (i .auth))
 
     -- a new root
-    root-inv : Left (trusting s lower (forced contents) (rootHeld s contents))
+    root-inv : Left (withAuth (trusting s lower (forced contents) (rootHeld s contents)) (candidatesAt s contents))
     unfolding chainOf heldOf rootHeld
     root-inv at =
         record {
@@ -270,20 +357,27 @@ module _ (o : Start) (b s : State) (v : Verdict) (x : Entry) (l : Log) (i : Inv 
           force = λ h. in-force-now (chainContents (forced contents)) (new-contents contents c-size);
           held = λ h. rw (new-contents contents c-size) (root-held (nsOf (s .config)) contents (length (stayingAt s contents) / entryLength) (x ∷ l) c-size);
           waiting = λ h. rw (new-contents contents c-size) waits;
-          auth = sets-later (i .auth);
+          used = i .used;
+          names = names-in (Newer (s .clocks)) (stayingAt s contents) (s .tesla .waiting) (stay .m) _ (i .used) (stay .entries .size) few (stay .names);
+          auth = candidates-over;
         }
       where
         c-size : length (messageContents (v .message)) ≡ contentsLength
         c-size = length-contents (v .message) (f .message)
 
-        stay : (m : ℕ) × Entries (λ (e : List ℕ). WaitIs o contents e (x ∷ l)) (stayingAt s contents) m
-        stay = stay-entries o b s contents x l i (size .waiting)
+        stay : StayIs o contents (x ∷ l) (Newer (s .clocks)) (i .used) (stayingAt s contents)
+        stay = stay-entries o b s contents x l i turn-over (size .waiting)
+
+        few : waitingCount (0 ∷ length (stayingAt s contents) / entryLength ∷ []) ≤ stay .m
+        few =
+            let z = stay .entries .size in
+            let y = count-written 0 (length (stayingAt s contents) / entryLength) in
+            omega arith
 
         waits : (k : ℕ) → k < waitingCount (0 ∷ length (stayingAt s contents) / entryLength ∷ []) → WaitIs o contents (entryAt (splice (s .tesla .waiting) 0 (stayingAt s contents)) k) (x ∷ l)
         waits k h =
-            let z = stay .1 .size in
-            let y = count-written 0 (length (stayingAt s contents) / entryLength) in
-            entries-in (λ (e : List ℕ). WaitIs o contents e (x ∷ l)) (s .tesla .waiting) (stayingAt s contents) (stay .0) (stay .1) k (omega arith)
+            let z = few in
+            entries-in (λ (e : List ℕ). WaitIs o contents e (x ∷ l)) (s .tesla .waiting) (stayingAt s contents) (stay .m) (stay .entries) k (omega arith)
 
   vouched-inv : Left (vouched s v)
   unfolding vouched
@@ -300,7 +394,7 @@ refused-inv o b s l v n i e =
     (λ at. unchanged-inv o b s (entry s (verdict v)) l i (quiet-refused _ n e) at)
     (λ at.
     same-inv o b s (trusting s (s .pubkeys) (s .chain) (s .tesla)) (entry s (verdict v)) l i ((quiet-refused (entry s (verdict v)) n e) .no-verdict) at refl refl refl refl refl refl (no-offer (s .pubkeys))
-    (words-later ((quiet-refused (entry s (verdict v)) n e) .no-word) (i .words)))
+    (words-later ((quiet-refused (entry s (verdict v)) n e) .no-word) (i .words)) (still (s .clocks)))
     (not-zero _ n e) (stepped-at b s l (verdict v) (i .at))
 
 accepted-state : (s : State) (v : Verdict) (code : ℕ) → code ≡ 0 → cond (anyOf (eqb code 1 ∷ eqb code 2 ∷ eqb code 4 ∷ [])) s (judgedVerdict s v code) ≡ vouched s v

@@ -4,9 +4,10 @@ use mathlib.Core.Path.{_≡_, refl, sym, _∙_}
 use mathlib.Core.Logic.{_≢_, inl, inr, ⊎-elim}
 use mathlib.Core.Bool.{Bool, true, false, cond, _&&_, not}
 use mathlib.Core.List.{List, _∷_}
+use native.Mathlib.Nat.{le-refl}
 use native.Mathlib.Omega.{arith}
 use lib.Dec.{eqb, leb}
-use lib.ListN.{length, getD}
+use lib.ListN.{length, getD, set}
 use lib.Seq.{getD-set-same, getD-set-other}
 use borrow.Author.Tests.{eqb-true, eqb-false, not-false, le-leb}
 use Rattle.laws.specs.Refusal.{firstOf}
@@ -17,13 +18,14 @@ use Rattle.rules.specs.Calls.{Start, Word, wordCall, wordChecks, wordUnf
 use Rattle.rules.specs.Claim.{Fair}
 use Rattle.rules.specs.Log.{word, Entry, Log, stateAt, step, lastWord}
 use Rattle.rules.specs.Navdata.{Came, wordType, heldType, wordAt, wordPlace, wordStored}
-use Rattle.rules.specs.State.{State, Nav, prnValid, wordShaped, wordsLength, stampsLength}
+use Rattle.rules.specs.State.{State, Nav, prnValid, wordShaped, wordsLength, stampsLength, lastSubframeOf}
 use Rattle.rules.specs.Times.{stampOf}
 use Rattle.rules.proofs.Bounds.{within-range, prn-range}
 use Rattle.rules.proofs.Choices.{no, answered, not-zero}
 use Rattle.rules.proofs.Invariant.{Inv, WordsAre, Place}
-use Rattle.rules.proofs.Later.{entry, stepped-at, same-inv, refused-inv}
+use Rattle.rules.proofs.Later.{entry, stepped-at, same-inv, refused-inv, still}
 use Rattle.rules.proofs.Lengths.{WordSized, word-sized}
+use Rattle.rules.proofs.Names.{Onward}
 use Rattle.rules.proofs.Parts.{part-beside}
 use Rattle.rules.proofs.ReadsFair.{plain-fair}
 use Rattle.rules.proofs.Refused.{word-kept}
@@ -170,6 +172,14 @@ module _ (s : State) (w : Word) (x : Entry) (l : Log) (is : x .call ≡ word w) 
       (λ h. record { bytes = now-bytes h; stamps = now-stamp h })
       (λ h. record { bytes = λ prn k p. rw (unheld-word h prn k p) (v .bytes prn k p); stamps = λ prn k p. rw (unheld-word h prn k p) (v .stamps prn k p) })
 
+-- a word's clock is no sub-frame's
+word-onward : (clocks : List ℕ) (p stamp : ℕ) → 1 ≤ p → Onward clocks (set clocks (36 + p) stamp)
+unfolding lastSubframeOf
+word-onward clocks p stamp low prn valid =
+    let r = prn-range prn valid in
+    let h = r .1 in
+    rw (getD-set-other clocks (36 + p) prn stamp 0 (λ z. absurd (omega (arith, z, h, low)))) (le-refl (getD clocks prn 0))
+
 -- ---- the call
 
 taken-inv : (o : Start) (b s : State) (w : Word) (x : Entry) (l : Log) → Inv o b s l → x .call ≡ word w → x .reply .code ≡ 0 → Fit s w → wordTaken s w ≡ stateAt b (x ∷ l) → Inv o b (wordTaken s w) (x ∷ l)
@@ -177,8 +187,8 @@ unfolding wordTaken
 taken-inv o b s w x l v is ok f at =
     let words : WordsAre ((wordTaken s w) .nav) (x ∷ l) = words-now s w x l is ok f (v .words) in
     by-test (λ (s' : State). s' ≡ stateAt b (x ∷ l) → WordsAre (s' .nav) (x ∷ l) → Inv o b s' (x ∷ l)) (heldType (wordType (w .bytes)))
-    (λ _ at words. same-inv o b s _ x l v (rw (is, ok) refl) at refl refl refl refl refl refl (v .offer) words)
-    (λ _ at words. same-inv o b s s x l v (rw (is, ok) refl) at refl refl refl refl refl refl (v .offer) words)
+    (λ _ at words. same-inv o b s _ x l v (rw (is, ok) refl) at refl refl refl refl refl refl (v .offer) words (word-onward (s .clocks) (w .prn) (stampOf (w .time)) (f .prn-low)))
+    (λ _ at words. same-inv o b s s x l v (rw (is, ok) refl) at refl refl refl refl refl refl (v .offer) words (still (s .clocks)))
     at words
 
 taken-state : (s : State) (w : Word) → (step s (word w)) .reply .code ≡ 0 → (step s (word w)) .state ≡ wordTaken s w

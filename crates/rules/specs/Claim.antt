@@ -1,12 +1,14 @@
--- Demand 3: what is claimed of every list of calls after an accepted start. Its sentences, and those of 01 that explain them, stand word for word
--- beside the fields that say them; FourThings has the four things, Refused the sentence on refused calls, Claim all of it.
+-- Demand 3: what is claimed of every list of calls after an accepted start. Its sentences, and those of 01 and 02 that explain them, stand word for
+-- word beside the fields that say them; FourThings has the four things, FortyBits what 02 (P4) asks of a mark beside them, Refused the sentence on
+-- refused calls, Claim all of it.
 --
 -- How to read it. A record holds where all its fields do. `a ≡ b`: a equals b; `a ≢ b`: it does not. `P → Q`: P implies Q; `(n : ℕ) → P`: P of every
--- number n; `P × Q`: both. `Once P l`: P was so of an entry of the log l and of the entries older than it. `part s a n`: the n bytes of s from place a
--- on. `some v`: there is one, and it is v. `origin` is always the accepted start of the list, `began` the state that it left.
-use Prim.Native.Nat.{ℕ, suc, _-_, _*_, _≤_, _<_}
+-- number n; `P × Q`: both; `(n : P) × Q`: Q of some n of P; `P ⊎ Q`: one of them. `Once P l`: P was so of an entry of the log l and of the entries
+-- older than it. `Each P tags`: P of each of the tags. `part s a n`: the n bytes of s from place a on. `some v`: there is one, and it is v. `origin` is
+-- always the accepted start of the list, `began` the state that it left.
+use Prim.Native.Nat.{ℕ, suc, _+_, _-_, _*_, _≤_, _<_}
 use mathlib.Core.Path.{_≡_}
-use mathlib.Core.Logic.{_≢_}
+use mathlib.Core.Logic.{_≢_, _⊎_}
 use mathlib.Core.Bool.{Bool, true, false, cond}
 use mathlib.Core.List.{List, [], _∷_}
 use mathlib.Core.Option.{some}
@@ -19,7 +21,7 @@ use Rattle.rules.specs.Calls.{Start, Word, Subframe, OfferRead, startCal
 use Rattle.rules.specs.Chain.{walk, sentSlot, keySlot}
 use Rattle.rules.specs.Gather.{hkrootOf, mackOf, headerOf, statusOf, dsmIdOf, blockIdOf, blockOf, totalOf}
 use Rattle.rules.specs.Kroot.{chainWith, krootOf}
-use Rattle.rules.specs.Log.{Call, start, word, subframe, verdict, Question, set, offer, ask, Handed, Entry, Log, Once, Always, History, ranFrom, stateAt, step, hkrootIn, sectionIn, verdictIn, lastWord, chainIn}
+use Rattle.rules.specs.Log.{Call, start, word, subframe, verdict, Question, set, offer, ask, Handed, Entry, Log, Once, Always, History, ranFrom, stateAt, step, hkrootIn, sectionIn, verdictIn, lastWord, chainIn, chainTurns}
 use Rattle.rules.specs.Mack.{blockKey}
 use Rattle.rules.specs.Navdata.{setUsable, setBytes, setIssue}
 use Rattle.rules.specs.Pkr.{newIdOf, newTypeOf, newKeyOf, emergency, pkrSizeBad, treeProved}
@@ -121,13 +123,14 @@ usableIn l prn time = setUsable time (lastWord l prn 1) (lastWord l prn 2) (last
 abbrev pub setIn : Log → ℕ → List ℕ
 setIn l prn = setBytes ((lastWord l prn 1) .bytes) ((lastWord l prn 2) .bytes) ((lastWord l prn 3) .bytes) ((lastWord l prn 4) .bytes) ((lastWord l prn 5) .bytes)
 
--- the tag arrived at this entry, read by the chain `by` of the message that was in force, and these bits were its satellite's set. `first` says that
--- it is tag0, the first field of its section
-pub record Arrived (origin : Start) (by : Verdict) (t : Tag) (first : Bool) (navdata : List ℕ) (x : Entry) (older : Log) : Type 0 where
+-- the tag arrived at this entry, read by the chain `by` of the message that was in force, and these bits were its satellite's set. `turn` numbers the chain
+-- that was in force; `first` says that it is tag0, the first field of its section
+pub record Arrived (origin : Start) (by : Verdict) (turn : ℕ) (t : Tag) (first : Bool) (navdata : List ℕ) (x : Entry) (older : Log) : Type 0 where
   -- "A tag arrives in a section answered 0."
   pub sub : Subframe
   pub section-is : sectionIn x ≡ some sub
   pub in-force : chainIn older ≡ some by
+  pub turn-is : turn ≡ chainTurns (x ∷ older)
   pub field : ℕ
   pub in-section : field < (chainBy origin by) .nmack * (chainBy origin by) .fields
   pub tag-is : t ≡ ownTag (chainBy origin by) (sectionOf sub) field
@@ -176,7 +179,8 @@ pub record FourThings (origin : Start) (began : State) (t : Tag) (navdata : List
   -- "Those very 549 bits were that satellite's set when the tag arrived."
   pub by : Verdict
   pub first : Bool
-  pub arrived : Once (Arrived origin by t first navdata) (x ∷ older)
+  -- and it arrived since the last new chain or drop: "Waiting tags stay only if the chain is unchanged", "drops the chain and the waiting tags"
+  pub arrived : Once (Arrived origin by (chainTurns (x ∷ older)) t first navdata) (x ∷ older)
   -- "the chain in force when the tag was judged"; "the chain is unchanged (CID, parameters, α)" since the tag arrived
   pub force : Verdict
   pub in-force : chainIn older ≡ some force
@@ -192,10 +196,73 @@ pub record FourThings (origin : Start) (began : State) (t : Tag) (navdata : List
   -- "That root was vouched for by a good verdict on its exact message, under a public key given at that start or proved by its tree nodes."
   pub vouched : Once (Vouched origin began force) older
 
--- "Marked: outcome 1, by its record's tag": record `place` of this entry, from 0, is the tag's with outcome 1, and the four things hold
+-- ---- forty bits (02, P4)
+
+-- a tag and the number of its bits
+pub record Counted : Type 0 where
+  pub tag : Tag
+  pub size : ℕ
+
+-- a tag that agreed with these 549 bits of this satellite where it was judged: at this entry. `turn` numbers the chain that was in force then
+pub record Agreed (origin : Start) (began : State) (prn : ℕ) (navdata : List ℕ) (turn : ℕ) (c : Counted) (x : Entry) (older : Log) : Type 0 where
+  pub prn-is : c .tag .prn ≡ prn
+  -- record `place` of this entry, from 0, is the tag's, with outcome 1 or 9
+  pub outcome : ℕ
+  pub place : ℕ
+  pub outcome-is : (outcome ≡ 1) ⊎ (outcome ≡ 9)
+  pub record-is : part (x .reply .records) (12 * place) 12 ≡ tagRecord outcome (c .tag) (setIssue navdata)
+  -- "each meeting every condition the mission sets for one when it was judged"
+  pub four : FourThings origin began (c .tag) navdata x older
+  -- its size: MS of the chain in force
+  pub size-is : c .size ≡ (chainBy origin (four .force)) .ms
+  pub turn-is : turn ≡ chainTurns older
+
+-- what tells tags apart: the sender, GST_SF of arrival, block and position (B24)
+abbrev pub tagName : Tag → List ℕ
+tagName t = t .sender ∷ t .time ∷ t .block ∷ t .position ∷ []
+
+abbrev pub names : List Counted → List (List ℕ)
+names [] = []
+names (c ∷ cs) = tagName (c .tag) ∷ names cs
+
+-- a name is none of these, and these are all different
+abbrev pub NoneOf : List ℕ → List (List ℕ) → Type 0
+NoneOf n [] = Unit {0}
+NoneOf n (m ∷ ms) = (n ≢ m) × NoneOf n ms
+
+abbrev pub Distinct : List (List ℕ) → Type 0
+Distinct [] = Unit {0}
+Distinct (n ∷ ns) = NoneOf n ns × Distinct ns
+
+abbrev pub Each : (Counted → Type 0) → List Counted → Type 0
+Each P [] = Unit {0}
+Each P (c ∷ cs) = P c × Each P cs
+
+abbrev pub sizes : List Counted → ℕ
+sizes [] = 0
+sizes (c ∷ cs) = c .size + sizes cs
+
+-- "An authentic mark then rests on distinct tags, each meeting every condition the mission sets for one when it was judged, whose sizes sum to at least
+-- 40.": `Told turn c` says that the tag c agreed, with the chain of this number in force
+pub record FortyBits (Told : ℕ → Counted → Type 0) : Type 0 where
+  pub tags : List Counted
+  -- all were judged with one chain in force: "A new chain or a drop clears candidates."
+  pub turn : ℕ
+  pub each : Each (Told turn) tags
+  pub distinct : Distinct (names tags)
+  pub enough : 40 ≤ sizes tags
+
+-- the tag agreed by the time that the first n records of this entry were told: in an older entry, or here by one of these records
+abbrev pub AgreedUpTo : Start → State → ℕ → List ℕ → ℕ → Entry → Log → ℕ → Counted → Type 0
+AgreedUpTo origin began prn navdata n x older turn c =
+    Once (Agreed origin began prn navdata turn c) older ⊎ ((a : Agreed origin began prn navdata turn c x older) × (a .place < n))
+
+-- "Marked: outcome 1, by its record's tag": record `place` of this entry, from 0, is the tag's with outcome 1, the four things hold, and its set has its
+-- forty bits, of tags that were told up to this record: "until then a matching tag is outcome 9"
 pub record Marked (origin : Start) (began : State) (place : ℕ) (t : Tag) (navdata : List ℕ) (x : Entry) (older : Log) : Type 0 where
   pub record-is : part (x .reply .records) (12 * place) 12 ≡ tagRecord 1 t (setIssue navdata)
   pub four : FourThings origin began t navdata x older
+  pub forty : FortyBits (AgreedUpTo origin began (t .prn) navdata (place + 1) x older)
 
 -- some tag and set stand behind record `place`
 pub record MarkBacked (origin : Start) (began : State) (place : ℕ) (x : Entry) (older : Log) : Type 0 where
@@ -203,13 +270,17 @@ pub record MarkBacked (origin : Start) (began : State) (place : ℕ) (x : Entry)
   pub navdata : List ℕ
   pub marked : Marked origin began place tag navdata x older
 
--- "a set read, by a tag for that PRN that came at the GST_SF read": a record of the log marked it
+-- "a set read, by a tag for that PRN that came at the GST_SF read": these bits of this satellite have their forty bits in the log, and a tag that agreed
+-- with them came at `time`
 pub record SetBacked (origin : Start) (began : State) (prn time : ℕ) (navdata : List ℕ) (l : Log) : Type 0 where
-  pub tag : Tag
-  pub place : ℕ
-  pub prn-is : tag .prn ≡ prn
-  pub time-is : tag .time ≡ time
-  pub marked : Once (Marked origin began place tag navdata) l
+  pub forty : FortyBits (λ (turn : ℕ) (c : Counted). Once (Agreed origin began prn navdata turn c) l)
+  -- "with its latest tag as the set's": none of them came later than `time`
+  pub latest : Each (λ (c : Counted). c .tag .time ≤ time) (forty .tags)
+  -- one of them came then, or a later one on the set's bits (01: "Outcome 1 replaces the satellite's authentic set unless that set's tag came later.")
+  pub last : Counted
+  pub last-turn : ℕ
+  pub came : last .tag .time ≡ time
+  pub last-agreed : Once (Agreed origin began prn navdata last-turn last) l
 
 -- what a read handed out is what waits, with a key that was given or proved
 pub record HandedFairly (origin : Start) (began : State) (h : Handed) (l : Log) : Type 0 where
@@ -231,7 +302,7 @@ pub record Fair (origin : Start) (began : State) (x : Entry) (older : Log) : Typ
 -- ---- refused calls and halves
 
 -- "Public keys, the chain in force with its root, the held key and authentic sets are then as before that call or half." The settings too: NS and MACLT
--- decide which chain the contents give
+-- decide which chain the contents give. And candidates with their totals, which stand in one part of the state with the authentic sets.
 pub record Kept (s s' : State) : Type 0 where
   pub config : s' .config ≡ s .config
   pub pubkeys : s' .pubkeys ≡ s .pubkeys

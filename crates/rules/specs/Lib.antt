@@ -10,6 +10,7 @@ pub mod Kroot
 pub mod Pkr
 pub mod Chain
 pub mod Mack
+pub mod Candidates
 pub mod Tags
 pub mod Received
 pub mod Verdict
@@ -17,6 +18,7 @@ pub mod Calls
 pub mod Whole
 pub mod Outcomes
 pub mod Log
+pub mod Sizes
 pub mod Claim
 pub mod Points
 pub mod Orders

@@ -2,7 +2,7 @@
 -- A log holds each call with its reply, newest first. Every history function reads calls and replies alone; `stateAt` is the one place that
 -- names a state: the one that the log's calls leave.
 use Prim.Native.Nat.{ℕ, zero, suc, _*_}
-use mathlib.Core.Bool.{cond, _&&_}
+use mathlib.Core.Bool.{Bool, false, cond, _&&_}
 use mathlib.Core.List.{List, [], _∷_}
 use mathlib.Core.Option.{Option, none, some}
 use lib.Dec.{eqb}
@@ -15,7 +15,7 @@ use Rattle.rules.specs.Kroot.{cidkrOf}
 use Rattle.rules.specs.Navdata.{Came, wordType}
 use Rattle.rules.specs.State.{State}
 use Rattle.rules.specs.Times.{stampOf}
-use Rattle.rules.specs.Verdict.{Verdict, messageHeader, messageContents}
+use Rattle.rules.specs.Verdict.{Verdict, messageHeader, messageContents, chainUnchanged}
 
 -- what a call that only asks wants to know, with what is lent for the answer
 pub data Question : Type 0 where
@@ -234,3 +234,26 @@ chainAfter (some v) o = forcedBy v o
 abbrev pub chainIn : Log → Option Verdict
 chainIn [] = none
 chainIn (x ∷ l) = chainAfter (verdictIn x) (chainIn l)
+
+-- ---- since when a chain is in force (01, waiting tags; 02, P4)
+
+-- the chain in force stays over this verdict: "unchanged (CID, parameters, α)"
+abbrev pub staysOver : Option Verdict → Verdict → Bool
+staysOver none v = false
+staysOver (some u) v = chainUnchanged (messageContents (u .message)) (messageContents (v .message))
+
+-- "A new chain or a drop": a verdict answered 0 that ends a chain, or begins another than the one in force
+abbrev pub turnedBy : Verdict → Option Verdict → ℕ → ℕ
+turnedBy v o n =
+    let header = messageHeader (v .message) in
+    cond (eqb (statusOf header) 3) (suc n)
+    (cond (within 1 2 (statusOf header) && eqb (cidkrOf (messageContents (v .message))) (cidOf header)) (cond (staysOver o v) n (suc n)) n)
+
+abbrev pub turnsAfter : Option Verdict → Option Verdict → ℕ → ℕ
+turnsAfter none o n = n
+turnsAfter (some v) o n = turnedBy v o n
+
+-- how often the tags that wait and the candidates went: at a new chain and at a drop. While this number stays, the chain in force does
+abbrev pub chainTurns : Log → ℕ
+chainTurns [] = 0
+chainTurns (x ∷ l) = turnsAfter (verdictIn x) (chainIn l) (chainTurns l)

@@ -1,16 +1,16 @@
 -- The points that 01 marks P ("Known points") and some beside them: what the rules give, and what 01 or 02 says. One table; proofs/Points.antt shows that it is right.
-use Prim.Native.Nat.{ℕ, _+_, _*_}
+use Prim.Native.Nat.{ℕ, zero, suc, _+_, _*_}
 use mathlib.Core.Path.{_≡_}
 use mathlib.Core.List.{List, [], _∷_}
 use lib.ListN.{getD, take, replicate}
 use Rattle.laws.specs.Refusal.{firstOf}
 use Rattle.rules.specs.Calls.{Start, fresh, subframeChecks}
+use Rattle.rules.specs.Candidates.{SetPair, Agreement, agreed}
 use Rattle.rules.specs.Chain.{held, sentSlot}
 use Rattle.rules.specs.Gather.{blocksFor, gathered}
 use Rattle.rules.specs.Kroot.{fieldsFor, krootChecks}
 use Rattle.rules.specs.Mack.{blockChecks}
-use Rattle.rules.specs.State.{blocksLength, dsmIds, setsLength, arrivalsLength, copyLength, areaLength}
-use Rattle.rules.specs.Tags.{setsEntered}
+use Rattle.rules.specs.State.{blocksLength, dsmIds, arrivalsLength, copyLength, areaLength}
 use Rattle.rules.specs.Times.{stampOf, gst, gstOf, slotOf, slotSeconds, hourSeconds, tagSlot}
 use Rattle.rules.specs.declared.Chain.{Chain}
 
@@ -66,14 +66,27 @@ numberForGap prn = firstOf (take 1 (blockChecks gapChain (gst 1 416640) prn 0 (r
 abbrev pub timeOfSlot : ℕ → ℕ
 timeOfSlot m = gstOf (slotSeconds 36 2 (hourSeconds 947 120) m)
 
--- a tag for E01 of this time, and the first byte of E01's set after it, where the set of 7s has a tag of time 100
-abbrev pub setAfterTag : ℕ → ℕ
-setAfterTag time =
-    getD
-    (setsEntered (replicate setsLength 7) (replicate arrivalsLength (stampOf 100))
-    (record { sender = 1; prn = 1; adkd = 0; block = 1; position = 1; time = time; status = 1; bits = 0 })
-    (replicate copyLength 9))
-    0 0
+-- a satellite whose authentic set is of 7s with a tag of time 100, and whose candidate is of 8s with this time of its latest tag and this total; a tag
+-- of so many bits and this time agrees with a set of `fill`s
+abbrev pub afterTag : ℕ → ℕ → ℕ → ℕ → ℕ → Agreement
+afterTag ms time fill latest total =
+    agreed ms (stampOf time) (replicate copyLength fill)
+    (record { set = replicate copyLength 7; stamp = stampOf 100; candidate = replicate copyLength 8; latest = stampOf latest; total = total })
+
+-- the first byte of the authentic set then, and of the candidate
+abbrev pub setAfterTag : ℕ → ℕ → ℕ → ℕ → ℕ → ℕ
+setAfterTag ms time fill latest total = getD ((afterTag ms time fill latest total) .pair .set) 0 0
+
+abbrev pub candidateAfterTag : ℕ → ℕ → ℕ → ℕ → ℕ → ℕ
+candidateAfterTag ms time fill latest total = getD ((afterTag ms time fill latest total) .pair .candidate) 0 0
+
+-- a satellite that has neither set nor candidate, and what n tags of so many bits leave that agree with one set of 9s, and what the next one is told
+abbrev pub afterTags : ℕ → ℕ → SetPair
+afterTags ms zero = record { set = replicate copyLength 0; stamp = 0; candidate = replicate copyLength 0; latest = 0; total = 0 }
+afterTags ms (suc n) = (agreed ms (stampOf 100) (replicate copyLength 9) (afterTags ms n)) .pair
+
+abbrev pub outcomeAfter : ℕ → ℕ → ℕ
+outcomeAfter ms n = (agreed ms (stampOf 100) (replicate copyLength 9) (afterTags ms n)) .outcome
 
 abbrev pub points : List Point
 points =
@@ -108,10 +121,54 @@ points =
     ∷ point (timeOfSlot 0) 0x3B36_9762
     ∷ point (timeOfSlot 72) (gst 947 432000)
     ∷ point (timeOfSlot 73) (gst 947 432030)
-    -- "unless that set's tag came later": an older tag, one of the same time, a newer one
-    ∷ point (setAfterTag 70) 7
-    ∷ point (setAfterTag 100) 9
-    ∷ point (setAfterTag 130) 9
+    -- "unless that set's tag came later": an older tag, one of the same time, a newer one, of 40 bits each
+    ∷ point (setAfterTag 40 70 9 0 0) 7
+    ∷ point (setAfterTag 40 100 9 0 0) 9
+    ∷ point (setAfterTag 40 130 9 0 0) 9
+    -- 02, P4: "A set is called authentic at 40 bits; until then a matching tag is outcome 9"
+    ∷ point ((afterTag 12 130 8 130 24) .outcome) 9
+    ∷ point ((afterTag 12 130 8 130 24) .pair .total) 36
+    ∷ point ((afterTag 12 130 8 130 36) .outcome) 1
+    ∷ point (setAfterTag 12 130 8 130 36) 8
+    ∷ point ((afterTag 12 130 8 130 36) .pair .latest) 0
+    -- the tags of one size that it takes: four of 10 or 12 bits, three of 14, 16 or 18, two of 20, 24, 28 or 32, one of 40
+    ∷ point (outcomeAfter 10 2) 9
+    ∷ point (outcomeAfter 10 3) 1
+    ∷ point (outcomeAfter 12 2) 9
+    ∷ point (outcomeAfter 12 3) 1
+    ∷ point (outcomeAfter 14 1) 9
+    ∷ point (outcomeAfter 14 2) 1
+    ∷ point (outcomeAfter 16 1) 9
+    ∷ point (outcomeAfter 16 2) 1
+    ∷ point (outcomeAfter 18 1) 9
+    ∷ point (outcomeAfter 18 2) 1
+    ∷ point (outcomeAfter 20 0) 9
+    ∷ point (outcomeAfter 20 1) 1
+    ∷ point (outcomeAfter 24 0) 9
+    ∷ point (outcomeAfter 24 1) 1
+    ∷ point (outcomeAfter 28 0) 9
+    ∷ point (outcomeAfter 28 1) 1
+    ∷ point (outcomeAfter 32 0) 9
+    ∷ point (outcomeAfter 32 1) 1
+    ∷ point (outcomeAfter 40 0) 1
+    -- "with its latest tag as the set's", also where an older tag brings the fortieth bit; "or goes if the old set's tag came later than that one"
+    ∷ point ((afterTag 12 70 8 130 36) .pair .stamp) (stampOf 130)
+    ∷ point ((afterTag 12 70 8 70 36) .outcome) 1
+    ∷ point (setAfterTag 12 70 8 70 36) 7
+    ∷ point ((afterTag 12 70 8 70 36) .pair .latest) 0
+    -- "One on bits of neither replaces the candidate and begins its total anew, unless the candidate's latest tag came later."
+    ∷ point ((afterTag 12 130 9 130 36) .outcome) 9
+    ∷ point ((afterTag 12 130 9 130 36) .pair .total) 12
+    ∷ point (candidateAfterTag 12 130 9 130 36) 9
+    ∷ point ((afterTag 12 70 9 130 36) .outcome) 9
+    ∷ point ((afterTag 12 70 9 130 36) .pair .total) 36
+    ∷ point (candidateAfterTag 12 70 9 130 36) 8
+    -- "A match on the authentic set's bits is outcome 1 and touches no candidate."
+    ∷ point ((afterTag 12 130 7 130 36) .outcome) 1
+    ∷ point ((afterTag 12 130 7 130 36) .pair .stamp) (stampOf 130)
+    ∷ point ((afterTag 12 130 7 130 36) .pair .total) 36
+    ∷ point ((afterTag 12 130 7 130 36) .pair .latest) (stampOf 130)
+    ∷ point (candidateAfterTag 12 130 7 130 36) 8
     -- 02, P1: "KS must then be 128, 192 or 256 bits; any other KS with MF 1 is answered 8."; MF 0 has every KS, MF 2 and 3 none
     ∷ point (numberForFunction 1 4) 0
     ∷ point (numberForFunction 1 6) 0

@@ -107,7 +107,7 @@ lostTag c x marks j =
 -- field j of the section: "Outcome 8 stands before the others and carries IODnav 0"
 unfoldable pub fieldJudged : List ℕ → Nav → Chain → Held → Section → ℕ → ℕ → Work → Work
 fieldJudged config nav c h x marks j w =
-    cond (fieldLost config c (x .time) marks j) (told 8 (lostTag c x marks j) [] w) (ownJudged config nav c h x j w)
+    cond (fieldLost config c (x .time) marks j) (told (c .ms) 8 (lostTag c x marks j) [] w) (ownJudged config nav c h x j w)
 
 -- the first n fields, in order, as `ownsJudged`
 unfoldable pub fieldsJudged : List ℕ → Nav → Chain → Held → Section → ℕ → ℕ → Work → Work

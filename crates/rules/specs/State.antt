@@ -28,7 +28,8 @@ pub record Tesla : Type 0 where
   pub key : List ℕ
   pub waiting : List ℕ
 
--- the authentic set of each satellite, 69 bytes, and the stamp of its tag's arrival
+-- the authentic set of each satellite, 69 bytes, then the candidate of each (02, P4); the stamp of each authentic set's tag's arrival, then that of
+-- each candidate's latest tag, then the tag bits summed on each candidate
 pub record Auth : Type 0 where
   pub sets : List ℕ
   pub arrivals : List ℕ
@@ -157,13 +158,13 @@ waitingLength = 21504
 abbrev pub satellites : ℕ
 satellites = 36
 
--- 36 copies
+-- copies of 36 authentic sets and of 36 candidates
 abbrev pub setsLength : ℕ
-setsLength = 2484
+setsLength = 4968
 
--- 36 stamps
+-- 36 + 36 + 36
 abbrev pub arrivalsLength : ℕ
-arrivalsLength = 36
+arrivalsLength = 108
 
 -- the area lent for the records of a sub-frame: 256 of tags that waited and 14 others, 12 bytes each
 abbrev pub areaLength : ℕ
@@ -220,16 +221,19 @@ verdictShapes s =
     ∷ eqb (length (s .tesla .numbers)) numbersLength
     ∷ eqb (length (s .tesla .key)) heldkeyLength
     ∷ eqb (length (s .tesla .waiting)) waitingLength
+    ∷ eqb (length (s .auth .arrivals)) arrivalsLength
     ∷ [])
 
 unfoldable pub verdictShaped : State → Bool
 verdictShaped s = allOf (verdictShapes s)
 
-abbrev pub verdictLent : State → List ℕ → List ℕ → List ℕ → List ℕ → List ℕ → List ℕ → List ℕ → State
-verdictLent s config pubkeys offer chain numbers key waiting =
-    withTesla
+abbrev pub verdictLent : State → List ℕ → List ℕ → List ℕ → List ℕ → List ℕ → List ℕ → List ℕ → List ℕ → State
+verdictLent s config pubkeys offer chain numbers key waiting arrivals =
+    withAuth
+    (withTesla
     (withChain (withOffer (withPubkeys (withConfig s config) pubkeys) offer) chain)
-    (record { numbers = numbers; key = key; waiting = waiting })
+    (record { numbers = numbers; key = key; waiting = waiting }))
+    (record { sets = s .auth .sets; arrivals = arrivals })
 
 -- what a read of a set is lent
 unfoldable pub setShaped : State → Bool

@@ -3,13 +3,14 @@ use Prim.Native.Nat.{ℕ, zero, suc, _+_, _-_, _*_, _/_, _%_, _^_}
 use mathlib.Core.Bool.{Bool, true, false, cond, not, _&&_}
 use mathlib.Core.List.{List, [], _∷_, _++_}
 use lib.Dec.{leb, ltb, eqb}
-use lib.ListN.{getD, set}
+use lib.ListN.{getD}
 use Rattle.laws.specs.Bytes.{be2, be4, u32at}
-use Rattle.laws.specs.Lists.{part, splice}
+use Rattle.laws.specs.Lists.{part}
 use Rattle.laws.specs.Refusal.{refuse, firstOf, neb}
 use Rattle.cmac.specs.Cmac.{cmac}
 use Rattle.hmac.specs.Hmac.{hmac}
 use Rattle.rules.specs.Bits.{bits, bitList, packed, anyOf}
+use Rattle.rules.specs.Candidates.{Agreement, agreed, pairAt, setsWith, arrivalsWith}
 use Rattle.rules.specs.Chain.{Held, keyOfSlot, keySlot}
 use Rattle.rules.specs.Mack.{fieldTag, fieldInfo, macseqOf}
 use Rattle.rules.specs.State.{Nav, markOf, prnValid, entryLength, copyLength}
@@ -94,7 +95,7 @@ isDue c h t = leb (keySlot c (t .time) (t .block) (t .adkd)) (h .slot)
 
 -- ---- what the tags of a section leave
 
--- the waiting entries so far and their count, the authentic sets and the stamps of their tags' arrivals, the records so far
+-- the waiting entries so far and their count, the sets and the stamps and totals beside them (State, Auth), the records so far
 pub record Work : Type 0 where
   pub kept : List ℕ
   pub count : ℕ
@@ -102,27 +103,43 @@ pub record Work : Type 0 where
   pub arrivals : List ℕ
   pub records : List ℕ
 
--- "Outcome 1 replaces the satellite's authentic set unless that set's tag came later."
-unfoldable pub setsEntered : List ℕ → List ℕ → Tag → List ℕ → List ℕ
-setsEntered sets arrivals t navdata = cond (ltb (stampOf (t .time)) (getD arrivals (t .prn - 1) 0)) sets (splice sets ((t .prn - 1) * copyLength) navdata)
+-- the tag names a satellite and a time; entries that no start leaves may not
+unfoldable pub namesSatellite : Tag → Bool
+namesSatellite t = prnValid (t .prn) && timeValid (t .time)
 
-unfoldable pub arrivalsEntered : List ℕ → Tag → List ℕ
-arrivalsEntered arrivals t = cond (ltb (stampOf (t .time)) (getD arrivals (t .prn - 1) 0)) arrivals (set arrivals (t .prn - 1) (stampOf (t .time)))
-
--- a tag of this outcome marks its set: outcome 1; entries that no start leaves may name no satellite or no time
-unfoldable pub marksSet : ℕ → Tag → Bool
-marksSet outcome t = eqb outcome 1 && (prnValid (t .prn) && timeValid (t .time))
-
--- a tag that gets an outcome: its record, and for outcome 1 its set
-unfoldable pub told : ℕ → Tag → List ℕ → Work → Work
-told outcome t navdata w =
+-- a tag's record alone
+unfoldable pub toldPlain : ℕ → Tag → List ℕ → Work → Work
+toldPlain outcome t navdata w =
     record {
       kept = w .kept;
       count = w .count;
-      sets = cond (marksSet outcome t) (setsEntered (w .sets) (w .arrivals) t navdata) (w .sets);
-      arrivals = cond (marksSet outcome t) (arrivalsEntered (w .arrivals) t) (w .arrivals);
+      sets = w .sets;
+      arrivals = w .arrivals;
       records = w .records ++ tagRecord outcome t (recordIssue outcome navdata);
     }
+
+-- what a tag of `ms` bits that agrees with its set leaves of its satellite's sets
+unfoldable pub agreedIn : ℕ → Tag → List ℕ → Work → Agreement
+agreedIn ms t navdata w = agreed ms (stampOf (t .time)) navdata (pairAt (w .sets) (w .arrivals) (t .prn))
+
+-- a tag that agrees with its set: outcome 1 or 9 (02, P4)
+unfoldable pub toldAgreed : ℕ → Tag → List ℕ → Work → Work
+toldAgreed ms t navdata w =
+    let a = agreedIn ms t navdata w in
+    record {
+      kept = w .kept;
+      count = w .count;
+      sets = setsWith (w .sets) (t .prn) (a .pair);
+      arrivals = arrivalsWith (w .arrivals) (t .prn) (a .pair);
+      records = w .records ++ tagRecord (a .outcome) t (recordIssue (a .outcome) navdata);
+    }
+
+-- a tag of a chain with tags of `ms` bits, and what it was found to be: 1 says that it agrees with its set, another number is its outcome
+unfoldable pub told : ℕ → ℕ → Tag → List ℕ → Work → Work
+told ms found t navdata w =
+    cond (eqb found 1)
+    (cond (namesSatellite t) (toldAgreed ms t navdata w) (toldPlain 9 t navdata w))
+    (toldPlain found t navdata w)
 
 -- a tag that waits keeps a copy of its set
 unfoldable pub kept : List ℕ → Work → Work
@@ -132,7 +149,7 @@ kept entry w = record { kept = w .kept ++ entry; count = w .count + 1; sets = w 
 unfoldable pub dueJudged : Chain → Held → List ℕ → Work → Work
 dueJudged c h e w =
     let t = entryTag e in
-    cond (isDue c h t) (told (cond (tagMatches c h false t (entrySet e)) 1 2) t (entrySet e) w) (kept e w)
+    cond (isDue c h t) (told (c .ms) (cond (tagMatches c h false t (entrySet e)) 1 2) t (entrySet e) w) (kept e w)
 
 -- the first n waiting tags: "Due tags are judged in arrival order before the section's own, and free their places."
 unfoldable pub duesJudged : Chain → Held → List ℕ → ℕ → Work → Work
@@ -192,7 +209,7 @@ notAllowed config j t =
     ∷ [])
 
 -- "Tag outcomes, first that applies: 4 ..; 6 flexible and MACSEQ fails; 3 no usable set; then, without delay, 1 authentic or 2 wrong; with
--- delay, 5 waits with a copy of its set, or 7 if all 256 places are taken."
+-- delay, 5 waits with a copy of its set, or 7 if all 256 places are taken." Here 1 says that the tag agrees with its set: `told` makes it 1 or 9.
 unfoldable pub ownOutcome : List ℕ → Nav → Chain → Held → Section → ℕ → ℕ → ℕ
 ownOutcome config nav c h x j count =
     let t = ownTag c x j in
@@ -212,7 +229,7 @@ ownJudged config nav c h x j w =
     let t = ownTag c x j in
     let navdata = setOf (nav .words) (t .prn) in
     let outcome = ownOutcome config nav c h x j (w .count) in
-    let told-w = told outcome t navdata w in
+    let told-w = told (c .ms) outcome t navdata w in
     cond (eqb outcome 5) (kept (tagEntry t navdata) told-w) told-w
 
 -- the first n fields, in order

@@ -7,11 +7,12 @@ use lib.ListN.{length, getD, set}
 use Rattle.laws.specs.Lists.{part, splice}
 use Rattle.laws.specs.Refusal.{Check, refuse, unless, neb}
 use Rattle.rules.specs.Bits.{filled, same, anyOf, allOf, within}
+use Rattle.rules.specs.Candidates.{candidatesCleared}
 use Rattle.rules.specs.Gather.{statusOf, cidOf}
 use Rattle.rules.specs.PublicKeys.{withoutLower}
 use Rattle.rules.specs.Kroot.{cidkrOf, nmackOf, hfOf, mfOf, ksOf, msOf, macltFieldOf, moOf, alphaOf, krootOf, rootSecondsOf}
 use Rattle.rules.specs.Kroot.{offerWaits, offerId, offerMessage, offerSignature, noOffer, chainContents, inForce, everForced}
-use Rattle.rules.specs.State.{State, Tesla, waitingCount, contentsLength, entryLength, withPubkeys, withOffer, withChain, withTesla}
+use Rattle.rules.specs.State.{State, Tesla, waitingCount, contentsLength, entryLength, withPubkeys, withOffer, withChain, withTesla, Auth, withAuth}
 use Rattle.rules.specs.Tags.{entryAt, entryTag}
 use Rattle.rules.specs.Times.{keySeconds}
 
@@ -103,10 +104,14 @@ staying root waiting zero = []
 staying root waiting (suc n) =
     staying root waiting n ++ cond (keyNotBefore root (entryAt waiting n)) (entryAt waiting n) []
 
+-- there is a chain in force, and the new contents leave it unchanged
+unfoldable pub chainStays : State → List ℕ → Bool
+chainStays s c = inForce (s .config) (s .chain) && chainUnchanged (chainContents (s .chain)) c
+
 -- the entries that stay at the new contents
 unfoldable pub stayingAt : State → List ℕ → List ℕ
 stayingAt s c =
-    cond (inForce (s .config) (s .chain) && chainUnchanged (chainContents (s .chain)) c)
+    cond (chainStays s c)
     (staying (rootSecondsOf c) (s .tesla .waiting) (waitingCount (s .tesla .numbers)))
     []
 
@@ -124,6 +129,10 @@ rootHeld s c =
 unfoldable pub tagsDropped : Tesla → Tesla
 tagsDropped t = record { numbers = set (t .numbers) 1 0; key = t .key; waiting = t .waiting }
 
+-- "A new chain or a drop clears candidates." (02, P4): a root of the same chain does not (B21)
+unfoldable pub candidatesAt : State → List ℕ → Auth
+candidatesAt s c = cond (chainStays s c) (s .auth) (candidatesCleared (s .auth))
+
 -- ---- the effect of a verdict that is past 14
 
 -- the chain with these contents put in force
@@ -140,10 +149,10 @@ vouched s v =
     let c = messageContents (v .message) in
     let lower = withoutLower (s .pubkeys) (v .id) in
     cond (eqb (statusOf header) 3)
-    (trusting s (s .pubkeys) (set (s .chain) 0 2) (tagsDropped (s .tesla)))
+    (withAuth (trusting s (s .pubkeys) (set (s .chain) 0 2) (tagsDropped (s .tesla))) (candidatesCleared (s .auth)))
     (cond (sameContents s c)
     (trusting s lower (s .chain) (s .tesla))
-    (trusting s lower (forced c) (rootHeld s c)))
+    (withAuth (trusting s lower (forced c) (rootHeld s c)) (candidatesAt s c)))
 
 -- 14 leaves all as before; 15, 11 and 9 drop the waiting message
 unfoldable pub judgedVerdict : State → Verdict → ℕ → State

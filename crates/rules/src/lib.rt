@@ -39,9 +39,10 @@ pub struct Tag {
     pub bits: u64,
 }
 
-// What becomes of a tag (01, "Tag outcomes"). The definition `outcomeNumber` of specs/Outcomes.antt gives the number of its record.
+// What a tag is found to be (01, "Tag outcomes"). The definition `outcomeNumber` of specs/Outcomes.antt gives its number.
 pub enum Outcome {
-    Authentic,
+    // It agrees with its set: its record has outcome 1 or 9, by the tag bits that agree on that set (02, P4).
+    Agrees,
     Wrong,
     NoUsableSet,
     NotAllowed,

@@ -1,3 +1,5 @@
 -- Worked runs.
+pub mod Opened
+pub mod Macs
 pub mod SlowTagRun
 pub mod SlowTagFour

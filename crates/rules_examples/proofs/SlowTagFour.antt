@@ -1,66 +1,58 @@
--- The claim of the worked run taken apart: the four things of demand 3 hold of real bytes, each shown by computing it, without the theorem. The slow
--- tag's record is backed by the OLD set, and so is the read after it. So the claim is not empty. Assumes nothing.
-use mathlib.Core.Path.{refl}
-use mathlib.Core.Bool.{false}
-use mathlib.Core.List.{_∷_}
-use lib.Count.{ones}
-use borrow.Author.Tests.{ltb-true, leb-true}
-use Rattle.rules.specs.Claim.{Arrived, Disclosed, Vouched, given, FourThings, Marked, SetBacked, chainBy}
-use Rattle.rules.specs.Log.{Log, here, earlier}
+-- The claim of the worked run taken apart: the four things of demand 3 hold of real bytes for each of the four tags, and their bits are at least forty,
+-- each shown by computing it, without the theorem. The slow tag's record is backed by the OLD set, and so is the read after it. So the claim is not
+-- empty. Assumes nothing.
+use Prim.Native.Nat.{ℕ, suc, _*_, _<_}
+use mathlib.Core.Path.{_≡_, refl, ap}
+use mathlib.Core.Logic.{_≢_, inl, inr}
+use mathlib.Core.Bool.{true, false}
+use mathlib.Core.List.{List, [], _∷_}
+use lib.Dec.{eqb}
+use lib.ListN.{getD}
+use borrow.Author.Tests.{ltb-true, leb-true, eqb-false}
+use Rattle.laws.specs.Lists.{part}
+use Rattle.rules.proofs.Agreements.{each-map}
+use Rattle.rules.specs.Bits.{anyOf}
+use Rattle.rules.specs.Claim.{Arrived, Disclosed, Vouched, given, FourThings, Counted, Agreed, AgreedUpTo, names, Distinct, Each, FortyBits, Marked, SetBacked, chainBy, sectionOf}
+use Rattle.rules.specs.Log.{Entry, Log, Once, here, earlier}
+use Rattle.rules.specs.Navdata.{setIssue}
+use Rattle.rules.specs.Received.{tagCame, infoCame}
+use Rattle.rules.specs.Tags.{ownTag, macBits, tagMessage, tagRecord}
 use Rattle.rules.specs.declared.Chain.{Chain}
-use Rattle.rules_examples.specs.SlowTag.{began, begin, said, key2, slowTag, tagSection, keySection, oldSet, gathered, verdictEntry, beforeTag, tagEntry, beforeKey, keyEntry, readEntry}
-use Rattle.hmac.specs.Hmac as Hmac
-use Rattle.laws.specs.Bytes as Bytes
-use Rattle.laws.specs.Lists as Lists
-use Rattle.rules.specs.Bits as Bits
-use Rattle.rules.specs.Calls as Calls
-use Rattle.rules.specs.Chain as Chain
-use Rattle.rules.specs.Gather as Gather
-use Rattle.rules.specs.PublicKeys as PublicKeys
-use Rattle.rules.specs.Received as Received
-use Rattle.rules.specs.Kroot as Kroot
-use Rattle.rules.specs.Log as Log
-use Rattle.rules.specs.Mack as Mack
-use Rattle.rules.specs.Navdata as Navdata
-use Rattle.rules.specs.Pkr as Pkr
-use Rattle.rules.specs.State as State
-use Rattle.rules.specs.Tags as Tags
-use Rattle.rules.specs.Times as Times
-use Rattle.rules.specs.Verdict as Verdict
-use Rattle.sha256.specs.Sha256 as Sha256
+use Rattle.rules_examples.proofs.Macs.{macs}
+use Rattle.rules_examples.proofs.Opened.{opened}
+use Rattle.rules_examples.specs.SlowTag.{began, begin, said, key1, key2, tagFor, slowTag, counted, firstThree, allFour, tagSection, keySection, oldSet, gathered, verdictEntry, beforeTag, tagEntry, beforeKey, keyEntry, readEntry}
 
 abbrev chain : Chain
 chain = chainBy begin said
 
--- "Those very 549 bits were that satellite's set when the tag arrived."
-arrived : Arrived begin said slowTag false oldSet tagEntry beforeTag
-unfolding ones Bits.bit Bits.bits Bits.bitList Bits.bytesAt Bits.octet Bits.packed Bits.filled Calls.markValid Calls.marksValid Calls.startUnfit Calls.startLengths Calls.startChecks Calls.fresh Calls.startCall Calls.wordUnfit Calls.wordChecks Calls.wordTaken Calls.wordCall Calls.verdictChecks Calls.verdictCall Calls.krootDone Calls.pkrDone Calls.storeDone Calls.hkrootHalf Calls.hkrootReceived Received.fieldCame Received.fieldsCame Received.received Received.bitsCame Received.shown Received.keyCame Received.tagCame Received.infoCame Received.flexibleCame Received.macseqCame Received.blockReceived Received.keysReceived Received.fieldLost Received.lostTag Received.fieldJudged Received.fieldsJudged Calls.chainOf Calls.heldOf Calls.sectionUnfit Calls.sectionProved Calls.tagsWorked Calls.sectionTaken Calls.mackHalf Calls.subframeChecks Calls.noted Calls.halvesDone Calls.subframeCall Calls.authStamp Calls.authSet Calls.setReadChecks Calls.setRead Calls.offerReadChecks Calls.offerRead Chain.slotTime Chain.keyStep Chain.walk Chain.keyOfSlot Chain.keyFits Chain.higher Chain.sentSlot Chain.keySlot Gather.hkrootOf Gather.mackOf Gather.headerOf Gather.statusOf Gather.cidOf Gather.dsmIdOf Gather.blockIdOf Gather.blockOf Gather.blocksFor Gather.totalOf Gather.marked Gather.withMark Gather.storedBlock Gather.dropsBlocks Gather.keptMarks Gather.reservedCount Gather.tooHigh Gather.withBlock Gather.complete Gather.dsmOf Gather.takenOut Gather.stored Gather.gathered PublicKeys.keyLength PublicKeys.signatureLength PublicKeys.keyHeld PublicKeys.keyType PublicKeys.keyBytes PublicKeys.heldAmong PublicKeys.aboveAll PublicKeys.sameKey PublicKeys.withKey PublicKeys.withoutLower Kroot.cidkrOf Kroot.nmackOf Kroot.hfOf Kroot.mfOf Kroot.ksOf Kroot.msOf Kroot.macltFieldOf Kroot.moOf Kroot.rootWeekOf Kroot.rootHourOf Kroot.alphaOf Kroot.keyWidth Kroot.tagWidth Kroot.krootOf Kroot.rootSecondsOf Kroot.blockBits Kroot.fieldsFor Kroot.parametersBad Kroot.mfBad Kroot.aesWidth Kroot.pkidOf Kroot.contentsOf Kroot.leastBlocks Kroot.krootBlocks Kroot.krootChecks Kroot.signedMessage Kroot.signatureOf Kroot.offered Kroot.offerWaits Kroot.offerId Kroot.offerMessage Kroot.offerSignature Kroot.noOffer Kroot.krootJudged Kroot.chainWith Kroot.chainContents Kroot.inForce Kroot.everForced Log.step Log.asked State.wordShaped State.verdictShaped State.setShaped State.offerShaped Log.ran Log.ranFrom Log.stateAt Mack.blockAt Mack.fieldAt Mack.fieldTag Mack.fieldInfo Mack.macseqOf Mack.keyAt Mack.blockKey Mack.spareBits Mack.tooFar Mack.blockChecks Mack.blockProved Mack.keysProved Pkr.messageIdOf Pkr.newTypeOf Pkr.newIdOf Pkr.newKeyOf Pkr.emergency Pkr.pkrSizeBad Pkr.leafOf Pkr.nodeOf Pkr.joined Pkr.climbed Pkr.treeProved Pkr.keyWelcome Pkr.pkrChecks Pkr.keyAdded Pkr.pkrJudged State.shaped State.nsOf State.macltOf State.markOf State.treeRoot State.stopped State.lastSubframe State.lastSubframeOf State.lastWordOf State.prnValid State.heldSlot State.waitingCount Tags.macBits Tags.macCode Tags.statusAndSet Tags.firstMessage Tags.tagMessage Tags.tagKey Tags.tagMatches Tags.tagRecord Tags.recordIssue Tags.tagEntry Tags.entryAt Tags.entryTag Tags.entrySet Tags.isDue Tags.setsEntered Tags.arrivalsEntered Tags.marksSet Tags.told Tags.kept Tags.dueJudged Tags.duesJudged Tags.secondHalf Tags.flexible Tags.ownTag Tags.macseqMessage Tags.macseqFits Tags.notAllowed Tags.ownOutcome Tags.ownJudged Tags.ownsJudged Times.gst Times.weekOf Times.secondOf Times.timeValid Times.secondsOf Times.gstOf Times.stampOf Times.hourSeconds Times.subframeAt Times.slotOf Times.lowestSlot Times.slotSeconds Times.delayOf Times.keySeconds Times.tagSlot Verdict.messageHeader Verdict.messageContents Verdict.namesOffer Verdict.cidInForce Verdict.sameContents Verdict.statusUnfit Verdict.rootUnfit Verdict.vouchChecks Verdict.chainUnchanged Verdict.keyNotBefore Verdict.staying Verdict.stayingAt Verdict.rootHeld Verdict.tagsDropped Verdict.vouched Verdict.forced Verdict.judgedVerdict Navdata.wordType Navdata.svidOf Navdata.wordIssue Navdata.heldType Navdata.wordPlace Navdata.wordAt Navdata.wordStored Navdata.setBits Navdata.setBytes Navdata.setOf Navdata.setIssue Navdata.wordCame Navdata.cameBefore Navdata.oneIssue Navdata.setUsable Navdata.usable Sha256.add Sha256.complement Sha256.shr Sha256.rotr Sha256.ch Sha256.maj Sha256.Σ0 Sha256.Σ1 Sha256.σ0 Sha256.σ1 Sha256.K Sha256.tail Sha256.pad Sha256.block Sha256.words Sha256.H0 Sha256.next Sha256.extended Sha256.schedule Sha256.round Sha256.rounds Sha256.sums Sha256.compress Sha256.hashed Sha256.bytes Sha256.digest Sha256.sha256 Sha256.finished Hmac.zeroPadded Hmac.keyBlock Hmac.xored Hmac.innerPad Hmac.outerPad Hmac.hmac Hmac.keyOf Hmac.hmacWith Bytes.be2 Bytes.be4 Bytes.be8 Bytes.u16at Bytes.u32at Lists.part Lists.splice Lists.same
-arrived =
+-- ---- what the four tags share
+
+-- "Those very 549 bits were that satellite's set when the tag arrived.": of the tag in this field, with its ADKD and bits
+arrived : (field adkd bits : ℕ) → field < 8 → tagFor (suc field) adkd bits ≡ ownTag chain (sectionOf tagSection) field
+    → tagCame chain (tagSection .marks) field ≡ true → infoCame chain (tagSection .marks) field ≡ true → false ≡ eqb field 0 → anyOf (eqb adkd 0 ∷ eqb adkd 11 ∷ eqb adkd 12 ∷ []) ≡ true
+    → Arrived begin said 1 (tagFor (suc field) adkd bits) false oldSet tagEntry beforeTag
+unfolding opened
+arrived field adkd bits in-section tag-is tag-came info-came first-is kind =
     record {
       sub = tagSection;
       section-is = refl;
       in-force = refl;
-      field = 1;
-      in-section = ltb-true 1 _ refl;
-      tag-is = refl;
-      tag-came = refl;
-      info-came = λ _. refl;
-      first-is = refl;
-      kind = refl;
+      turn-is = refl;
+      field = field;
+      in-section = in-section;
+      tag-is = tag-is;
+      tag-came = tag-came;
+      info-came = λ _. info-came;
+      first-is = first-is;
+      kind = kind;
       heard = refl;
       usable = refl;
       set-is = refl;
     }
 
--- "one from a section answered 0": the key of slot 2
-disclosed : Disclosed chain 2 key2 keyEntry beforeKey
-unfolding ones Bits.bit Bits.bits Bits.bitList Bits.bytesAt Bits.octet Bits.packed Bits.filled Calls.markValid Calls.marksValid Calls.startUnfit Calls.startLengths Calls.startChecks Calls.fresh Calls.startCall Calls.wordUnfit Calls.wordChecks Calls.wordTaken Calls.wordCall Calls.verdictChecks Calls.verdictCall Calls.krootDone Calls.pkrDone Calls.storeDone Calls.hkrootHalf Calls.hkrootReceived Received.fieldCame Received.fieldsCame Received.received Received.bitsCame Received.shown Received.keyCame Received.tagCame Received.infoCame Received.flexibleCame Received.macseqCame Received.blockReceived Received.keysReceived Received.fieldLost Received.lostTag Received.fieldJudged Received.fieldsJudged Calls.chainOf Calls.heldOf Calls.sectionUnfit Calls.sectionProved Calls.tagsWorked Calls.sectionTaken Calls.mackHalf Calls.subframeChecks Calls.noted Calls.halvesDone Calls.subframeCall Calls.authStamp Calls.authSet Calls.setReadChecks Calls.setRead Calls.offerReadChecks Calls.offerRead Chain.slotTime Chain.keyStep Chain.walk Chain.keyOfSlot Chain.keyFits Chain.higher Chain.sentSlot Chain.keySlot Gather.hkrootOf Gather.mackOf Gather.headerOf Gather.statusOf Gather.cidOf Gather.dsmIdOf Gather.blockIdOf Gather.blockOf Gather.blocksFor Gather.totalOf Gather.marked Gather.withMark Gather.storedBlock Gather.dropsBlocks Gather.keptMarks Gather.reservedCount Gather.tooHigh Gather.withBlock Gather.complete Gather.dsmOf Gather.takenOut Gather.stored Gather.gathered PublicKeys.keyLength PublicKeys.signatureLength PublicKeys.keyHeld PublicKeys.keyType PublicKeys.keyBytes PublicKeys.heldAmong PublicKeys.aboveAll PublicKeys.sameKey PublicKeys.withKey PublicKeys.withoutLower Kroot.cidkrOf Kroot.nmackOf Kroot.hfOf Kroot.mfOf Kroot.ksOf Kroot.msOf Kroot.macltFieldOf Kroot.moOf Kroot.rootWeekOf Kroot.rootHourOf Kroot.alphaOf Kroot.keyWidth Kroot.tagWidth Kroot.krootOf Kroot.rootSecondsOf Kroot.blockBits Kroot.fieldsFor Kroot.parametersBad Kroot.mfBad Kroot.aesWidth Kroot.pkidOf Kroot.contentsOf Kroot.leastBlocks Kroot.krootBlocks Kroot.krootChecks Kroot.signedMessage Kroot.signatureOf Kroot.offered Kroot.offerWaits Kroot.offerId Kroot.offerMessage Kroot.offerSignature Kroot.noOffer Kroot.krootJudged Kroot.chainWith Kroot.chainContents Kroot.inForce Kroot.everForced Log.step Log.asked State.wordShaped State.verdictShaped State.setShaped State.offerShaped Log.ran Log.ranFrom Log.stateAt Mack.blockAt Mack.fieldAt Mack.fieldTag Mack.fieldInfo Mack.macseqOf Mack.keyAt Mack.blockKey Mack.spareBits Mack.tooFar Mack.blockChecks Mack.blockProved Mack.keysProved Pkr.messageIdOf Pkr.newTypeOf Pkr.newIdOf Pkr.newKeyOf Pkr.emergency Pkr.pkrSizeBad Pkr.leafOf Pkr.nodeOf Pkr.joined Pkr.climbed Pkr.treeProved Pkr.keyWelcome Pkr.pkrChecks Pkr.keyAdded Pkr.pkrJudged State.shaped State.nsOf State.macltOf State.markOf State.treeRoot State.stopped State.lastSubframe State.lastSubframeOf State.lastWordOf State.prnValid State.heldSlot State.waitingCount Tags.macBits Tags.macCode Tags.statusAndSet Tags.firstMessage Tags.tagMessage Tags.tagKey Tags.tagMatches Tags.tagRecord Tags.recordIssue Tags.tagEntry Tags.entryAt Tags.entryTag Tags.entrySet Tags.isDue Tags.setsEntered Tags.arrivalsEntered Tags.marksSet Tags.told Tags.kept Tags.dueJudged Tags.duesJudged Tags.secondHalf Tags.flexible Tags.ownTag Tags.macseqMessage Tags.macseqFits Tags.notAllowed Tags.ownOutcome Tags.ownJudged Tags.ownsJudged Times.gst Times.weekOf Times.secondOf Times.timeValid Times.secondsOf Times.gstOf Times.stampOf Times.hourSeconds Times.subframeAt Times.slotOf Times.lowestSlot Times.slotSeconds Times.delayOf Times.keySeconds Times.tagSlot Verdict.messageHeader Verdict.messageContents Verdict.namesOffer Verdict.cidInForce Verdict.sameContents Verdict.statusUnfit Verdict.rootUnfit Verdict.vouchChecks Verdict.chainUnchanged Verdict.keyNotBefore Verdict.staying Verdict.stayingAt Verdict.rootHeld Verdict.tagsDropped Verdict.vouched Verdict.forced Verdict.judgedVerdict Navdata.wordType Navdata.svidOf Navdata.wordIssue Navdata.heldType Navdata.wordPlace Navdata.wordAt Navdata.wordStored Navdata.setBits Navdata.setBytes Navdata.setOf Navdata.setIssue Navdata.wordCame Navdata.cameBefore Navdata.oneIssue Navdata.setUsable Navdata.usable Sha256.add Sha256.complement Sha256.shr Sha256.rotr Sha256.ch Sha256.maj Sha256.Σ0 Sha256.Σ1 Sha256.σ0 Sha256.σ1 Sha256.K Sha256.tail Sha256.pad Sha256.block Sha256.words Sha256.H0 Sha256.next Sha256.extended Sha256.schedule Sha256.round Sha256.rounds Sha256.sums Sha256.compress Sha256.hashed Sha256.bytes Sha256.digest Sha256.sha256 Sha256.finished Hmac.zeroPadded Hmac.keyBlock Hmac.xored Hmac.innerPad Hmac.outerPad Hmac.hmac Hmac.keyOf Hmac.hmacWith Bytes.be2 Bytes.be4 Bytes.be8 Bytes.u16at Bytes.u32at Lists.part Lists.splice Lists.same
-disclosed =
-    record { sub = keySection; section-is = refl; block = 0; in-section = ltb-true 0 _ refl; not-before = leb-true _ _ refl; slot-is = refl; key-is = refl; key-came = refl }
-
 -- "That root was vouched for by a good verdict on its exact message, under a public key given at that start"
 vouched : Vouched begin began said verdictEntry gathered
-unfolding ones Bits.bit Bits.bits Bits.bitList Bits.bytesAt Bits.octet Bits.packed Bits.filled Calls.markValid Calls.marksValid Calls.startUnfit Calls.startLengths Calls.startChecks Calls.fresh Calls.startCall Calls.wordUnfit Calls.wordChecks Calls.wordTaken Calls.wordCall Calls.verdictChecks Calls.verdictCall Calls.krootDone Calls.pkrDone Calls.storeDone Calls.hkrootHalf Calls.hkrootReceived Received.fieldCame Received.fieldsCame Received.received Received.bitsCame Received.shown Received.keyCame Received.tagCame Received.infoCame Received.flexibleCame Received.macseqCame Received.blockReceived Received.keysReceived Received.fieldLost Received.lostTag Received.fieldJudged Received.fieldsJudged Calls.chainOf Calls.heldOf Calls.sectionUnfit Calls.sectionProved Calls.tagsWorked Calls.sectionTaken Calls.mackHalf Calls.subframeChecks Calls.noted Calls.halvesDone Calls.subframeCall Calls.authStamp Calls.authSet Calls.setReadChecks Calls.setRead Calls.offerReadChecks Calls.offerRead Chain.slotTime Chain.keyStep Chain.walk Chain.keyOfSlot Chain.keyFits Chain.higher Chain.sentSlot Chain.keySlot Gather.hkrootOf Gather.mackOf Gather.headerOf Gather.statusOf Gather.cidOf Gather.dsmIdOf Gather.blockIdOf Gather.blockOf Gather.blocksFor Gather.totalOf Gather.marked Gather.withMark Gather.storedBlock Gather.dropsBlocks Gather.keptMarks Gather.reservedCount Gather.tooHigh Gather.withBlock Gather.complete Gather.dsmOf Gather.takenOut Gather.stored Gather.gathered PublicKeys.keyLength PublicKeys.signatureLength PublicKeys.keyHeld PublicKeys.keyType PublicKeys.keyBytes PublicKeys.heldAmong PublicKeys.aboveAll PublicKeys.sameKey PublicKeys.withKey PublicKeys.withoutLower Kroot.cidkrOf Kroot.nmackOf Kroot.hfOf Kroot.mfOf Kroot.ksOf Kroot.msOf Kroot.macltFieldOf Kroot.moOf Kroot.rootWeekOf Kroot.rootHourOf Kroot.alphaOf Kroot.keyWidth Kroot.tagWidth Kroot.krootOf Kroot.rootSecondsOf Kroot.blockBits Kroot.fieldsFor Kroot.parametersBad Kroot.mfBad Kroot.aesWidth Kroot.pkidOf Kroot.contentsOf Kroot.leastBlocks Kroot.krootBlocks Kroot.krootChecks Kroot.signedMessage Kroot.signatureOf Kroot.offered Kroot.offerWaits Kroot.offerId Kroot.offerMessage Kroot.offerSignature Kroot.noOffer Kroot.krootJudged Kroot.chainWith Kroot.chainContents Kroot.inForce Kroot.everForced Log.step Log.asked State.wordShaped State.verdictShaped State.setShaped State.offerShaped Log.ran Log.ranFrom Log.stateAt Mack.blockAt Mack.fieldAt Mack.fieldTag Mack.fieldInfo Mack.macseqOf Mack.keyAt Mack.blockKey Mack.spareBits Mack.tooFar Mack.blockChecks Mack.blockProved Mack.keysProved Pkr.messageIdOf Pkr.newTypeOf Pkr.newIdOf Pkr.newKeyOf Pkr.emergency Pkr.pkrSizeBad Pkr.leafOf Pkr.nodeOf Pkr.joined Pkr.climbed Pkr.treeProved Pkr.keyWelcome Pkr.pkrChecks Pkr.keyAdded Pkr.pkrJudged State.shaped State.nsOf State.macltOf State.markOf State.treeRoot State.stopped State.lastSubframe State.lastSubframeOf State.lastWordOf State.prnValid State.heldSlot State.waitingCount Tags.macBits Tags.macCode Tags.statusAndSet Tags.firstMessage Tags.tagMessage Tags.tagKey Tags.tagMatches Tags.tagRecord Tags.recordIssue Tags.tagEntry Tags.entryAt Tags.entryTag Tags.entrySet Tags.isDue Tags.setsEntered Tags.arrivalsEntered Tags.marksSet Tags.told Tags.kept Tags.dueJudged Tags.duesJudged Tags.secondHalf Tags.flexible Tags.ownTag Tags.macseqMessage Tags.macseqFits Tags.notAllowed Tags.ownOutcome Tags.ownJudged Tags.ownsJudged Times.gst Times.weekOf Times.secondOf Times.timeValid Times.secondsOf Times.gstOf Times.stampOf Times.hourSeconds Times.subframeAt Times.slotOf Times.lowestSlot Times.slotSeconds Times.delayOf Times.keySeconds Times.tagSlot Verdict.messageHeader Verdict.messageContents Verdict.namesOffer Verdict.cidInForce Verdict.sameContents Verdict.statusUnfit Verdict.rootUnfit Verdict.vouchChecks Verdict.chainUnchanged Verdict.keyNotBefore Verdict.staying Verdict.stayingAt Verdict.rootHeld Verdict.tagsDropped Verdict.vouched Verdict.forced Verdict.judgedVerdict Navdata.wordType Navdata.svidOf Navdata.wordIssue Navdata.heldType Navdata.wordPlace Navdata.wordAt Navdata.wordStored Navdata.setBits Navdata.setBytes Navdata.setOf Navdata.setIssue Navdata.wordCame Navdata.cameBefore Navdata.oneIssue Navdata.setUsable Navdata.usable Sha256.add Sha256.complement Sha256.shr Sha256.rotr Sha256.ch Sha256.maj Sha256.Σ0 Sha256.Σ1 Sha256.σ0 Sha256.σ1 Sha256.K Sha256.tail Sha256.pad Sha256.block Sha256.words Sha256.H0 Sha256.next Sha256.extended Sha256.schedule Sha256.round Sha256.rounds Sha256.sums Sha256.compress Sha256.hashed Sha256.bytes Sha256.digest Sha256.sha256 Sha256.finished Hmac.zeroPadded Hmac.keyBlock Hmac.xored Hmac.innerPad Hmac.outerPad Hmac.hmac Hmac.keyOf Hmac.hmacWith Bytes.be2 Bytes.be4 Bytes.be8 Bytes.u16at Bytes.u32at Lists.part Lists.splice Lists.same
+unfolding opened
 vouched =
     record {
       verdict-is = refl;
@@ -73,28 +65,128 @@ vouched =
       known = given refl;
     }
 
-pub four-things : FourThings begin began slowTag oldSet keyEntry beforeKey
-unfolding ones Bits.bit Bits.bits Bits.bitList Bits.bytesAt Bits.octet Bits.packed Bits.filled Calls.markValid Calls.marksValid Calls.startUnfit Calls.startLengths Calls.startChecks Calls.fresh Calls.startCall Calls.wordUnfit Calls.wordChecks Calls.wordTaken Calls.wordCall Calls.verdictChecks Calls.verdictCall Calls.krootDone Calls.pkrDone Calls.storeDone Calls.hkrootHalf Calls.hkrootReceived Received.fieldCame Received.fieldsCame Received.received Received.bitsCame Received.shown Received.keyCame Received.tagCame Received.infoCame Received.flexibleCame Received.macseqCame Received.blockReceived Received.keysReceived Received.fieldLost Received.lostTag Received.fieldJudged Received.fieldsJudged Calls.chainOf Calls.heldOf Calls.sectionUnfit Calls.sectionProved Calls.tagsWorked Calls.sectionTaken Calls.mackHalf Calls.subframeChecks Calls.noted Calls.halvesDone Calls.subframeCall Calls.authStamp Calls.authSet Calls.setReadChecks Calls.setRead Calls.offerReadChecks Calls.offerRead Chain.slotTime Chain.keyStep Chain.walk Chain.keyOfSlot Chain.keyFits Chain.higher Chain.sentSlot Chain.keySlot Gather.hkrootOf Gather.mackOf Gather.headerOf Gather.statusOf Gather.cidOf Gather.dsmIdOf Gather.blockIdOf Gather.blockOf Gather.blocksFor Gather.totalOf Gather.marked Gather.withMark Gather.storedBlock Gather.dropsBlocks Gather.keptMarks Gather.reservedCount Gather.tooHigh Gather.withBlock Gather.complete Gather.dsmOf Gather.takenOut Gather.stored Gather.gathered PublicKeys.keyLength PublicKeys.signatureLength PublicKeys.keyHeld PublicKeys.keyType PublicKeys.keyBytes PublicKeys.heldAmong PublicKeys.aboveAll PublicKeys.sameKey PublicKeys.withKey PublicKeys.withoutLower Kroot.cidkrOf Kroot.nmackOf Kroot.hfOf Kroot.mfOf Kroot.ksOf Kroot.msOf Kroot.macltFieldOf Kroot.moOf Kroot.rootWeekOf Kroot.rootHourOf Kroot.alphaOf Kroot.keyWidth Kroot.tagWidth Kroot.krootOf Kroot.rootSecondsOf Kroot.blockBits Kroot.fieldsFor Kroot.parametersBad Kroot.mfBad Kroot.aesWidth Kroot.pkidOf Kroot.contentsOf Kroot.leastBlocks Kroot.krootBlocks Kroot.krootChecks Kroot.signedMessage Kroot.signatureOf Kroot.offered Kroot.offerWaits Kroot.offerId Kroot.offerMessage Kroot.offerSignature Kroot.noOffer Kroot.krootJudged Kroot.chainWith Kroot.chainContents Kroot.inForce Kroot.everForced Log.step Log.asked State.wordShaped State.verdictShaped State.setShaped State.offerShaped Log.ran Log.ranFrom Log.stateAt Mack.blockAt Mack.fieldAt Mack.fieldTag Mack.fieldInfo Mack.macseqOf Mack.keyAt Mack.blockKey Mack.spareBits Mack.tooFar Mack.blockChecks Mack.blockProved Mack.keysProved Pkr.messageIdOf Pkr.newTypeOf Pkr.newIdOf Pkr.newKeyOf Pkr.emergency Pkr.pkrSizeBad Pkr.leafOf Pkr.nodeOf Pkr.joined Pkr.climbed Pkr.treeProved Pkr.keyWelcome Pkr.pkrChecks Pkr.keyAdded Pkr.pkrJudged State.shaped State.nsOf State.macltOf State.markOf State.treeRoot State.stopped State.lastSubframe State.lastSubframeOf State.lastWordOf State.prnValid State.heldSlot State.waitingCount Tags.macBits Tags.macCode Tags.statusAndSet Tags.firstMessage Tags.tagMessage Tags.tagKey Tags.tagMatches Tags.tagRecord Tags.recordIssue Tags.tagEntry Tags.entryAt Tags.entryTag Tags.entrySet Tags.isDue Tags.setsEntered Tags.arrivalsEntered Tags.marksSet Tags.told Tags.kept Tags.dueJudged Tags.duesJudged Tags.secondHalf Tags.flexible Tags.ownTag Tags.macseqMessage Tags.macseqFits Tags.notAllowed Tags.ownOutcome Tags.ownJudged Tags.ownsJudged Times.gst Times.weekOf Times.secondOf Times.timeValid Times.secondsOf Times.gstOf Times.stampOf Times.hourSeconds Times.subframeAt Times.slotOf Times.lowestSlot Times.slotSeconds Times.delayOf Times.keySeconds Times.tagSlot Verdict.messageHeader Verdict.messageContents Verdict.namesOffer Verdict.cidInForce Verdict.sameContents Verdict.statusUnfit Verdict.rootUnfit Verdict.vouchChecks Verdict.chainUnchanged Verdict.keyNotBefore Verdict.staying Verdict.stayingAt Verdict.rootHeld Verdict.tagsDropped Verdict.vouched Verdict.forced Verdict.judgedVerdict Navdata.wordType Navdata.svidOf Navdata.wordIssue Navdata.heldType Navdata.wordPlace Navdata.wordAt Navdata.wordStored Navdata.setBits Navdata.setBytes Navdata.setOf Navdata.setIssue Navdata.wordCame Navdata.cameBefore Navdata.oneIssue Navdata.setUsable Navdata.usable Sha256.add Sha256.complement Sha256.shr Sha256.rotr Sha256.ch Sha256.maj Sha256.Σ0 Sha256.Σ1 Sha256.σ0 Sha256.σ1 Sha256.K Sha256.tail Sha256.pad Sha256.block Sha256.words Sha256.H0 Sha256.next Sha256.extended Sha256.schedule Sha256.round Sha256.rounds Sha256.sums Sha256.compress Sha256.hashed Sha256.bytes Sha256.digest Sha256.sha256 Sha256.finished Hmac.zeroPadded Hmac.keyBlock Hmac.xored Hmac.innerPad Hmac.outerPad Hmac.hmac Hmac.keyOf Hmac.hmacWith Bytes.be2 Bytes.be4 Bytes.be8 Bytes.u16at Bytes.u32at Lists.part Lists.splice Lists.same
+vouched-before-tag : Once (Vouched begin began said) beforeTag
+vouched-before-tag = earlier (earlier (earlier (earlier (earlier (here vouched)))))
+
+-- from the section with the tags to the section with the slow tag's key
+before-key : {P : Entry → Log → Type 0} → Once P (tagEntry ∷ beforeTag) → Once P beforeKey
+before-key o = earlier (earlier (earlier (earlier (earlier o))))
+
+-- ---- the slow tag, judged in the section with its key
+
+-- "one from a section answered 0": the key of slot 2
+disclosed-2 : Disclosed chain 2 key2 keyEntry beforeKey
+unfolding opened
+disclosed-2 =
+    record { sub = keySection; section-is = refl; block = 0; in-section = ltb-true 0 _ refl; not-before = leb-true _ _ refl; slot-is = refl; key-is = refl; key-came = refl }
+
+four-things : FourThings begin began slowTag oldSet keyEntry beforeKey
+unfolding opened macBits
 four-things =
     record {
       by = said;
       first = false;
-      arrived = earlier (earlier (earlier (earlier (earlier (earlier (here arrived))))));
+      arrived = earlier (before-key (here (arrived 1 11 0x67C (ltb-true 1 8 refl) refl refl refl refl refl)));
       force = said;
       in-force = refl;
       unchanged = refl;
       key = key2;
       not-before = leb-true _ _ refl;
-      of-slot = record { from-slot = 2; from-key = key2; disclosed = here disclosed; reached = leb-true _ 2 refl; key-is = refl };
+      of-slot = record { from-slot = 2; from-key = key2; disclosed = here disclosed-2; reached = leb-true _ 2 refl; key-is = refl };
       matches = refl;
       to-root = refl;
-      vouched = earlier (earlier (earlier (earlier (earlier (earlier (earlier (earlier (earlier (earlier (earlier (here vouched)))))))))));
+      vouched = before-key (earlier vouched-before-tag);
     }
 
+slow-agreed : Agreed begin began 1 oldSet 1 (counted slowTag) keyEntry beforeKey
+unfolding opened four-things
+slow-agreed = record { prn-is = refl; outcome = 1; place = 0; outcome-is = inl refl; record-is = refl; four = four-things; size-is = refl; turn-is = refl }
+
+-- ---- the three tags, judged in their own section
+
+disclosed-1 : Disclosed chain 1 key1 tagEntry beforeTag
+unfolding opened
+disclosed-1 =
+    record { sub = tagSection; section-is = refl; block = 0; in-section = ltb-true 0 _ refl; not-before = leb-true _ _ refl; slot-is = refl; key-is = refl; key-came = refl }
+
+-- the tag in this field, with its bits
+agreed : (field bits : ℕ) → Arrived begin said 1 (tagFor (suc field) 0 bits) false oldSet tagEntry beforeTag
+    → part (tagEntry .reply .records) (12 * field) 12 ≡ tagRecord 9 (tagFor (suc field) 0 bits) (setIssue oldSet) → macBits 0 12 key1 (tagMessage (tagFor (suc field) 0 bits) oldSet) ≡ bits
+    → Once (Agreed begin began 1 oldSet 1 (counted (tagFor (suc field) 0 bits))) beforeKey
+unfolding opened
+agreed field bits a record-is matches =
+    before-key
+    (here
+    (record {
+      prn-is = refl;
+      outcome = 9;
+      place = field;
+      outcome-is = inr refl;
+      record-is = record-is;
+      four =
+          record {
+            by = said;
+            first = false;
+            arrived = here a;
+            force = said;
+            in-force = refl;
+            unchanged = refl;
+            key = key1;
+            not-before = leb-true _ _ refl;
+            of-slot = record { from-slot = 1; from-key = key1; disclosed = here disclosed-1; reached = leb-true _ 1 refl; key-is = refl };
+            matches = matches;
+            to-root = refl;
+            vouched = vouched-before-tag;
+          };
+      size-is = refl;
+      turn-is = refl;
+    }))
+
+abbrev AgreedIn : Log → Counted → Type 0
+AgreedIn l c = Once (Agreed begin began 1 oldSet 1 c) l
+
+-- they were told before the slow tag was judged
+three-agreed : Each (AgreedIn beforeKey) firstThree
+unfolding opened
+three-agreed = (
+  agreed 2 0xE3D (arrived 2 0 0xE3D (ltb-true 2 8 refl) refl refl refl refl refl) refl (macs .0),
+  (
+    agreed 3 0xFD1 (arrived 3 0 0xFD1 (ltb-true 3 8 refl) refl refl refl refl refl) refl (macs .1 .0),
+    (agreed 4 0x39D (arrived 4 0 0x39D (ltb-true 4 8 refl) refl refl refl refl refl) refl (macs .1 .1 .0), tt),
+  ),
+)
+
+-- ---- forty bits
+
+-- names with different positions differ
+apart : (m n : List ℕ) → eqb (getD m 3 0) (getD n 3 0) ≡ false → m ≢ n
+apart m n e same = eqb-false (getD m 3 0) (getD n 3 0) e (ap (λ (k : List ℕ). getD k 3 0) same)
+
+distinct : Distinct (names allFour)
+distinct = ((apart _ _ refl, (apart _ _ refl, (apart _ _ refl, tt))), ((apart _ _ refl, (apart _ _ refl, tt)), ((apart _ _ refl, tt), (tt, tt))))
+
+-- the four tags agreed; what the three told before have is what `Told` asks
+forty : (Told : ℕ → Counted → Type 0) → Told 1 (counted slowTag) → ((c : Counted) → AgreedIn beforeKey c → Told 1 c) → FortyBits Told
+forty Told slow before =
+    record { tags = allFour; turn = 1; each = (slow, each-map (AgreedIn beforeKey) (Told 1) before firstThree three-agreed); distinct = distinct; enough = leb-true 40 48 refl }
+
 -- the record of outcome 1, and the set read
-marked : Marked begin began 0 slowTag oldSet keyEntry beforeKey
-unfolding ones Bits.bit Bits.bits Bits.bitList Bits.bytesAt Bits.octet Bits.packed Bits.filled Calls.markValid Calls.marksValid Calls.startUnfit Calls.startLengths Calls.startChecks Calls.fresh Calls.startCall Calls.wordUnfit Calls.wordChecks Calls.wordTaken Calls.wordCall Calls.verdictChecks Calls.verdictCall Calls.krootDone Calls.pkrDone Calls.storeDone Calls.hkrootHalf Calls.hkrootReceived Received.fieldCame Received.fieldsCame Received.received Received.bitsCame Received.shown Received.keyCame Received.tagCame Received.infoCame Received.flexibleCame Received.macseqCame Received.blockReceived Received.keysReceived Received.fieldLost Received.lostTag Received.fieldJudged Received.fieldsJudged Calls.chainOf Calls.heldOf Calls.sectionUnfit Calls.sectionProved Calls.tagsWorked Calls.sectionTaken Calls.mackHalf Calls.subframeChecks Calls.noted Calls.halvesDone Calls.subframeCall Calls.authStamp Calls.authSet Calls.setReadChecks Calls.setRead Calls.offerReadChecks Calls.offerRead Chain.slotTime Chain.keyStep Chain.walk Chain.keyOfSlot Chain.keyFits Chain.higher Chain.sentSlot Chain.keySlot Gather.hkrootOf Gather.mackOf Gather.headerOf Gather.statusOf Gather.cidOf Gather.dsmIdOf Gather.blockIdOf Gather.blockOf Gather.blocksFor Gather.totalOf Gather.marked Gather.withMark Gather.storedBlock Gather.dropsBlocks Gather.keptMarks Gather.reservedCount Gather.tooHigh Gather.withBlock Gather.complete Gather.dsmOf Gather.takenOut Gather.stored Gather.gathered PublicKeys.keyLength PublicKeys.signatureLength PublicKeys.keyHeld PublicKeys.keyType PublicKeys.keyBytes PublicKeys.heldAmong PublicKeys.aboveAll PublicKeys.sameKey PublicKeys.withKey PublicKeys.withoutLower Kroot.cidkrOf Kroot.nmackOf Kroot.hfOf Kroot.mfOf Kroot.ksOf Kroot.msOf Kroot.macltFieldOf Kroot.moOf Kroot.rootWeekOf Kroot.rootHourOf Kroot.alphaOf Kroot.keyWidth Kroot.tagWidth Kroot.krootOf Kroot.rootSecondsOf Kroot.blockBits Kroot.fieldsFor Kroot.parametersBad Kroot.mfBad Kroot.aesWidth Kroot.pkidOf Kroot.contentsOf Kroot.leastBlocks Kroot.krootBlocks Kroot.krootChecks Kroot.signedMessage Kroot.signatureOf Kroot.offered Kroot.offerWaits Kroot.offerId Kroot.offerMessage Kroot.offerSignature Kroot.noOffer Kroot.krootJudged Kroot.chainWith Kroot.chainContents Kroot.inForce Kroot.everForced Log.step Log.asked State.wordShaped State.verdictShaped State.setShaped State.offerShaped Log.ran Log.ranFrom Log.stateAt Mack.blockAt Mack.fieldAt Mack.fieldTag Mack.fieldInfo Mack.macseqOf Mack.keyAt Mack.blockKey Mack.spareBits Mack.tooFar Mack.blockChecks Mack.blockProved Mack.keysProved Pkr.messageIdOf Pkr.newTypeOf Pkr.newIdOf Pkr.newKeyOf Pkr.emergency Pkr.pkrSizeBad Pkr.leafOf Pkr.nodeOf Pkr.joined Pkr.climbed Pkr.treeProved Pkr.keyWelcome Pkr.pkrChecks Pkr.keyAdded Pkr.pkrJudged State.shaped State.nsOf State.macltOf State.markOf State.treeRoot State.stopped State.lastSubframe State.lastSubframeOf State.lastWordOf State.prnValid State.heldSlot State.waitingCount Tags.macBits Tags.macCode Tags.statusAndSet Tags.firstMessage Tags.tagMessage Tags.tagKey Tags.tagMatches Tags.tagRecord Tags.recordIssue Tags.tagEntry Tags.entryAt Tags.entryTag Tags.entrySet Tags.isDue Tags.setsEntered Tags.arrivalsEntered Tags.marksSet Tags.told Tags.kept Tags.dueJudged Tags.duesJudged Tags.secondHalf Tags.flexible Tags.ownTag Tags.macseqMessage Tags.macseqFits Tags.notAllowed Tags.ownOutcome Tags.ownJudged Tags.ownsJudged Times.gst Times.weekOf Times.secondOf Times.timeValid Times.secondsOf Times.gstOf Times.stampOf Times.hourSeconds Times.subframeAt Times.slotOf Times.lowestSlot Times.slotSeconds Times.delayOf Times.keySeconds Times.tagSlot Verdict.messageHeader Verdict.messageContents Verdict.namesOffer Verdict.cidInForce Verdict.sameContents Verdict.statusUnfit Verdict.rootUnfit Verdict.vouchChecks Verdict.chainUnchanged Verdict.keyNotBefore Verdict.staying Verdict.stayingAt Verdict.rootHeld Verdict.tagsDropped Verdict.vouched Verdict.forced Verdict.judgedVerdict Navdata.wordType Navdata.svidOf Navdata.wordIssue Navdata.heldType Navdata.wordPlace Navdata.wordAt Navdata.wordStored Navdata.setBits Navdata.setBytes Navdata.setOf Navdata.setIssue Navdata.wordCame Navdata.cameBefore Navdata.oneIssue Navdata.setUsable Navdata.usable Sha256.add Sha256.complement Sha256.shr Sha256.rotr Sha256.ch Sha256.maj Sha256.Σ0 Sha256.Σ1 Sha256.σ0 Sha256.σ1 Sha256.K Sha256.tail Sha256.pad Sha256.block Sha256.words Sha256.H0 Sha256.next Sha256.extended Sha256.schedule Sha256.round Sha256.rounds Sha256.sums Sha256.compress Sha256.hashed Sha256.bytes Sha256.digest Sha256.sha256 Sha256.finished Hmac.zeroPadded Hmac.keyBlock Hmac.xored Hmac.innerPad Hmac.outerPad Hmac.hmac Hmac.keyOf Hmac.hmacWith Bytes.be2 Bytes.be4 Bytes.be8 Bytes.u16at Bytes.u32at Lists.part Lists.splice Lists.same
-marked = record { record-is = refl; four = four-things }
+pub marked : Marked begin began 0 slowTag oldSet keyEntry beforeKey
+unfolding opened slow-agreed
+marked = record { record-is = refl; four = four-things; forty = forty (AgreedUpTo begin began 1 oldSet 1 keyEntry beforeKey) (inr (slow-agreed, ltb-true 0 1 refl)) (λ c o. inl o) }
+
+pub tags-are : marked .forty .tags ≡ allFour
+unfolding marked forty
+tags-are = refl
 
 pub old-set-backed : SetBacked begin began 1 (readEntry .reply .time) (readEntry .reply .out) (keyEntry ∷ beforeKey)
-old-set-backed = record { tag = slowTag; place = 0; prn-is = refl; time-is = refl; marked = here marked }
+unfolding opened forty
+old-set-backed =
+    record {
+      forty = forty (λ (turn : ℕ) (c : Counted). Once (Agreed begin began 1 oldSet turn c) (keyEntry ∷ beforeKey)) (here slow-agreed) (λ c o. earlier o);
+      latest = (leb-true _ _ refl, (leb-true _ _ refl, (leb-true _ _ refl, (leb-true _ _ refl, tt))));
+      last = counted slowTag;
+      last-turn = 1;
+      came = refl;
+      last-agreed = here slow-agreed;
+    }

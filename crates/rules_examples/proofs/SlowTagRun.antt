@@ -1,27 +1,132 @@
--- The worked run, computed: the calls of the log, oldest first, give that log. Assumes nothing.
-use mathlib.Core.Path.{_≡_, refl}
-use lib.Count.{ones}
-use Rattle.rules_examples.specs.SlowTag.{began, begin, calls, log}
-use Rattle.hmac.specs.Hmac as Hmac
-use Rattle.laws.specs.Bytes as Bytes
-use Rattle.laws.specs.Lists as Lists
-use Rattle.rules.specs.Bits as Bits
-use Rattle.rules.specs.Calls as Calls
-use Rattle.rules.specs.Chain as Chain
-use Rattle.rules.specs.Gather as Gather
-use Rattle.rules.specs.PublicKeys as PublicKeys
-use Rattle.rules.specs.Received as Received
-use Rattle.rules.specs.Kroot as Kroot
-use Rattle.rules.specs.Log as Log
-use Rattle.rules.specs.Mack as Mack
-use Rattle.rules.specs.Navdata as Navdata
-use Rattle.rules.specs.Pkr as Pkr
-use Rattle.rules.specs.State as State
-use Rattle.rules.specs.Tags as Tags
-use Rattle.rules.specs.Times as Times
-use Rattle.rules.specs.Verdict as Verdict
-use Rattle.sha256.specs.Sha256 as Sha256
+-- The worked run, computed: the calls of the log, oldest first, give that log. The section with the tags is taken apart, since a declaration may compute
+-- only so much: that its three tags match is taken from Macs. Assumes nothing.
+use Prim.Native.Nat.{ℕ, _-_, _*_, _/_}
+use mathlib.Core.Path.{_≡_, refl, ap, _∙_}
+use mathlib.Core.Bool.{cond}
+use mathlib.Core.List.{List, [], _∷_, _++_}
+use lib.Dec.{eqb}
+use lib.ListN.{length}
+use Rattle.laws.specs.Lists.{part, splice}
+use Rattle.rules.specs.Calls.{startCall, sectionTaken}
+use Rattle.rules.specs.Chain.{Held, held}
+use Rattle.rules.specs.Claim.{Counted, Each, chainBy, sectionOf, between}
+use Rattle.rules.specs.Log.{Call, History, Ran, Stepped, advanced, ran, ranFrom, step}
+use Rattle.rules.specs.Navdata.{wordStored}
+use Rattle.rules.specs.Received.{fieldJudged, fieldsJudged}
+use Rattle.rules.specs.State.{State, Nav}
+use Rattle.rules.specs.Tags.{Work, told, kept, tagEntry, macBits, tagMessage}
+use Rattle.rules.specs.Times.{stampOf}
+use Rattle.rules.specs.declared.Tag.{Tag}
+use Rattle.rules_examples.proofs.Macs.{macs}
+use Rattle.rules_examples.proofs.Opened.{opened}
+use Rattle.rules_examples.specs.SlowTag as Run
 
-pub slow-tag-marks-old-set : (Log.ranFrom began begin calls) .history .log ≡ log
-unfolding ones Bits.bit Bits.bits Bits.bitList Bits.bytesAt Bits.octet Bits.packed Bits.filled Calls.markValid Calls.marksValid Calls.startUnfit Calls.startLengths Calls.startChecks Calls.fresh Calls.startCall Calls.wordUnfit Calls.wordChecks Calls.wordTaken Calls.wordCall Calls.verdictChecks Calls.verdictCall Calls.krootDone Calls.pkrDone Calls.storeDone Calls.hkrootHalf Calls.hkrootReceived Received.fieldCame Received.fieldsCame Received.received Received.bitsCame Received.shown Received.keyCame Received.tagCame Received.infoCame Received.flexibleCame Received.macseqCame Received.blockReceived Received.keysReceived Received.fieldLost Received.lostTag Received.fieldJudged Received.fieldsJudged Calls.chainOf Calls.heldOf Calls.sectionUnfit Calls.sectionProved Calls.tagsWorked Calls.sectionTaken Calls.mackHalf Calls.subframeChecks Calls.noted Calls.halvesDone Calls.subframeCall Calls.authStamp Calls.authSet Calls.setReadChecks Calls.setRead Calls.offerReadChecks Calls.offerRead Chain.slotTime Chain.keyStep Chain.walk Chain.keyOfSlot Chain.keyFits Chain.higher Chain.sentSlot Chain.keySlot Gather.hkrootOf Gather.mackOf Gather.headerOf Gather.statusOf Gather.cidOf Gather.dsmIdOf Gather.blockIdOf Gather.blockOf Gather.blocksFor Gather.totalOf Gather.marked Gather.withMark Gather.storedBlock Gather.dropsBlocks Gather.keptMarks Gather.reservedCount Gather.tooHigh Gather.withBlock Gather.complete Gather.dsmOf Gather.takenOut Gather.stored Gather.gathered PublicKeys.keyLength PublicKeys.signatureLength PublicKeys.keyHeld PublicKeys.keyType PublicKeys.keyBytes PublicKeys.heldAmong PublicKeys.aboveAll PublicKeys.sameKey PublicKeys.withKey PublicKeys.withoutLower Kroot.cidkrOf Kroot.nmackOf Kroot.hfOf Kroot.mfOf Kroot.ksOf Kroot.msOf Kroot.macltFieldOf Kroot.moOf Kroot.rootWeekOf Kroot.rootHourOf Kroot.alphaOf Kroot.keyWidth Kroot.tagWidth Kroot.krootOf Kroot.rootSecondsOf Kroot.blockBits Kroot.fieldsFor Kroot.parametersBad Kroot.mfBad Kroot.aesWidth Kroot.pkidOf Kroot.contentsOf Kroot.leastBlocks Kroot.krootBlocks Kroot.krootChecks Kroot.signedMessage Kroot.signatureOf Kroot.offered Kroot.offerWaits Kroot.offerId Kroot.offerMessage Kroot.offerSignature Kroot.noOffer Kroot.krootJudged Kroot.chainWith Kroot.chainContents Kroot.inForce Kroot.everForced Log.step Log.asked State.wordShaped State.verdictShaped State.setShaped State.offerShaped Log.ran Log.ranFrom Log.stateAt Mack.blockAt Mack.fieldAt Mack.fieldTag Mack.fieldInfo Mack.macseqOf Mack.keyAt Mack.blockKey Mack.spareBits Mack.tooFar Mack.blockChecks Mack.blockProved Mack.keysProved Pkr.messageIdOf Pkr.newTypeOf Pkr.newIdOf Pkr.newKeyOf Pkr.emergency Pkr.pkrSizeBad Pkr.leafOf Pkr.nodeOf Pkr.joined Pkr.climbed Pkr.treeProved Pkr.keyWelcome Pkr.pkrChecks Pkr.keyAdded Pkr.pkrJudged State.shaped State.nsOf State.macltOf State.markOf State.treeRoot State.stopped State.lastSubframe State.lastSubframeOf State.lastWordOf State.prnValid State.heldSlot State.waitingCount Tags.macBits Tags.macCode Tags.statusAndSet Tags.firstMessage Tags.tagMessage Tags.tagKey Tags.tagMatches Tags.tagRecord Tags.recordIssue Tags.tagEntry Tags.entryAt Tags.entryTag Tags.entrySet Tags.isDue Tags.setsEntered Tags.arrivalsEntered Tags.marksSet Tags.told Tags.kept Tags.dueJudged Tags.duesJudged Tags.secondHalf Tags.flexible Tags.ownTag Tags.macseqMessage Tags.macseqFits Tags.notAllowed Tags.ownOutcome Tags.ownJudged Tags.ownsJudged Times.gst Times.weekOf Times.secondOf Times.timeValid Times.secondsOf Times.gstOf Times.stampOf Times.hourSeconds Times.subframeAt Times.slotOf Times.lowestSlot Times.slotSeconds Times.delayOf Times.keySeconds Times.tagSlot Verdict.messageHeader Verdict.messageContents Verdict.namesOffer Verdict.cidInForce Verdict.sameContents Verdict.statusUnfit Verdict.rootUnfit Verdict.vouchChecks Verdict.chainUnchanged Verdict.keyNotBefore Verdict.staying Verdict.stayingAt Verdict.rootHeld Verdict.tagsDropped Verdict.vouched Verdict.forced Verdict.judgedVerdict Navdata.wordType Navdata.svidOf Navdata.wordIssue Navdata.heldType Navdata.wordPlace Navdata.wordAt Navdata.wordStored Navdata.setBits Navdata.setBytes Navdata.setOf Navdata.setIssue Navdata.wordCame Navdata.cameBefore Navdata.oneIssue Navdata.setUsable Navdata.usable Sha256.add Sha256.complement Sha256.shr Sha256.rotr Sha256.ch Sha256.maj Sha256.Σ0 Sha256.Σ1 Sha256.σ0 Sha256.σ1 Sha256.K Sha256.tail Sha256.pad Sha256.block Sha256.words Sha256.H0 Sha256.next Sha256.extended Sha256.schedule Sha256.round Sha256.rounds Sha256.sums Sha256.compress Sha256.hashed Sha256.bytes Sha256.digest Sha256.sha256 Sha256.finished Hmac.zeroPadded Hmac.keyBlock Hmac.xored Hmac.innerPad Hmac.outerPad Hmac.hmac Hmac.keyOf Hmac.hmacWith Bytes.be2 Bytes.be4 Bytes.be8 Bytes.u16at Bytes.u32at Lists.part Lists.splice Lists.same
-slow-tag-marks-old-set = refl
+-- ---- a call among others
+
+-- the calls behind a call c that gave r, where a is what those before it left
+abbrev behind : Ran → Call → Stepped → List Call → Ran
+behind a c r rest = ran (r .state) (advanced (a .history) c (r .reply .code) (r .reply) (r .state)) rest
+
+ran-call : (s : State) (h : History) (before rest : List Call) (c : Call) (r : Stepped) → step ((ran s h before) .state) c ≡ r → ran s h (before ++ (c ∷ rest)) ≡ behind (ran s h before) c r rest
+unfolding ran
+ran-call s h [] rest c r e = ap (λ (v : Stepped). ran (v .state) (advanced h c (v .reply .code) (v .reply) (v .state)) rest) e
+ran-call s h (b ∷ before) rest c r e =
+    ran-call ((step s b) .state) (advanced h b ((step s b) .reply .code) ((step s b) .reply) ((step s b) .state)) before rest c r e
+
+-- ---- the section with the tags
+
+-- the words of the old set
+abbrev stored : ℕ → List ℕ → Nav → Nav
+stored kind bytes n = wordStored n 1 kind bytes (stampOf (Run.at 3540))
+
+abbrev nav : Nav
+nav =
+    stored 5 (Run.wordOf 5 5 0x11)
+    (stored 4 (Run.wordFour 5 0x11)
+    (stored 3 (Run.wordOf 3 5 0x11) (stored 2 (Run.wordOf 2 5 0x11) (stored 1 (Run.wordOf 1 5 0x11) (Run.began .nav)))))
+
+abbrev key : Held
+key = held 1 Run.key1
+
+-- field j, from 0, and the first n fields
+abbrev field : ℕ → Work → Work
+field j w = fieldJudged (Run.began .config) nav (chainBy Run.begin Run.said) key (sectionOf Run.tagSection) 65535 j w
+
+abbrev fields : ℕ → Work → Work
+fields n w = fieldsJudged (Run.began .config) nav (chainBy Run.begin Run.said) key (sectionOf Run.tagSection) 65535 n w
+
+abbrev macOf : Tag → ℕ
+macOf t = macBits 0 12 Run.key1 (tagMessage t Run.oldSet)
+
+-- a tag whose MAC is this: it agrees with its set, or is wrong
+abbrev found : Tag → ℕ → ℕ
+found t mac = cond (eqb mac (t .bits)) 1 2
+
+abbrev judged : Tag → ℕ → Work → Work
+judged t outcome w =
+    let told-w = told 12 outcome t Run.oldSet w in
+    cond (eqb outcome 5) (kept (tagEntry t Run.oldSet) told-w) told-w
+
+agrees : (j : ℕ) (t : Tag) (w : Work) → field j w ≡ judged t (found t (macOf t)) w → macOf t ≡ t .bits → found t (t .bits) ≡ 1 → field j w ≡ told 12 1 t Run.oldSet w
+agrees j t w is mac right = is ∙ ap (λ (n : ℕ). judged t n w) (ap (λ (m : ℕ). found t m) mac ∙ right)
+
+three-judged : Each (λ (c : Counted). (w : Work) → field (c .tag .position - 1) w ≡ told 12 1 (c .tag) Run.oldSet w) Run.firstThree
+unfolding opened
+three-judged =
+    ((λ w. agrees 2 _ w refl (macs .0) refl), ((λ w. agrees 3 _ w refl (macs .1 .0) refl), ((λ w. agrees 4 _ w refl (macs .1 .1 .0) refl), tt)))
+
+abbrev agreeing : List Counted → Work → Work
+agreeing [] w = w
+agreeing (c ∷ cs) w = agreeing cs (told 12 1 (c .tag) Run.oldSet w)
+
+-- what the eight fields leave
+abbrev none : Work
+none = record { kept = []; count = 0; sets = Run.began .auth .sets; arrivals = Run.began .auth .arrivals; records = [] }
+
+abbrev eight : Work
+eight = field 7 (field 6 (field 5 (agreeing Run.firstThree (field 1 (field 0 none)))))
+
+eight-judged : fields 8 none ≡ eight
+unfolding fieldsJudged
+eight-judged =
+    ap (λ (w : Work). field 7 (field 6 (field 5 (field 4 (field 3 w))))) (three-judged .0 _)
+    ∙ ap (λ (w : Work). field 7 (field 6 (field 5 (field 4 w)))) (three-judged .1 .0 _)
+    ∙ ap (λ (w : Work). field 7 (field 6 (field 5 w))) (three-judged .1 .1 .0 _)
+
+-- ---- the run
+
+abbrev started : State
+started = (startCall Run.began Run.begin) .state
+
+abbrev callsBefore : List Call
+callsBefore = Run.callsOf Run.beforeTag []
+
+abbrev before : Ran
+before = ran started (record { origin = Run.begin; began = started; log = [] }) callsBefore
+
+-- what the section gives where its tags leave w
+abbrev given : State → Work → Stepped
+given s w =
+    record {
+      reply = Run.subframeReply 0 (part (splice Run.area 0 (w .records)) 0 (12 * (length (w .records) / 12)));
+      state = sectionTaken (between s Run.area Run.tagSection) key w;
+    }
+
+tags-come : step (before .state) (Run.tagEntry .call) ≡ given (before .state) (fields 8 none)
+unfolding opened
+tags-come = refl
+
+abbrev callsBehind : List Call
+callsBehind = Run.callsOf (Run.readEntry ∷ Run.keyEntry ∷ Run.newWords) []
+
+-- the slow tag is judged here
+log-behind : (behind before (Run.tagEntry .call) (given (before .state) eight) callsBehind) .history .log ≡ Run.log
+unfolding opened fieldsJudged macBits told
+log-behind = refl
+
+pub slow-tag-marks-old-set : (ranFrom Run.began Run.begin Run.calls) .history .log ≡ Run.log
+unfolding ranFrom
+slow-tag-marks-old-set =
+    ap (λ (r : Ran). r .history .log)
+    (ran-call _ _ callsBefore callsBehind (Run.tagEntry .call) (given (before .state) eight) (tags-come ∙ ap (given (before .state)) eight-judged))
+    ∙ log-behind

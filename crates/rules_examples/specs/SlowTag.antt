@@ -1,13 +1,14 @@
--- A worked run over the rules with real SHA-256 and HMAC: a slow tag arrives, the satellite's words change, the key comes. The tag's outcome is 1, it
--- marks the bits that were the satellite's set when the tag came, and a read gives those. It is the fault that started this: see 00.
+-- A worked run over the rules with real SHA-256 and HMAC: a slow tag and three others of its satellite arrive, the satellite's words change, the slow
+-- tag's key comes. The three are told 9 where they come; the slow tag brings the fortieth bit and is told 1. It marks the bits that were the satellite's
+-- set when the tags came, and a read gives those. It is the fault that started this: see 00; and 02, P4.
 -- NS 1, NMACK 1, KS 256, MS 12: one key a sub-frame, eight fields a section.
-use Prim.Native.Nat.{ℕ, _+_, _*_}
+use Prim.Native.Nat.{ℕ, zero, suc, _+_, _*_}
 use mathlib.Core.Path.{_≡_}
 use mathlib.Core.List.{List, [], _∷_, _++_}
 use lib.ListN.{replicate}
 use Rattle.laws.specs.Lists.{part}
 use Rattle.rules.specs.Calls.{Start, Word, Subframe, fresh}
-use Rattle.rules.specs.Claim.{FourThings, SetBacked}
+use Rattle.rules.specs.Claim.{Counted, sizes, Marked, SetBacked}
 use Rattle.rules.specs.Log.{Call, word, subframe, verdict, ask, set, Entry, Log, Reply, plain, nothing, ranFrom}
 use Rattle.rules.specs.Navdata.{setBytes}
 use Rattle.rules.specs.State.{State, areaLength}
@@ -65,9 +66,9 @@ blockOf k = record { prn = k + 1; time = at 3540; marks = 65535; bytes = fields 
 abbrev pub said : Verdict
 said = record { good = 1; id = 0; message = header ∷ contents; signature = signature ++ replicate 76 0 }
 
--- a section of E02: eight fields of 28 bits, of which the first is tag0 and the last six are zeros, then the key
+-- a section of E02: eight fields of 28 bits, of which the first is tag0, then the key
 abbrev pub sectionOf : ℕ → List ℕ → List ℕ → Subframe
-sectionOf second two key = record { prn = 2; time = at second; marks = 65535; bytes = fields (header ∷ 0x11 ∷ replicate 13 0) (two ++ (replicate 21 0 ++ key)) }
+sectionOf second eight key = record { prn = 2; time = at second; marks = 65535; bytes = fields (header ∷ 0x11 ∷ replicate 13 0) (eight ++ key) }
 
 -- words of E01: the type, IODnav, and a byte that fills the rest; word 4 has SVID 1
 abbrev pub wordOf : ℕ → ℕ → ℕ → List ℕ
@@ -79,25 +80,30 @@ wordFour issue fill = 16 ∷ issue ∷ 4 ∷ replicate 13 fill
 abbrev pub wordAt : ℕ → List ℕ → Word
 wordAt second bytes = record { prn = 1; time = at second; bytes = bytes }
 
--- marks: tag0, ADKD 11, and fields that nothing fits
+-- marks: tag0, ADKD 11, three of ADKD 0, and fields that nothing fits
 abbrev pub marks : List ℕ
-marks = 0 ∷ 11 ∷ replicate 12 1
+marks = 0 ∷ 11 ∷ 0 ∷ 0 ∷ 0 ∷ replicate 9 1
 
 abbrev pub begin : Start
 begin = record { ns = 1; id = 0; type = 0; maclt = 7; marks = marks ++ marks; root = replicate 32 0; key = replicate 67 3 }
 
--- the first two fields: tag0 is zeros; the slow tag is for E01, ADKD 11, made with the key of slot 2
-abbrev pub slowFields : List ℕ
-slowFields = 0 ∷ 0 ∷ 0 ∷ 0x06 ∷ 0x7C ∷ 1 ∷ 0xB0 ∷ []
+-- the eight fields, two a line: tag0 is zeros; the slow tag is for E01, ADKD 11, made with the key of slot 2; three for E01, ADKD 0, made with the key of
+-- slot 1; zeros
+abbrev pub tagFields : List ℕ
+tagFields =
+    0x00 ∷ 0x00 ∷ 0x00 ∷ 0x06 ∷ 0x7C ∷ 0x01 ∷ 0xB0
+    ∷ 0xE3 ∷ 0xD0 ∷ 0x10 ∷ 0x0F ∷ 0xD1 ∷ 0x01 ∷ 0x00
+    ∷ 0x39 ∷ 0xD0 ∷ 0x10 ∷ 0x00 ∷ 0x00 ∷ 0x00 ∷ 0x00
+    ∷ replicate 7 0
 
--- the section with the slow tag, and the one with its key
+-- the section with the tags, and the one with the slow tag's key
 abbrev pub tagSection : Subframe
-tagSection = sectionOf 3600 slowFields key1
+tagSection = sectionOf 3600 tagFields key1
 
 abbrev pub keySection : Subframe
-keySection = sectionOf 3630 (replicate 7 0) key2
+keySection = sectionOf 3630 (replicate 28 0) key2
 
--- the set that the tag authenticates
+-- the set that the tags authenticate
 abbrev pub oldSet : List ℕ
 oldSet = setBytes (wordOf 1 5 0x11) (wordOf 2 5 0x11) (wordOf 3 5 0x11) (wordFour 5 0x11) (wordOf 5 5 0x11)
 
@@ -107,9 +113,10 @@ oldSet = setBytes (wordOf 1 5 0x11) (wordOf 2 5 0x11) (wordOf 3 5 0x11) (wordFou
 abbrev pub recordOf : ℕ → ℕ → ℕ → ℕ → ℕ → ℕ → List ℕ
 recordOf low outcome prn adkd position issue = outcome ∷ 2 ∷ prn ∷ adkd ∷ 1 ∷ position ∷ 0 ∷ issue ∷ 0 ∷ 0x10 ∷ 0x0E ∷ low ∷ []
 
--- fields that nothing fits
-abbrev pub unfit : ℕ → List ℕ
-unfit low = recordOf low 4 0 0 3 0 ++ (recordOf low 4 0 0 4 0 ++ (recordOf low 4 0 0 5 0 ++ (recordOf low 4 0 0 6 0 ++ (recordOf low 4 0 0 7 0 ++ recordOf low 4 0 0 8 0))))
+-- n fields of zeros from a position on, which nothing fits
+abbrev pub unfit : ℕ → ℕ → ℕ → List ℕ
+unfit low position zero = []
+unfit low position (suc n) = recordOf low 4 0 0 position 0 ++ unfit low (suc position) n
 
 abbrev pub subframeReply : ℕ → List ℕ → Reply
 subframeReply mack records = record { code = 0; mack = mack; records = records; out = []; issue = 0; time = 0; handed = nothing }
@@ -134,22 +141,27 @@ beforeTag =
     ∷ verdictEntry
     ∷ gathered
 
--- the section with the slow tag: tag0 has no set (3), the slow tag waits (5)
+-- the section with the tags: tag0 has no set (3), the slow tag waits (5), the three agree, with 12, 24 and 36 bits (9)
+abbrev pub tagRecords : List ℕ
+tagRecords =
+    recordOf 0x10 3 2 0 1 0 ++ (recordOf 0x10 5 1 11 2 5 ++ (recordOf 0x10 9 1 0 3 5 ++ (recordOf 0x10 9 1 0 4 5 ++ (recordOf 0x10 9 1 0 5 5 ++ unfit 0x10 6 3))))
+
 abbrev pub tagEntry : Entry
-tagEntry = record { call = subframe area tagSection; reply = subframeReply 0 (recordOf 0x10 3 2 0 1 0 ++ (recordOf 0x10 5 1 11 2 5 ++ unfit 0x10)) }
+tagEntry = record { call = subframe area tagSection; reply = subframeReply 0 tagRecords }
 
 -- then the words of the new set
+abbrev pub newWords : Log
+newWords =
+    wordEntry 3600 (wordOf 5 6 0x22) ∷ wordEntry 3600 (wordFour 6 0x22) ∷ wordEntry 3600 (wordOf 3 6 0x22) ∷ wordEntry 3600 (wordOf 2 6 0x22) ∷ wordEntry 3600 (wordOf 1 6 0x22) ∷ []
+
 abbrev pub beforeKey : Log
-beforeKey =
-    wordEntry 3600 (wordOf 5 6 0x22) ∷ wordEntry 3600 (wordFour 6 0x22) ∷ wordEntry 3600 (wordOf 3 6 0x22) ∷ wordEntry 3600 (wordOf 2 6 0x22) ∷ wordEntry 3600 (wordOf 1 6 0x22)
-    ∷ tagEntry
-    ∷ beforeTag
+beforeKey = newWords ++ (tagEntry ∷ beforeTag)
 
--- the section with its key: the slow tag is authentic (1), with the old IODnav and the time of its arrival; then the section's own
+-- the section with its key: the slow tag makes 48 bits and is authentic (1), with the old IODnav and the time of its arrival; then the section's own
 abbrev pub keyEntry : Entry
-keyEntry = record { call = subframe area keySection; reply = subframeReply 0 (recordOf 0x10 1 1 11 2 5 ++ (recordOf 0x2E 3 2 0 1 0 ++ (recordOf 0x2E 4 0 0 2 0 ++ unfit 0x2E))) }
+keyEntry = record { call = subframe area keySection; reply = subframeReply 0 (recordOf 0x10 1 1 11 2 5 ++ (recordOf 0x2E 3 2 0 1 0 ++ unfit 0x2E 2 7)) }
 
--- a read of E01's set: the old bits, with the time of the tag's arrival
+-- a read of E01's set: the old bits, with the time of the tags' arrival
 abbrev pub readEntry : Entry
 readEntry = record { call = ask (set 1 (replicate 69 0)); reply = record { code = 0; mack = 0; records = []; out = oldSet; issue = 5; time = at 3600; handed = nothing } }
 
@@ -171,14 +183,31 @@ calls = callsOf log []
 abbrev pub began : State
 began = fresh begin
 
--- the slow tag: E02 sent it for E01, ADKD 11, in block 1 at position 2 of the section of second 3600
+-- E02 sent these for E01 in block 1 of the section of second 3600: position, ADKD, bits
+abbrev pub tagFor : ℕ → ℕ → ℕ → Tag
+tagFor position adkd bits = record { sender = 2; prn = 1; adkd = adkd; block = 1; position = position; time = at 3600; status = 1; bits = bits }
+
 abbrev pub slowTag : Tag
-slowTag = record { sender = 2; prn = 1; adkd = 11; block = 1; position = 2; time = at 3600; status = 1; bits = 0x67C }
+slowTag = tagFor 2 11 0x67C
+
+-- each counts 12 bits
+abbrev pub counted : Tag → Counted
+counted t = record { tag = t; size = 12 }
+
+-- the three told before it, and all four
+abbrev pub firstThree : List Counted
+firstThree = counted (tagFor 3 0 0xE3D) ∷ counted (tagFor 4 0 0xFD1) ∷ counted (tagFor 5 0 0x39D) ∷ []
+
+abbrev pub allFour : List Counted
+allFour = counted slowTag ∷ firstThree
 
 pub record SlowTagRun : Type 0 where
   -- the calls give that log
   pub log-is : (ranFrom began begin calls) .history .log ≡ log
-  -- the four things of demand 3 hold of the OLD set, where its record of outcome 1 stands
-  pub four-things : FourThings begin began slowTag oldSet keyEntry beforeKey
+  -- where the slow tag's record of outcome 1 stands, the four things of demand 3 hold of the OLD set, and it has its forty bits
+  pub marked : Marked begin began 0 slowTag oldSet keyEntry beforeKey
+  -- they are those of the four tags
+  pub tags-are : marked .forty .tags ≡ allFour
+  pub bits-are : sizes allFour ≡ 48
   -- and the set read is that one
   pub old-set-backed : SetBacked begin began 1 (readEntry .reply .time) (readEntry .reply .out) (keyEntry ∷ beforeKey)

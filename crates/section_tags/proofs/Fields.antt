@@ -19,22 +19,22 @@ use Rattle.rules.specs.Bits.{anyOf}
 use Rattle.rules.specs.Chain.{Held}
 use Rattle.rules.specs.Received.{fieldLost, lostTag, fieldJudged, fieldsJudged}
 use Rattle.rules.specs.State.{Nav, markOf, prnValid, entryLength, waitingLength, areaLength}
-use Rattle.rules.specs.Tags.{Work, Section, told, marksSet, kept, recordIssue, tagEntry, tagMatches, ownTag, notAllowed, secondHalf, flexible, macseqFits, ownOutcome, ownJudged}
+use Rattle.rules.specs.Tags.{Work, Section, toldPlain, told, kept, recordIssue, tagEntry, tagMatches, ownTag, notAllowed, secondHalf, flexible, macseqFits, ownOutcome, ownJudged}
 use Rattle.rules.specs.Times.{delayOf}
 use Rattle.rules.specs.Navdata.{usable, setOf}
 use Rattle.rules.specs.declared.Chain.{Chain}
 use Rattle.rules.specs.declared.Tag.{Tag}
 use Rattle.rules.proofs.Parts.{length-set-of}
 use Rattle.rules.proofs.Entries.{length-tag-entry}
-use Rattle.rules.proofs.TagRecords.{length-record}
-use Rattle.tag_records.specs.Told.{start, Tells, Leaves}
+use Rattle.rules.proofs.TagRecords.{told-long}
+use Rattle.tag_records.proofs.Told.{told-after}
+use Rattle.tag_records.specs.Told.{start, after, Tells, Leaves}
 use Rattle.section_outcomes.specs.Outcomes.{outcomeBy}
 use Rattle.section_outcomes.proofs.Tests.{waits-free}
 use Rattle.section_tags.specs.Own.{settled, Grows}
 
 -- ---- outcomes
 
--- a tag waits only where a place is free
 -- a tag that is not refused names a satellite
 prn-known : (a b v : Bool) → (a || (b || (not v || false))) ≡ false → v ≡ true
 prn-known a b true p = refl
@@ -47,13 +47,13 @@ allowed-prn config j t p =
     (not (flexible config (t .time) j) && neb (t .adkd) (markOf config (secondHalf (t .time)) j)) (prnValid (t .prn)) p
 
 -- the record of a lost field, or of a refused tag, does not read the set
-pub lost-any : (t : Tag) (s : List ℕ) (w : Work) → settled 8 t s w ≡ told 8 t [] w
-unfolding settled told marksSet recordIssue
-lost-any t s w = refl
+pub lost-any : (ms : ℕ) (t : Tag) (s : List ℕ) (w : Work) → settled ms 8 t s w ≡ told ms 8 t [] w
+unfolding settled told toldPlain recordIssue
+lost-any ms t s w = refl
 
-refused-any : (t : Tag) (s u : List ℕ) (w : Work) → settled 4 t s w ≡ settled 4 t u w
-unfolding settled told marksSet recordIssue
-refused-any t s u w = refl
+refused-any : (ms : ℕ) (t : Tag) (s u : List ℕ) (w : Work) → settled ms 4 t s w ≡ settled ms 4 t u w
+unfolding settled told toldPlain recordIssue
+refused-any ms t s u w = refl
 
 module _ (config : List ℕ) (n : Nav) (c : Chain) (h : Held) (x : Section) (j : ℕ) (fits : Bool) (w : Work) (p : ℕ) (set : List ℕ)
     (f : fits ≡ macseqFits config c h x) (s : set ≡ setOf (n .words) p) where
@@ -63,15 +63,15 @@ module _ (config : List ℕ) (n : Nav) (c : Chain) (h : Held) (x : Section) (j :
       outcomeBy (notAllowed config j t) (flexible config (t .time) j && not fits) (not (usable n p (t .time)))
       (eqb (delayOf (t .adkd)) 0 && tagMatches c h (eqb j 0) t set) (eqb (delayOf (t .adkd)) 0) (ltb (w .count) 256)
 
-  judged-refused : notAllowed config j (ownTag c x j) ≡ true → settled outcome (ownTag c x j) set w ≡ ownJudged config n c h x j w
+  judged-refused : notAllowed config j (ownTag c x j) ≡ true → settled (c .ms) outcome (ownTag c x j) set w ≡ ownJudged config n c h x j w
   unfolding settled ownJudged ownOutcome
-  judged-refused e = rw e (refused-any (ownTag c x j) set (setOf (n .words) ((ownTag c x j) .prn)) w)
+  judged-refused e = rw e (refused-any (c .ms) (ownTag c x j) set (setOf (n .words) ((ownTag c x j) .prn)) w)
 
-  judged-known : p ≡ (ownTag c x j) .prn → settled outcome (ownTag c x j) set w ≡ ownJudged config n c h x j w
+  judged-known : p ≡ (ownTag c x j) .prn → settled (c .ms) outcome (ownTag c x j) set w ≡ ownJudged config n c h x j w
   unfolding settled ownJudged ownOutcome
   judged-known e = rw (s, e, f)
 
-  pub field-judged : (prnValid ((ownTag c x j) .prn) ≡ true → p ≡ (ownTag c x j) .prn) → settled outcome (ownTag c x j) set w ≡ ownJudged config n c h x j w
+  pub field-judged : (prnValid ((ownTag c x j) .prn) ≡ true → p ≡ (ownTag c x j) .prn) → settled (c .ms) outcome (ownTag c x j) set w ≡ ownJudged config n c h x j w
   field-judged e =
       ⊎-elim (λ r. judged-refused r) (λ r. judged-known (e (allowed-prn config j (ownTag c x j) r))) (either (notAllowed config j (ownTag c x j)))
 
@@ -80,16 +80,16 @@ pub one-judged : (config : List ℕ) (n : Nav) (c : Chain) (h : Held) (x : Secti
     → t ≡ ownTag c x j → fits ≡ macseqFits config c h x → set ≡ setOf (n .words) p → (prnValid (t .prn) ≡ true → p ≡ t .prn)
     → o ≡ outcomeBy (notAllowed config j t) (flexible config (t .time) j && not fits) (not (usable n p (t .time)))
     (eqb (delayOf (t .adkd)) 0 && tagMatches c h (eqb j 0) t set) (eqb (delayOf (t .adkd)) 0) (ltb (w .count) 256)
-    → settled o t set w ≡ ownJudged config n c h x j w
+    → settled (c .ms) o t set w ≡ ownJudged config n c h x j w
 one-judged config n c h x j fits w p o set t e f s v q =
     rw (q, e) (field-judged config n c h x j fits w p set f s (λ u. v (rw e u) ∙ ap (λ (i : Tag). i .prn) e))
 
 -- a field that is lost, by its tag's record, and one that is not
 module _ (config : List ℕ) (n : Nav) (c : Chain) (h : Held) (x : Section) (marks j : ℕ) (w : Work) where
   pub lost-judged : (o : ℕ) (t : Tag) (s : List ℕ) → o ≡ 8 → t ≡ lostTag c x marks j → fieldLost config c (x .time) marks j ≡ true
-      → settled o t s w ≡ fieldJudged config n c h x marks j w
+      → settled (c .ms) o t s w ≡ fieldJudged config n c h x marks j w
   unfolding fieldJudged
-  lost-judged o t s e q l = rw (e, q, l) (lost-any (lostTag c x marks j) s w)
+  lost-judged o t s e q l = rw (e, q, l) (lost-any (c .ms) (lostTag c x marks j) s w)
 
   pub own-judged : fieldLost config c (x .time) marks j ≡ false → fieldJudged config n c h x marks j w ≡ ownJudged config n c h x j w
   unfolding fieldJudged
@@ -98,58 +98,65 @@ module _ (config : List ℕ) (n : Nav) (c : Chain) (h : Held) (x : Section) (mar
 -- ---- a tag's work adds to what was there
 
 -- `settled` by whether the tag waits
-abbrev by-wait : Bool → ℕ → Tag → List ℕ → Work → Work
-by-wait b o t s w = cond b (kept (tagEntry t s) (told o t s w)) (told o t s w)
+abbrev by-wait : Bool → ℕ → ℕ → Tag → List ℕ → Work → Work
+by-wait b ms o t s w = cond b (kept (tagEntry t s) (told ms o t s w)) (told ms o t s w)
 
-module _ (o : ℕ) (t : Tag) (s : List ℕ) (w : Work) where
+module _ (ms o : ℕ) (t : Tag) (s : List ℕ) (w : Work) where
   abbrev before : Work
   before = start (w .count) (w .sets) (w .arrivals)
 
-  kept-by : (b : Bool) → (by-wait b o t s w) .kept ≡ w .kept ++ (by-wait b o t s before) .kept
-  unfolding kept told
-  kept-by true = refl
-  kept-by false = sym (append-nil (w .kept))
+  -- the tag's work after what was there, and alone
+  there : told ms o t s w ≡ after w (told ms o t s (start 0 (w .sets) (w .arrivals)))
+  there = told-after ms t s o w
 
-  records-by : (b : Bool) → (by-wait b o t s w) .records ≡ w .records ++ (by-wait b o t s before) .records
-  unfolding kept told
-  records-by true = refl
-  records-by false = refl
+  alone-too : told ms o t s before ≡ after before (told ms o t s (start 0 (w .sets) (w .arrivals)))
+  alone-too = told-after ms t s o before
 
-  sets-by : (b : Bool) → (by-wait b o t s w) .sets ≡ (by-wait b o t s before) .sets
-  unfolding kept told
-  sets-by true = refl
-  sets-by false = refl
+  kept-by : (b : Bool) → (by-wait b ms o t s w) .kept ≡ w .kept ++ (by-wait b ms o t s before) .kept
+  unfolding kept
+  kept-by true = rw (there, alone-too) refl
+  kept-by false = rw (there, alone-too) (sym (append-nil (w .kept)))
 
-  arrivals-by : (b : Bool) → (by-wait b o t s w) .arrivals ≡ (by-wait b o t s before) .arrivals
-  unfolding kept told
-  arrivals-by true = refl
-  arrivals-by false = refl
+  records-by : (b : Bool) → (by-wait b ms o t s w) .records ≡ w .records ++ (by-wait b ms o t s before) .records
+  unfolding kept
+  records-by true = rw (there, alone-too) refl
+  records-by false = rw (there, alone-too) refl
 
-  count-by : (b : Bool) → (by-wait b o t s w) .count ≡ (by-wait b o t s before) .count
-  unfolding kept told
-  count-by true = refl
-  count-by false = refl
+  sets-by : (b : Bool) → (by-wait b ms o t s w) .sets ≡ (by-wait b ms o t s before) .sets
+  unfolding kept
+  sets-by true = rw (there, alone-too) refl
+  sets-by false = rw (there, alone-too) refl
+
+  arrivals-by : (b : Bool) → (by-wait b ms o t s w) .arrivals ≡ (by-wait b ms o t s before) .arrivals
+  unfolding kept
+  arrivals-by true = rw (there, alone-too) refl
+  arrivals-by false = rw (there, alone-too) refl
+
+  count-by : (b : Bool) → (by-wait b ms o t s w) .count ≡ (by-wait b ms o t s before) .count
+  unfolding kept
+  count-by true = rw (there, alone-too) refl
+  count-by false = rw (there, alone-too) refl
 
   -- how much it is
-  kept-long-by : (b : Bool) → (b ≡ true → length s ≡ 69) → length ((by-wait b o t s before) .kept) + w .count * entryLength ≡ (by-wait b o t s before) .count * entryLength
-  unfolding kept told
-  kept-long-by true q = omega (arith, length-tag-entry t s (q refl))
-  kept-long-by false q = omega arith
+  kept-long-by : (b : Bool) → (b ≡ true → length s ≡ 69) → length ((by-wait b ms o t s before) .kept) + w .count * entryLength ≡ (by-wait b ms o t s before) .count * entryLength
+  unfolding kept
+  kept-long-by true q = rw (alone-too) (omega (arith, length-tag-entry t s (q refl)))
+  kept-long-by false q = rw (alone-too) (omega arith)
 
-  records-long-by : (b : Bool) → length ((by-wait b o t s before) .records) ≡ 12
-  unfolding kept told
-  records-long-by true = length-record o t (recordIssue o s)
-  records-long-by false = length-record o t (recordIssue o s)
+  records-long-by : (b : Bool) → length ((by-wait b ms o t s before) .records) ≡ 12
+  unfolding kept
+  records-long-by true = told-long ms t s o before
+  records-long-by false = told-long ms t s o before
 
-  count-low-by : (b : Bool) → w .count ≤ (by-wait b o t s before) .count
-  unfolding kept told
-  count-low-by true = omega arith
-  count-low-by false = omega arith
+  count-low-by : (b : Bool) → w .count ≤ (by-wait b ms o t s before) .count
+  unfolding kept
+  count-low-by true = rw (alone-too) (omega arith)
+  count-low-by false = rw (alone-too) (omega arith)
 
-  count-high-by : (b : Bool) → w .count ≤ 256 → (b ≡ true → w .count < 256) → (by-wait b o t s before) .count ≤ 256
-  unfolding kept told
-  count-high-by true q r = omega (arith, r refl)
-  count-high-by false q r = omega arith
+  count-high-by : (b : Bool) → w .count ≤ 256 → (b ≡ true → w .count < 256) → (by-wait b ms o t s before) .count ≤ 256
+  unfolding kept
+  count-high-by true q r = rw (alone-too) (omega (arith, r refl))
+  count-high-by false q r = rw (alone-too) (omega arith)
 
 -- the same of a field that is not lost
 module _ (config : List ℕ) (n : Nav) (c : Chain) (h : Held) (x : Section) (j : ℕ) (w : Work) where
@@ -170,35 +177,35 @@ module _ (config : List ℕ) (n : Nav) (c : Chain) (h : Held) (x : Section) (j :
 
   own-kept : own-all .kept ≡ w .kept ++ own-one .kept
   unfolding ownJudged
-  own-kept = kept-by o t s w (eqb o 5)
+  own-kept = kept-by (c .ms) o t s w (eqb o 5)
 
   own-records : own-all .records ≡ w .records ++ own-one .records
   unfolding ownJudged
-  own-records = records-by o t s w (eqb o 5)
+  own-records = records-by (c .ms) o t s w (eqb o 5)
 
   own-sets : own-all .sets ≡ own-one .sets
   unfolding ownJudged
-  own-sets = sets-by o t s w (eqb o 5)
+  own-sets = sets-by (c .ms) o t s w (eqb o 5)
 
   own-arrivals : own-all .arrivals ≡ own-one .arrivals
   unfolding ownJudged
-  own-arrivals = arrivals-by o t s w (eqb o 5)
+  own-arrivals = arrivals-by (c .ms) o t s w (eqb o 5)
 
   own-count : own-all .count ≡ own-one .count
   unfolding ownJudged
-  own-count = count-by o t s w (eqb o 5)
+  own-count = count-by (c .ms) o t s w (eqb o 5)
 
   own-kept-long : length (own-one .kept) + w .count * entryLength ≡ own-one .count * entryLength
   unfolding ownJudged
-  own-kept-long = kept-long-by o t s w (eqb o 5) (λ _. length-set-of (n .words) ((ownTag c x j) .prn))
+  own-kept-long = kept-long-by (c .ms) o t s w (eqb o 5) (λ _. length-set-of (n .words) ((ownTag c x j) .prn))
 
   own-records-long : length (own-one .records) ≡ 12
   unfolding ownJudged
-  own-records-long = records-long-by o t s w (eqb o 5)
+  own-records-long = records-long-by (c .ms) o t s w (eqb o 5)
 
   own-count-low : w .count ≤ own-one .count
   unfolding ownJudged
-  own-count-low = count-low-by o t s w (eqb o 5)
+  own-count-low = count-low-by (c .ms) o t s w (eqb o 5)
 
   own-free : o ≡ 5 → w .count < 256
   unfolding ownOutcome
@@ -209,7 +216,7 @@ module _ (config : List ℕ) (n : Nav) (c : Chain) (h : Held) (x : Section) (j :
 
   own-count-high : w .count ≤ 256 → own-one .count ≤ 256
   unfolding ownJudged
-  own-count-high q = count-high-by o t s w (eqb o 5) q (λ e. own-free (eqb-true o 5 e))
+  own-count-high q = count-high-by (c .ms) o t s w (eqb o 5) q (λ e. own-free (eqb-true o 5 e))
 
 -- the same of any field: a lost one adds its record alone
 module _ (config : List ℕ) (n : Nav) (c : Chain) (h : Held) (x : Section) (marks j : ℕ) (w : Work) where
@@ -221,7 +228,7 @@ module _ (config : List ℕ) (n : Nav) (c : Chain) (h : Held) (x : Section) (mar
 
   -- field j by whether it is lost
   abbrev by-loss : Bool → Work → Work
-  by-loss b v = cond b (told 8 (lostTag c x marks j) [] v) (ownJudged config n c h x j v)
+  by-loss b v = cond b (told (c .ms) 8 (lostTag c x marks j) [] v) (ownJudged config n c h x j v)
 
   abbrev alone : Work
   alone = start (w .count) (w .sets) (w .arrivals)
@@ -230,39 +237,39 @@ module _ (config : List ℕ) (n : Nav) (c : Chain) (h : Held) (x : Section) (mar
   lost = fieldLost config c (x .time) marks j
 
   loss-kept : (b : Bool) → (by-loss b w) .kept ≡ w .kept ++ (by-loss b alone) .kept
-  loss-kept true = kept-by 8 (lostTag c x marks j) [] w false
+  loss-kept true = kept-by (c .ms) 8 (lostTag c x marks j) [] w false
   loss-kept false = own-kept config n c h x j w
 
   loss-records : (b : Bool) → (by-loss b w) .records ≡ w .records ++ (by-loss b alone) .records
-  loss-records true = records-by 8 (lostTag c x marks j) [] w false
+  loss-records true = records-by (c .ms) 8 (lostTag c x marks j) [] w false
   loss-records false = own-records config n c h x j w
 
   loss-sets : (b : Bool) → (by-loss b w) .sets ≡ (by-loss b alone) .sets
-  loss-sets true = sets-by 8 (lostTag c x marks j) [] w false
+  loss-sets true = sets-by (c .ms) 8 (lostTag c x marks j) [] w false
   loss-sets false = own-sets config n c h x j w
 
   loss-arrivals : (b : Bool) → (by-loss b w) .arrivals ≡ (by-loss b alone) .arrivals
-  loss-arrivals true = arrivals-by 8 (lostTag c x marks j) [] w false
+  loss-arrivals true = arrivals-by (c .ms) 8 (lostTag c x marks j) [] w false
   loss-arrivals false = own-arrivals config n c h x j w
 
   loss-count : (b : Bool) → (by-loss b w) .count ≡ (by-loss b alone) .count
-  loss-count true = count-by 8 (lostTag c x marks j) [] w false
+  loss-count true = count-by (c .ms) 8 (lostTag c x marks j) [] w false
   loss-count false = own-count config n c h x j w
 
   loss-kept-long : (b : Bool) → length ((by-loss b alone) .kept) + w .count * entryLength ≡ (by-loss b alone) .count * entryLength
-  loss-kept-long true = kept-long-by 8 (lostTag c x marks j) [] w false (λ e. true-false (sym e))
+  loss-kept-long true = kept-long-by (c .ms) 8 (lostTag c x marks j) [] w false (λ e. true-false (sym e))
   loss-kept-long false = own-kept-long config n c h x j w
 
   loss-records-long : (b : Bool) → length ((by-loss b alone) .records) ≡ 12
-  loss-records-long true = records-long-by 8 (lostTag c x marks j) [] w false
+  loss-records-long true = records-long-by (c .ms) 8 (lostTag c x marks j) [] w false
   loss-records-long false = own-records-long config n c h x j w
 
   loss-count-low : (b : Bool) → w .count ≤ (by-loss b alone) .count
-  loss-count-low true = count-low-by 8 (lostTag c x marks j) [] w false
+  loss-count-low true = count-low-by (c .ms) 8 (lostTag c x marks j) [] w false
   loss-count-low false = own-count-low config n c h x j w
 
   loss-count-high : (b : Bool) → w .count ≤ 256 → (by-loss b alone) .count ≤ 256
-  loss-count-high true q = count-high-by 8 (lostTag c x marks j) [] w false q (λ e. true-false (sym e))
+  loss-count-high true q = count-high-by (c .ms) 8 (lostTag c x marks j) [] w false q (λ e. true-false (sym e))
   loss-count-high false q = own-count-high config n c h x j w q
 
   pub field-kept : all .kept ≡ w .kept ++ one .kept
@@ -346,35 +353,35 @@ module _ (config : List ℕ) (n : Nav) (c : Chain) (h : Held) (x : Section) (wai
 
 -- ---- what one tag leaves
 
-tells-by : (b : Bool) (o count at : ℕ) (t : Tag) (s waiting sets arrivals area sets′ arrivals′ area′ : List ℕ) → b ≡ false
-    → Tells (told o t s (start 0 sets arrivals)) (at * 12) area sets′ arrivals′ area′
-    → Leaves (by-wait b o t s (start count sets arrivals)) count at waiting area waiting sets′ arrivals′ area′ count
-unfolding told
-tells-by true o count at t s waiting sets arrivals area sets′ arrivals′ area′ e q = true-false e
-tells-by false o count at t s waiting sets arrivals area sets′ arrivals′ area′ e q =
-    record { entries = sym (splice-nil waiting (count * entryLength)); sets = q .sets; arrivals = q .arrivals; records = q .records; count = refl }
+tells-by : (b : Bool) (ms o count at : ℕ) (t : Tag) (s waiting sets arrivals area sets′ arrivals′ area′ : List ℕ) → b ≡ false
+    → Tells (told ms o t s (start 0 sets arrivals)) (at * 12) area sets′ arrivals′ area′
+    → Leaves (by-wait b ms o t s (start count sets arrivals)) count at waiting area waiting sets′ arrivals′ area′ count
+tells-by true ms o count at t s waiting sets arrivals area sets′ arrivals′ area′ e q = true-false e
+tells-by false ms o count at t s waiting sets arrivals area sets′ arrivals′ area′ e q =
+    rw (told-after ms t s o (start count sets arrivals))
+    (record { entries = sym (splice-nil waiting (count * entryLength)); sets = q .sets; arrivals = q .arrivals; records = q .records; count = refl })
 
-waits-by : (b : Bool) (o count at : ℕ) (t : Tag) (s waiting sets arrivals area waiting′ sets′ arrivals′ area′ : List ℕ) → b ≡ true
-    → Tells (told o t s (start 0 sets arrivals)) (at * 12) area sets′ arrivals′ area′ → waiting′ ≡ splice waiting (count * entryLength) (tagEntry t s)
-    → Leaves (by-wait b o t s (start count sets arrivals)) count at waiting area waiting′ sets′ arrivals′ area′ (count + 1)
-unfolding kept told
-waits-by true o count at t s waiting sets arrivals area waiting′ sets′ arrivals′ area′ e q p =
-    record { entries = p; sets = q .sets; arrivals = q .arrivals; records = q .records; count = refl }
-waits-by false o count at t s waiting sets arrivals area waiting′ sets′ arrivals′ area′ e q p = true-false (sym e)
+waits-by : (b : Bool) (ms o count at : ℕ) (t : Tag) (s waiting sets arrivals area waiting′ sets′ arrivals′ area′ : List ℕ) → b ≡ true
+    → Tells (told ms o t s (start 0 sets arrivals)) (at * 12) area sets′ arrivals′ area′ → waiting′ ≡ splice waiting (count * entryLength) (tagEntry t s)
+    → Leaves (by-wait b ms o t s (start count sets arrivals)) count at waiting area waiting′ sets′ arrivals′ area′ (count + 1)
+unfolding kept
+waits-by true ms o count at t s waiting sets arrivals area waiting′ sets′ arrivals′ area′ e q p =
+    rw (told-after ms t s o (start count sets arrivals)) (record { entries = p; sets = q .sets; arrivals = q .arrivals; records = q .records; count = refl })
+waits-by false ms o count at t s waiting sets arrivals area waiting′ sets′ arrivals′ area′ e q p = true-false (sym e)
 
-pub told-leaves : (o count at : ℕ) (t : Tag) (s waiting sets arrivals area sets′ arrivals′ area′ : List ℕ) → (o ≡ 5 → ⊥)
-    → Tells (told o t s (start 0 sets arrivals)) (at * 12) area sets′ arrivals′ area′
-    → Leaves (settled o t s (start count sets arrivals)) count at waiting area waiting sets′ arrivals′ area′ count
+pub told-leaves : (ms o count at : ℕ) (t : Tag) (s waiting sets arrivals area sets′ arrivals′ area′ : List ℕ) → (o ≡ 5 → ⊥)
+    → Tells (told ms o t s (start 0 sets arrivals)) (at * 12) area sets′ arrivals′ area′
+    → Leaves (settled ms o t s (start count sets arrivals)) count at waiting area waiting sets′ arrivals′ area′ count
 unfolding settled
-told-leaves o count at t s waiting sets arrivals area sets′ arrivals′ area′ p q =
-    tells-by (eqb o 5) o count at t s waiting sets arrivals area sets′ arrivals′ area′ (ne-eqb o 5 p) q
+told-leaves ms o count at t s waiting sets arrivals area sets′ arrivals′ area′ p q =
+    tells-by (eqb o 5) ms o count at t s waiting sets arrivals area sets′ arrivals′ area′ (ne-eqb o 5 p) q
 
-pub waits-leaves : (o count at : ℕ) (t : Tag) (s waiting sets arrivals area waiting′ sets′ arrivals′ area′ : List ℕ) → o ≡ 5
-    → Tells (told o t s (start 0 sets arrivals)) (at * 12) area sets′ arrivals′ area′ → waiting′ ≡ splice waiting (count * entryLength) (tagEntry t s)
-    → Leaves (settled o t s (start count sets arrivals)) count at waiting area waiting′ sets′ arrivals′ area′ (count + 1)
+pub waits-leaves : (ms o count at : ℕ) (t : Tag) (s waiting sets arrivals area waiting′ sets′ arrivals′ area′ : List ℕ) → o ≡ 5
+    → Tells (told ms o t s (start 0 sets arrivals)) (at * 12) area sets′ arrivals′ area′ → waiting′ ≡ splice waiting (count * entryLength) (tagEntry t s)
+    → Leaves (settled ms o t s (start count sets arrivals)) count at waiting area waiting′ sets′ arrivals′ area′ (count + 1)
 unfolding settled
-waits-leaves o count at t s waiting sets arrivals area waiting′ sets′ arrivals′ area′ p q e =
-    waits-by (eqb o 5) o count at t s waiting sets arrivals area waiting′ sets′ arrivals′ area′ (eq-eqb o 5 p) q e
+waits-leaves ms o count at t s waiting sets arrivals area waiting′ sets′ arrivals′ area′ p q e =
+    waits-by (eqb o 5) ms o count at t s waiting sets arrivals area waiting′ sets′ arrivals′ area′ (eq-eqb o 5 p) q e
 
 -- ---- no field yet, and one more of the first fields
 

@@ -10,10 +10,10 @@ use Rattle.rules.specs.Tags.{Work, told, kept, tagEntry}
 use Rattle.rules.specs.declared.Tag.{Tag}
 use Rattle.rules.specs.State.{entryLength}
 
--- a tag of this outcome: its record and its set, and a tag that waits keeps a copy of its set
-unfoldable pub settled : ℕ → Tag → List ℕ → Work → Work
-settled outcome t navdata w =
-    cond (eqb outcome 5) (kept (tagEntry t navdata) (told outcome t navdata w)) (told outcome t navdata w)
+-- a tag of this outcome, of a chain with tags of `ms` bits: its record and its satellite's sets, and a tag that waits keeps a copy of its set
+unfoldable pub settled : ℕ → ℕ → Tag → List ℕ → Work → Work
+settled ms outcome t navdata w =
+    cond (eqb outcome 5) (kept (tagEntry t navdata) (told ms outcome t navdata w)) (told ms outcome t navdata w)
 
 -- after n fields, r tags wait where `count` did, an entry each, and each field has a record of 12 bytes
 pub record Grows (w : Work) (count n r : ℕ) : Type 0 where

@@ -1,5 +1,5 @@
-// The section's own tags (01, "MACK", "Tag outcomes"): field by field, each gets its outcome, its record, and for outcome 1 its set becomes
-// the satellite's authentic one; a tag whose key is still to come waits with a copy of its set. A field of which too much is lost has outcome 8
+// The section's own tags (01, "MACK", "Tag outcomes"): field by field, each gets its outcome, its record, and where it agrees with its set, the
+// satellite's sets follow (02, P4); a tag whose key is still to come waits with a copy of its set. A field of which too much is lost has outcome 8
 // before any other (02, P3). `judge_own` is the public call.
 use chain::Way;
 use rules::Chain;
@@ -25,6 +25,7 @@ ghost use Rattle.section_tags.specs.Own.{settled, Grows};
 // A tag of this outcome, after `count` that wait: its record goes to place `at`, and a tag that waits to the next place. Gives how many
 // wait then.
 fn settle(
+    ms: u64,
     outcome: u8,
     t: Tag,
     set: &[u8],
@@ -37,11 +38,11 @@ fn settle(
 ) -> usize
     requires { ⌜ ((length (now sets) ≡ setsLength) × (length (now arrivals) ≡ arrivalsLength))
         × ((length (now waiting) ≡ waitingLength) × (length (now area) ≡ areaLength)) ⌝ }
-    requires { ⌜ ((length (now set) ≡ copyLength) × (at < 270)) × ((count ≤ 256) × (outcome ≡ 5 → count < 256)) ⌝ }
-    ensures { λ r. ⌜ Leaves (settled outcome t (now (set .entry)) (start count (now (sets .entry)) (now (arrivals .entry)))) count at
+    requires { ⌜ (((length (now set) ≡ copyLength) × (at < 270)) × ((count ≤ 256) × (outcome ≡ 5 → count < 256))) × (ms ≤ 40) ⌝ }
+    ensures { λ r. ⌜ Leaves (settled ms outcome t (now (set .entry)) (start count (now (sets .entry)) (now (arrivals .entry)))) count at
         (now (waiting .entry)) (now (area .entry)) (now (waiting .exit)) (now (sets .exit)) (now (arrivals .exit)) (now (area .exit)) r ⌝ }
 {
-    tag_records::tell(outcome, t, set, sets, arrivals, area, at * 12);
+    tag_records::tell(ms, outcome, t, set, sets, arrivals, area, at * 12);
     if outcome == 5 {
         waiting_tags::put_entry(waiting, count, t, set);
         return count + 1;
@@ -97,7 +98,18 @@ fn own_one(
         &set,
         count,
     );
-    settle(outcome, t, &set, waiting, count, sets, arrivals, area, at)
+    settle(
+        c.ms,
+        outcome,
+        t,
+        &set,
+        waiting,
+        count,
+        sets,
+        arrivals,
+        area,
+        at,
+    )
 }
 
 // Field j, lost or not. `fits` says that MACSEQ fits, and `macseq` that it came.
@@ -139,6 +151,7 @@ fn field_one(
         let t = tags::lost_tag(c, prn, time, status, mack, marks, j);
         let outcome = tags::outcome_number(Outcome::Lost);
         return settle(
+            c.ms,
             outcome,
             t,
             &[0u8; 69],

@@ -1,28 +1,25 @@
-// Tag records, and what an outcome does beside its record (01, "A tag record has 12 bytes"; "Outcome 1 replaces the satellite's
-// authentic set unless that set's tag came later"). Due tags and the section's own tags alike end here.
+// Tag records, and what a tag does beside its record (01, "A tag record has 12 bytes"; 02, P4, "Forty bits before a yes"). Due tags and the
+// section's own tags alike end here.
 // Public calls:
-//   tell                       the record of a tag of any outcome, and for outcome 1 its set
+//   tell                       a tag that was found to agree with its set, or to have another outcome: its satellite's sets, and its record
 //   record_issue, put_record   the parts of a record
 use rules::Tag;
 ghost use mathlib.Core.Path.{_≡_};
-ghost use mathlib.Core.Bool.{true, cond};
+ghost use mathlib.Core.Bool.{true};
 ghost use Prim.Native.Nat.{_+_, _≤_, _<_};
 ghost use lib.ListN.{length};
 ghost use Rattle.laws.specs.Lists.{splice};
-ghost use Rattle.rules.specs.Tags.{marksSet, setsEntered, arrivalsEntered, tagRecord, recordIssue, told};
+ghost use Rattle.rules.specs.Tags.{namesSatellite, tagRecord, recordIssue, told};
 ghost use Rattle.rules.specs.State.{setsLength, arrivalsLength, copyLength};
-ghost use Rattle.tag_records.specs.Told.{start, Tells};
+ghost use Rattle.tag_records.specs.Told.{start, Finds, Tells};
 
-// ---- the set of an authentic tag
+// ---- the outcome
 
-// Whether a tag of this outcome marks its set: outcome 1, and it names a satellite and a time.
-fn marks_set(outcome: u8, t: Tag) -> bool
-    ensures { λ r. ⌜ (r ≡ marksSet outcome t) × (r ≡ true → ((1 ≤ t .prn) × (t .prn ≤ 36)) × (t .time < 4294967295)) ⌝ }
+// Whether a tag names a satellite and a time.
+fn names_satellite(t: Tag) -> bool
+    ensures { λ r. ⌜ (r ≡ namesSatellite t) × (r ≡ true → ((1 ≤ t .prn) × (t .prn ≤ 36)) × (t .time < 4294967295)) ⌝ }
 {
     let prn = t.prn;
-    if outcome != 1 {
-        return false;
-    }
     if prn < 1 {
         return false;
     }
@@ -32,21 +29,26 @@ fn marks_set(outcome: u8, t: Tag) -> bool
     times::time_valid(t.time)
 }
 
-// The set of an authentic tag enters its satellite's place.
-fn enter(outcome: u8, t: Tag, set: &[u8], sets: &mut [u8], arrivals: &mut [u32])
-    requires { ⌜ ((length (now sets) ≡ setsLength) × (length (now arrivals) ≡ arrivalsLength)) × (length (now set) ≡ copyLength) ⌝ }
-    ensures { λ _. ⌜ (now (sets .exit) ≡ cond (marksSet outcome t) (setsEntered (now (sets .entry)) (now (arrivals .entry)) t (now (set .entry)))
-        (now (sets .entry)))
-        × (now (arrivals .exit) ≡ cond (marksSet outcome t) (arrivalsEntered (now (arrivals .entry)) t) (now (arrivals .entry))) ⌝ }
+// What a tag of `ms` bits was found to be: 1 says that it agrees with its set, another number is its outcome. Gives its outcome, after its
+// satellite's sets have what it leaves there.
+fn outcome_of(ms: u64, found: u8, t: Tag, set: &[u8], sets: &mut [u8], arrivals: &mut [u32]) -> u8
+    requires { ⌜ ((length (now sets) ≡ setsLength) × (length (now arrivals) ≡ arrivalsLength)) × ((length (now set) ≡ copyLength) × (ms ≤ 40)) ⌝ }
+    ensures { λ r. ⌜ Finds (told ms found t (now (set .entry)) (start 0 (now (sets .entry)) (now (arrivals .entry)))) t (now (set .entry))
+        (now (sets .exit)) (now (arrivals .exit)) r ⌝ }
 {
-    if marks_set(outcome, t) {
-        authentic_sets::enter_set(sets, arrivals, t, set);
+    if found != 1 {
+        return found;
     }
+    if !names_satellite(t) {
+        return 9;
+    }
+    authentic_sets::agree(sets, arrivals, ms, t, set)
 }
 
-// A tag has this outcome: its record goes to place `at` of the area, and for outcome 1 its set to its satellite's place.
+// A tag of `ms` bits and what it was found to be: its record goes to place `at` of the area, and where it agrees, its satellite's sets follow.
 pub fn tell(
-    outcome: u8,
+    ms: u64,
+    found: u8,
     t: Tag,
     set: &[u8],
     sets: &mut [u8],
@@ -56,12 +58,13 @@ pub fn tell(
 )
     requires { ⌜ ((length (now sets) ≡ setsLength) × (length (now arrivals) ≡ arrivalsLength))
         × ((length (now set) ≡ copyLength) × (at + 12 ≤ length (now area))) ⌝ }
-    ensures { λ _. ⌜ Tells (told outcome t (now (set .entry)) (start 0 (now (sets .entry)) (now (arrivals .entry)))) at (now (area .entry))
+    requires { ⌜ ms ≤ 40 ⌝ }
+    ensures { λ _. ⌜ Tells (told ms found t (now (set .entry)) (start 0 (now (sets .entry)) (now (arrivals .entry)))) at (now (area .entry))
         (now (sets .exit)) (now (arrivals .exit)) (now (area .exit)) ⌝ }
 {
+    let outcome = outcome_of(ms, found, t, set, sets, arrivals);
     let issue = record_issue(outcome, set);
     put_record(area, at, outcome, t, issue);
-    enter(outcome, t, set, sets, arrivals);
 }
 
 // ---- the record

@@ -145,7 +145,7 @@ pub fn judged(matches: bool) -> Outcome
     ensures { λ r. ⌜ outcomeNumber r ≡ cond matches 1 2 ⌝ }
 {
     if matches {
-        return Outcome::Authentic;
+        return Outcome::Agrees;
     }
     Outcome::Wrong
 }
@@ -187,7 +187,7 @@ pub fn outcome_number(o: Outcome) -> u8
     ensures { λ r. ⌜ r ≡ outcomeNumber o ⌝ }
 {
     match o {
-        Outcome::Authentic => 1,
+        Outcome::Agrees => 1,
         Outcome::Wrong => 2,
         Outcome::NoUsableSet => 3,
         Outcome::NotAllowed => 4,

@@ -32,7 +32,7 @@ pub struct Answer {
     /// Its number; of a sub-frame the HKROOT half's.
     pub hkroot: u32,
     pub mack: u32,
-    /// Tag records, and those of them whose tags were judged by their codes: outcomes 1 and 2.
+    /// Tag records, and those of them whose tags were judged by their codes: outcomes 1, 2 and 9.
     pub records: usize,
     pub judged: usize,
 }
@@ -92,7 +92,7 @@ impl Heard {
                     records: told.tags.len(),
                     judged: told
                         .tags
-                        .filter(|tag| matches!(tag.outcome.number(), 1 | 2))
+                        .filter(|tag| matches!(tag.outcome.number(), 1 | 2 | 9))
                         .count(),
                 };
             }
@@ -126,7 +126,9 @@ impl Heard {
                     hkroot: told.hkroot.into(),
                     mack: told.mack.into(),
                     records: told.records,
-                    judged: records.filter(|record| matches!(record[0], 1 | 2)).count(),
+                    judged: records
+                        .filter(|record| matches!(record[0], 1 | 2 | 9))
+                        .count(),
                 };
             }
             _ => second.verdict(call[1], call[2], part::<45>(call, 3), part::<132>(call, 48)),

@@ -15,10 +15,11 @@ use std::collections::{BTreeMap, BTreeSet};
 const WORD: u8 = 2;
 const SUBFRAME: u8 = 3;
 
-/// Outcomes of tags (01, MACK).
+/// Outcomes of tags (01, MACK; 02, P4).
 const AUTHENTIC: u8 = 1;
 const WRONG: u8 = 2;
 const WAITS: u8 = 5;
+const AGREES: u8 = 9;
 
 /// IODnav of a satellite's words, from this record on.
 #[derive(Clone, Copy, Debug, PartialEq, Eq)]
@@ -163,16 +164,17 @@ pub fn told(run: &Run) -> Result<Vec<String>, String> {
 
     let tags = tags(&answers);
     let outcomes = |outcome| tags.iter().filter(move |t| t.outcome == outcome);
-    let (authentic, wrong, waited) = (
+    let (authentic, agree, wrong, waited) = (
         outcomes(AUTHENTIC).count(),
+        outcomes(AGREES).count(),
         outcomes(WRONG).count(),
         outcomes(WAITS).count(),
     );
     let slow_judged = tags
         .iter()
-        .filter(|t| t.adkd != 0 && [AUTHENTIC, WRONG].contains(&t.outcome))
+        .filter(|t| t.adkd != 0 && [AUTHENTIC, AGREES, WRONG].contains(&t.outcome))
         .count();
-    let other = tags.len() - authentic - wrong - waited;
+    let other = tags.len() - authentic - agree - wrong - waited;
 
     // A repeater: words that go back to an older set and return.
     let away: Vec<(u8, [Heard; 3])> = heard
@@ -205,7 +207,10 @@ pub fn told(run: &Run) -> Result<Vec<String>, String> {
             first.second_of_week(),
             clock(last)
         ),
-        format!("tags judged: {authentic} authentic, {wrong} wrong, {other} not usable"),
+        format!(
+            "tags judged: {authentic} authentic, {agree} agree with data that has fewer than 40 tag bits, \
+             {wrong} wrong, {other} not usable"
+        ),
         format!(
             "tags that had to wait for their key: {waited}, of which {} wait still",
             waited - slow_judged
@@ -237,9 +242,10 @@ pub fn told(run: &Run) -> Result<Vec<String>, String> {
         require(now.bits == old.bits && now.time > to, || {
             format!("E{prn:02}: the satellite's own words are not authentic at the end")
         })?;
-        let marked = outcomes(AUTHENTIC).any(|t| t.prn == *prn && t.iodnav == other.iodnav);
-        require(!marked, || {
-            format!("E{prn:02}: a tag marked the repeater's words")
+        let matched = [AUTHENTIC, AGREES].into_iter().flat_map(&outcomes);
+        let mut of_repeater = matched.filter(|t| t.prn == *prn && t.iodnav == other.iodnav);
+        require(of_repeater.next().is_none(), || {
+            format!("E{prn:02}: a tag matched the repeater's words")
         })?;
         lines.push(format!(
             "   E{prn:02}  {:>3}, {:>3}         {:>3} ({})    {:>3} ({})      {:>3} ({})",
@@ -276,7 +282,7 @@ pub fn told(run: &Run) -> Result<Vec<String>, String> {
         })?;
         if of.len() > 1 {
             lines.push(format!(
-                "E{prn:02} sent new data at {} (IODnav {}): authentic at the end, by a tag of {}.",
+                "E{prn:02} sent new data at {} (IODnav {}): authentic at the end, its latest tag of {}.",
                 clock(newest.time),
                 newest.iodnav,
                 clock(now.time)

@@ -7,7 +7,7 @@ use std::io::{self, Write};
 
 /// The first line.
 pub const HEAD: &str = "start,record,outcome,meaning,sender,prn,adkd,block,position,iodnav,\
-    arrival_week,arrival_second,arrival_gst,key_slot,root_verdict_record";
+    arrival_week,arrival_second,arrival_gst,key_slot,root_verdict_record,agreeing_bits";
 
 /// An outcome in words.
 pub fn meaning(outcome: Outcome) -> &'static str {
@@ -20,13 +20,15 @@ pub fn meaning(outcome: Outcome) -> &'static str {
         Outcome::SequenceUnfit => "MACSEQ fails",
         Outcome::NoPlace => "no place",
         Outcome::BitsMissing => "bits missing",
+        Outcome::Agrees => "agrees",
         _ => "not listed",
     }
 }
 
 /// Writes every tag record as its record comes, in the order of the answers. A key's slot is counted
-/// from the root in force then; the last field is the record of the verdict that put that root in
-/// force.
+/// from the root in force then, and after it comes the record of the verdict that put that root in
+/// force. The last field is of tags that agree (outcome 9): the bits that agree on the same data, with
+/// this tag's; none where a later tag's data stays the candidate.
 pub struct Rows<W> {
     output: W,
     begun: bool,
@@ -79,7 +81,7 @@ impl<W: Write> Rows<W> {
         let or_none = |n: Option<u64>| n.map_or(String::new(), |n| n.to_string());
         writeln!(
             self.output,
-            "{},{},{},{},{},{},{},{},{},{},{},{},{},{},{}",
+            "{},{},{},{},{},{},{},{},{},{},{},{},{},{},{},{}",
             run.place,
             judged.place,
             tag.outcome.number(),
@@ -95,6 +97,7 @@ impl<W: Write> Rows<W> {
             time::full(tag.time),
             or_none(slot),
             or_none(root.map(|root| root.vouch.place)),
+            or_none(judged.bits.map(u64::from)),
         )
     }
 }

@@ -1,7 +1,7 @@
 //! The data of a satellite as it was heard: words 1 to 5, and the stretches between their changes.
 
 use crate::time::{self, SUBFRAME};
-use osnma::{Gst, WORD_LEN};
+use osnma::{Gst, Outcome, AUTHENTIC_BITS, SET_LEN, WORD_LEN};
 use std::collections::VecDeque;
 
 /// Stretches of a satellite that are kept.
@@ -16,6 +16,22 @@ impl Words {
     fn authenticated(kind: usize) -> u128 {
         let last = [125, 125, 127, 125, 72][kind - 1];
         u128::MAX >> 6 & u128::MAX << (127 - last)
+    }
+
+    /// The authenticated bits of all five, one after another, and three zero bits, as a read gives them.
+    fn set(&self) -> Option<[u8; SET_LEN]> {
+        let mut set = [0; SET_LEN];
+        let mut at = 0;
+        for (kind, word) in (1..).zip(self.0) {
+            let authenticated = Words::authenticated(kind);
+            // None begins so late in a byte that a bit would be lost.
+            let bits = (word? & authenticated) << 6 >> (at % 8);
+            for (byte, more) in set[at / 8..].iter_mut().zip(bits.to_be_bytes()) {
+                *byte |= more;
+            }
+            at += authenticated.count_ones() as usize;
+        }
+        Some(set)
     }
 
     /// The one IODnav of words 1 to 4: their bits 6 to 15.
@@ -44,37 +60,42 @@ pub struct Stretch {
     pub whole: bool,
     /// IODnav of words 1 to 4; none where they differ or lack.
     pub iodnav: Option<u16>,
-    /// Tags that matched it.
-    pub matched: u64,
-    /// Tags that did not.
+    /// Tags that showed it to be authentic.
+    pub authentic: u64,
+    /// Bits of the tags that agree with it, these and those that were short of a mark.
+    pub bits: u64,
+    /// Tags that did not match it.
     pub wrong: u64,
-    /// When the last that matched came.
+    /// When the last that agrees came.
     last_match: Option<Gst>,
-    /// When the first that did not came.
+    /// When the first that did not match came.
     first_wrong: Option<Gst>,
 }
 
 impl Stretch {
-    /// Whether tags matched it for a while and then no more: the system sends newer data.
+    /// Whether it was authentic for a while and then no more: the system sends newer data.
     pub fn is_older(&self) -> bool {
-        self.matched > 0 && self.wrong > 0 && !self.is_disputed()
+        self.authentic > 0 && self.wrong > 0 && !self.is_disputed()
     }
 
-    /// Whether tags both matched it and did not, so that the match may be by chance: one came with
-    /// or after a wrong one, or too few came before it.
+    /// Whether it was marked and tags both match it and do not, so that a match may be by chance: one
+    /// came with or after a wrong one, or too few bits before it. Data that was marked before and comes
+    /// back is marked by a single tag (02, P4).
     pub fn is_disputed(&self) -> bool {
-        // Four of the shortest tags are 40 bits (02, P4).
-        const FEW: u64 = 4;
         let between = self.last_match.zip(self.first_wrong);
-        between.is_some_and(|(last, first)| last >= first || self.matched < FEW)
+        let few = self.bits < u64::from(AUTHENTIC_BITS);
+        self.authentic > 0 && between.is_some_and(|(last, first)| last >= first || few)
     }
 }
 
-/// Data that no tag matched: there was none for it, or it could not be compared.
+/// Data that was not shown to be authentic.
 #[derive(Clone, Copy, Debug, Default, PartialEq, Eq)]
 pub struct Unproved {
-    /// The first half minute in which it came, and the last.
+    /// Data that no tag agrees with: there was none for it, or it could not be compared. The first half
+    /// minute in which it came, and the last.
     pub span: Option<(Gst, Gst)>,
+    /// The same of data that tags agree with, by too few bits.
+    pub short: Option<(Gst, Gst)>,
     /// Seconds of the longest time in which nothing else came.
     pub longest: u64,
     /// Since when nothing else has come.
@@ -84,13 +105,17 @@ pub struct Unproved {
 impl Unproved {
     /// Takes in the next stretch.
     fn add(&mut self, stretch: &Stretch) {
-        if stretch.matched > 0 {
+        if stretch.authentic > 0 {
             self.since = None;
             return;
         }
         let since = *self.since.get_or_insert(stretch.from);
-        let (first, _) = self.span.unwrap_or((stretch.from, stretch.last));
-        self.span = Some((first, stretch.last));
+        let span = match stretch.bits {
+            0 => &mut self.span,
+            _ => &mut self.short,
+        };
+        let (first, _) = span.unwrap_or((stretch.from, stretch.last));
+        *span = Some((first, stretch.last));
         let seconds = time::seconds(stretch.last).saturating_sub(time::seconds(since));
         self.longest = self.longest.max(seconds);
     }
@@ -161,7 +186,8 @@ impl Data {
             last: from,
             whole: false,
             iodnav: None,
-            matched: 0,
+            authentic: 0,
+            bits: 0,
             wrong: 0,
             last_match: None,
             first_wrong: None,
@@ -187,7 +213,13 @@ impl Data {
         self.before.older || self.stretches.iter().any(Stretch::is_older)
     }
 
-    /// What of it no tag matched.
+    /// The 549 bits that a tag which comes now is compared with, and three zero bits; none where a word
+    /// lacks.
+    pub fn set(&self) -> Option<[u8; SET_LEN]> {
+        self.words.set()
+    }
+
+    /// What of it was not shown to be authentic.
     pub fn unproved(&self) -> Unproved {
         let mut all = self.before.unproved;
         self.stretches.iter().for_each(|stretch| all.add(stretch));
@@ -199,22 +231,29 @@ impl Data {
         self.left_out + self.stretches.len() as u64
     }
 
-    /// A tag that came at a time in the stretch of this number matched, or did not. Gives the
-    /// stretch, where it is kept.
-    pub fn judge(&mut self, stretch: u64, at: Gst, matched: bool) -> Option<&Stretch> {
+    /// A tag of so many bits that came at a time in the stretch of this number is authentic, agrees or
+    /// is wrong. Gives the stretch, where it is kept.
+    pub fn judge(
+        &mut self,
+        stretch: u64,
+        at: Gst,
+        outcome: Outcome,
+        tag_bits: u32,
+    ) -> Option<&Stretch> {
         let Some(place) = stretch.checked_sub(self.left_out + 1) else {
             // What else tags said of it is not known any more.
-            self.before.disputed |= matched;
+            self.before.disputed |= outcome == Outcome::Authentic;
             return None;
         };
         let stretch = self.stretches.get_mut(place as usize)?;
-        if matched {
-            stretch.matched += 1;
-            stretch.last_match = stretch.last_match.max(Some(at));
-        } else {
+        if outcome == Outcome::Wrong {
             stretch.wrong += 1;
             let first = stretch.first_wrong.map_or(at, |first| first.min(at));
             stretch.first_wrong = Some(first);
+        } else {
+            stretch.authentic += u64::from(outcome == Outcome::Authentic);
+            stretch.bits += u64::from(tag_bits);
+            stretch.last_match = stretch.last_match.max(Some(at));
         }
         Some(stretch)
     }
@@ -234,6 +273,7 @@ impl Data {
 #[cfg(test)]
 mod tests {
     use super::*;
+    use Outcome::{Agrees, Authentic, Wrong};
 
     fn gst(half_minute: u32) -> Gst {
         Gst::new(947, half_minute * 30).unwrap()
@@ -287,32 +327,81 @@ mod tests {
             ]
         );
         for stretch in [0, 4] {
-            assert_eq!(data.judge(stretch, gst(4), true), None);
+            assert_eq!(data.judge(stretch, gst(4), Authentic, 12), None);
         }
-        assert_eq!(data.judge(3, gst(4), true).unwrap().matched, 1);
+        let stretch = data.judge(3, gst(4), Authentic, 12).unwrap();
+        assert_eq!((stretch.authentic, stretch.bits), (1, 12));
     }
 
-    // A tag that matches with or after a wrong one; one alone before it; many before it.
+    // 549 bits of five words in order: of all ones the last three bits are zero, and each word's first and
+    // last authenticated bit stand where the lengths of those before it put them.
+    #[test]
+    fn sets() {
+        let held = |word: u128| Words([Some(word); 5]).set().unwrap();
+        let mut ones = [255; SET_LEN];
+        ones[SET_LEN - 1] = 0xF8;
+        assert_eq!(held(u128::MAX), ones);
+        assert_eq!(held(0), [0; SET_LEN]);
+        assert_eq!(held(!(u128::MAX >> 6)), [0; SET_LEN]);
+        let mut at = 0;
+        for (kind, last) in [125, 125, 127, 125, 72].into_iter().enumerate() {
+            for bit in [6, last] {
+                let mut words = Words([Some(0); 5]);
+                words.0[kind] = Some(1 << (127 - bit));
+                let place = at + bit - 6;
+                let mut set = [0; SET_LEN];
+                set[place / 8] = 128 >> (place % 8);
+                assert_eq!(words.set(), Some(set), "word {kind}, bit {bit}");
+            }
+            at += last - 5;
+        }
+        let mut lacks = Words([Some(0); 5]);
+        lacks.0[3] = None;
+        assert_eq!(lacks.set(), None);
+    }
+
+    // Of marked data: a tag that matches with or after a wrong one; one alone before it, of 12 bits and of
+    // 40; many before it. Data that tags only agree with is not marked, so that nothing is disputed.
     #[test]
     fn disputed() {
-        let judged = |tags: &[(u32, bool)]| {
+        let judged = |tags: &[(u32, Outcome)], bits: u32| {
             let mut data = Data::default();
             all(&mut data, 0, 66);
-            for &(at, matched) in tags {
-                data.judge(1, gst(at), matched);
+            for &(at, outcome) in tags {
+                data.judge(1, gst(at), outcome, bits);
             }
             let stretch = data.stretches().next().unwrap();
             (stretch.is_disputed(), stretch.is_older())
         };
-        let many = [(1, true), (2, true), (3, true), (4, true)];
-        for tags in [&[][..], &many, &[(1, false)]] {
-            assert_eq!(judged(tags), (false, false));
+        let many = [(1, Agrees), (2, Agrees), (3, Agrees), (4, Authentic)];
+        for tags in [&[][..], &many, &[(1, Wrong)], &[(1, Agrees), (1, Wrong)]] {
+            assert_eq!(judged(tags, 12), (false, false));
         }
-        let then = |more: &[(u32, bool)]| judged(&[&many[..], more].concat());
-        assert_eq!(then(&[(5, false), (6, false)]), (false, true));
-        assert_eq!(then(&[(4, false)]), (true, false));
-        assert_eq!(then(&[(5, false), (6, true)]), (true, false));
-        assert_eq!(judged(&[(1, true), (2, false), (3, false)]), (true, false));
+        let then = |more: &[(u32, Outcome)]| judged(&[&many[..], more].concat(), 12);
+        assert_eq!(then(&[(5, Wrong), (6, Wrong)]), (false, true));
+        assert_eq!(then(&[(4, Wrong)]), (true, false));
+        assert_eq!(then(&[(5, Wrong), (6, Authentic)]), (true, false));
+        let one = [(1, Authentic), (2, Wrong), (3, Wrong)];
+        assert_eq!(
+            (judged(&one, 12), judged(&one, 40)),
+            ((true, false), (false, true))
+        );
+    }
+
+    // Data that tags agree with, by too few bits, is told apart from data without a tag.
+    #[test]
+    fn short() {
+        let mut data = Data::default();
+        all(&mut data, 0, 66);
+        data.judge(1, gst(1), Agrees, 12);
+        all(&mut data, 2, 67);
+        let unproved = data.unproved();
+        assert_eq!(
+            (unproved.span, unproved.short, unproved.longest),
+            (Some((gst(2), gst(2))), Some((gst(0), gst(0))), 60)
+        );
+        data.judge(1, gst(1), Authentic, 12);
+        assert_eq!((data.unproved().short, data.unproved().longest), (None, 0));
     }
 
     // Words that do not go together can be compared with nothing, however often they change.
@@ -321,7 +410,7 @@ mod tests {
         let mut data = Data::default();
         assert_eq!(data.unproved(), Unproved::default());
         all(&mut data, 0, 66);
-        data.judge(1, gst(1), true);
+        data.judge(1, gst(1), Authentic, 40);
         all(&mut data, 1, 66);
         assert_eq!(data.unproved().span, None);
         for at in 2..9 {
@@ -333,7 +422,7 @@ mod tests {
             (Some((gst(2), gst(8))), 180)
         );
         all(&mut data, 9, 66);
-        data.judge(data.now(), gst(10), true);
+        data.judge(data.now(), gst(10), Authentic, 40);
         data.word(gst(10), &word(1, 70, 0));
         let unproved = data.unproved();
         assert_eq!(
@@ -360,15 +449,17 @@ mod tests {
         assert_eq!((data.now(), data.stretches().count()), (1_000, STRETCHES));
         let unproved = |data: &Data| (data.unproved().span, data.unproved().longest);
         assert_eq!(unproved(&data), (Some((gst(0), gst(999))), 999 * 30));
-        data.judge(1_000, gst(1_000), true);
+        data.judge(1_000, gst(1_000), Authentic, 40);
         assert_eq!(unproved(&data), (Some((gst(0), gst(998))), 998 * 30));
         assert!(!data.is_disputed());
         // A match of data that is no more kept: others may have called it wrong.
-        assert_eq!(data.judge(3, gst(1_000), true), None);
+        assert_eq!(data.judge(3, gst(1_000), Agrees, 12), None);
+        assert!(!data.is_disputed());
+        assert_eq!(data.judge(3, gst(1_000), Authentic, 40), None);
         assert!(data.is_disputed());
         let matched: Vec<Gst> = data
             .stretches()
-            .filter(|s| s.matched > 0)
+            .filter(|s| s.authentic > 0)
             .map(|s| s.from)
             .collect();
         assert_eq!(matched, [gst(999)]);

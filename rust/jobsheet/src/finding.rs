@@ -7,7 +7,7 @@ use crate::refused::Part;
 use crate::time::{self, Clock, SUBFRAME};
 use crate::vouched::Keys;
 use crate::words::{capital, count, issues, satellites, which};
-use osnma::{Gst, Refusal};
+use osnma::{Gst, Refusal, AUTHENTIC_BITS};
 use std::collections::{BTreeMap, BTreeSet};
 
 /// Seconds after which a satellite that is not heard is called silent.
@@ -275,7 +275,7 @@ fn out_of_date(run: &Run, clock: Clock) -> Option<Finding> {
     let spans = prns.iter().filter_map(|prn| run.out_of_date[prn].tags.span);
     let since = spans.map(|(first, _)| first).min()?;
     let text = format!(
-        "Not heard any more when the system sent newer data, since {}: what is marked is the older.",
+        "Not heard any more when the system sent newer data, since {}: what was heard is the older.",
         clock.say(since)
     );
     Some(Finding::bad(
@@ -296,13 +296,62 @@ pub fn unmarked(run: &Run) -> BTreeSet<u8> {
     unmarked.copied().collect()
 }
 
-/// Satellites with data that no tag matched, of these satellites, and when it came.
-fn unproved(run: &Run, of: impl Fn(u8, &Unproved) -> bool, clock: Clock) -> Option<String> {
+/// Satellites whose data was heard and not marked, though tags agree with it: with the most bits that did.
+pub fn short(run: &Run) -> BTreeMap<u8, u32> {
+    let most = |prn| Some((prn, run.candidates.get(&prn)?.most));
+    let all = unmarked(run).into_iter().filter_map(most);
+    all.filter(|(_, bits)| *bits > 0).collect()
+}
+
+/// Why tags that agree with data have not marked it, with the bits of each satellite.
+pub fn short_told(short: &BTreeMap<u8, u32>) -> String {
+    let mut by_bits: BTreeMap<u32, BTreeSet<u8>> = BTreeMap::new();
+    for (prn, bits) in short {
+        by_bits.entry(*bits).or_default().insert(*prn);
+    }
+    let told = |(bits, prns): (&u32, &BTreeSet<u8>)| {
+        let have = if prns.len() == 1 { "has" } else { "have" };
+        format!("{} {have} {bits}", satellites(prns))
+    };
+    format!(
+        "Tags agree with the data heard, but a mark takes {AUTHENTIC_BITS} bits of tags for the same \
+         data: {}.",
+        Vec::from_iter(by_bits.iter().rev().map(told)).join("; ")
+    )
+}
+
+/// A span of the unproved data of a satellite.
+type Span = fn(&Unproved) -> Option<(Gst, Gst)>;
+
+/// What of the data of these satellites was not proved, and when it came: data without a tag, then data
+/// that tags agree with.
+fn unproved(run: &Run, of: impl Fn(u8, &Unproved) -> bool, clock: Clock) -> Vec<String> {
+    let without = spans(run, &of, |unproved| unproved.span, clock);
+    let short = spans(run, &of, |unproved| unproved.short, clock);
+    let told = [
+        without.map(|spans| format!("No tag has judged data that came for {spans}.")),
+        short.map(|spans| {
+            format!(
+                "Tags agree with data that came for {spans}, but by fewer than the {AUTHENTIC_BITS} \
+                 bits that a mark takes."
+            )
+        }),
+    ];
+    told.into_iter().flatten().collect()
+}
+
+/// When such data came, and for which of these satellites.
+fn spans(
+    run: &Run,
+    of: &impl Fn(u8, &Unproved) -> bool,
+    span: Span,
+    clock: Clock,
+) -> Option<String> {
     const MOST: usize = 3;
     let mut by_span: BTreeMap<(Gst, Gst), BTreeSet<u8>> = BTreeMap::new();
     for (prn, data) in &run.data {
         let unproved = data.unproved();
-        if let Some(span) = unproved.span.filter(|_| of(*prn, &unproved)) {
+        if let Some(span) = span(&unproved).filter(|_| of(*prn, &unproved)) {
             by_span.entry(span).or_default().insert(*prn);
         }
     }
@@ -314,10 +363,10 @@ fn unproved(run: &Run, of: impl Fn(u8, &Unproved) -> bool, clock: Clock) -> Opti
         true => "; and others",
         false => "",
     };
-    (!by_span.is_empty()).then(|| format!("No tag has judged data that came for {some}{others}."))
+    (!by_span.is_empty()).then(|| format!("{some}{others}"))
 }
 
-/// Whether data came for longer than a mark may be old without a tag that matched it.
+/// Whether data came for longer than a mark may be old and was not marked.
 fn is_long(unproved: &Unproved) -> bool {
     unproved.longest > LIMITS[0] * SUBFRAME
 }
@@ -345,10 +394,21 @@ fn not_proved(run: &Run, clock: Clock) -> Option<Finding> {
         ),
     };
     let mut text = Vec::new();
-    if !unmarked.is_empty() {
+    let short = short(run);
+    let without = unmarked.iter().filter(|prn| !short.contains_key(prn));
+    let without: BTreeSet<u8> = without.copied().collect();
+    if !without.is_empty() {
         text.push(format!(
             "No tag has shown the data of {} to be authentic; none has shown it to be wrong.",
-            which(run, &unmarked)
+            which(run, &without)
+        ));
+    }
+    if !short.is_empty() {
+        let prns = short.keys().copied().collect();
+        text.push(format!(
+            "The data of {} is not marked. {}",
+            which(run, &prns),
+            short_told(&short)
         ));
     }
     let of = |prn, unproved: &Unproved| is_long(unproved) && !unmarked.contains(&prn);
@@ -358,9 +418,13 @@ fn not_proved(run: &Run, clock: Clock) -> Option<Finding> {
 }
 
 fn authentic(run: &Run, clock: Clock) -> Finding {
-    let mut text = Vec::from_iter(unproved(run, |_, _| true, clock));
+    let mut text = unproved(run, |_, _| true, clock);
+    let is_short = |data: &Data| data.unproved().short.is_some();
     let title = match text.is_empty() {
         true => "All data heard was authentic.",
+        false if run.data.values().any(is_short) => {
+            "All data that enough tags judged was authentic."
+        }
         false => "All data that was judged was authentic.",
     };
     text.push(marked_told(run));

@@ -2,12 +2,14 @@
 //! from before.
 //!
 //! Outcomes, marked sets and refusals are the core's own answers and reads. Which words a satellite
-//! has and which tags wait is followed from words answered 0, tag records and good verdicts.
+//! has, which tags wait and which agree on a candidate is followed from words answered 0, tag records
+//! and good verdicts.
 //!
 //! However long a recording is, what is kept of it is bounded: a timeline of so many columns, sums,
 //! and so many of what has a line of its own. Where lines are left out their number is kept.
 
 use crate::boom::{self, Watch};
+use crate::candidate::{Candidate, Candidates};
 use crate::data::Data;
 use crate::receiver::Answer;
 use crate::recording::{Cut, Record};
@@ -63,9 +65,11 @@ pub struct Judged {
     pub record: TagRecord,
     /// The root in force.
     pub root: Option<Arc<Root>>,
+    /// Of a tag that agrees with a candidate: the bits that agree on it, with this tag's.
+    pub bits: Option<u32>,
 }
 
-/// A set that was marked, as reads gave it, with the first and the last tag that marked it.
+/// A set that was marked, as reads gave it, with the tags that first marked it and the latest one.
 #[derive(Clone, Debug, PartialEq, Eq)]
 pub struct Marked {
     /// PRN of the satellite.
@@ -74,8 +78,10 @@ pub struct Marked {
     pub bytes: [u8; SET_LEN],
     /// Their IODnav.
     pub iodnav: u16,
-    /// The tag by which a read first gave it.
-    pub first: Judged,
+    /// When a read first gave it.
+    pub since: Gst,
+    /// The tags that agree with it, until they had enough bits, and their bits.
+    pub by: Option<Candidate>,
     /// The tag whose time the last read gave.
     pub last: Judged,
     /// When a read first gave another set.
@@ -167,7 +173,9 @@ impl WrongTags {
 pub struct Became {
     /// Those that matched.
     pub authentic: Tally,
-    /// Those that did not.
+    /// Those that matched, short of a mark.
+    pub agree: Tally,
+    /// Those that did not match.
     pub wrong: Tally,
     /// Those that wait still.
     pub waits: u64,
@@ -179,6 +187,7 @@ impl Became {
     /// Takes in others.
     pub fn join(&mut self, other: &Became) {
         self.authentic.join(&other.authentic);
+        self.agree.join(&other.agree);
         self.wrong.join(&other.wrong);
         self.waits += other.waits;
         self.given_up += other.given_up;
@@ -238,8 +247,9 @@ pub enum What {
 #[derive(Clone, Debug)]
 struct Waiting {
     record: TagRecord,
-    /// The stretch of its satellite's data in which it came.
+    /// The stretch of its satellite's data in which it came, and that data.
     stretch: u64,
+    set: Option<[u8; SET_LEN]>,
     /// What was marked of its satellite then.
     mark: Option<Mark>,
     /// Whether its satellite's words were old then.
@@ -274,6 +284,8 @@ pub struct Run {
     pub out_of_date: BTreeMap<u8, WrongTags>,
     /// The sets of each satellite.
     pub marked: BTreeMap<u8, Sets>,
+    /// The candidates of each satellite whose tags agree with data.
+    pub candidates: BTreeMap<u8, Candidates>,
     /// The data of each satellite whose words came.
     pub data: BTreeMap<u8, Data>,
     /// Data that changed while tags waited, in order.
@@ -318,6 +330,7 @@ impl Run {
             wrong: BTreeMap::new(),
             out_of_date: BTreeMap::new(),
             marked: BTreeMap::new(),
+            candidates: BTreeMap::new(),
             data: BTreeMap::new(),
             changed: Vec::new(),
             changes_left_out: 0,
@@ -484,17 +497,11 @@ impl Run {
         } else {
             self.halves(prn, at, answer);
         }
-        for record in &answer.tags {
-            self.tag(record);
-        }
-        self.marks(&answer.tags, at, reads);
+        let judged = Vec::from_iter(answer.tags.iter().map(|tag| self.tag(*tag, at)));
+        self.marks(&judged, at, reads);
         self.await_message(reads);
         self.count_marked(at);
-        answer
-            .tags
-            .iter()
-            .map(|tag| self.judged(*tag, at))
-            .collect()
+        judged
     }
 
     /// The refused halves of a sub-frame that was noted.
@@ -536,35 +543,33 @@ impl Run {
         });
     }
 
-    fn judged(&self, record: TagRecord, at: Gst) -> Judged {
-        Judged {
+    /// A tag record of the sub-frame at this time: of a tag that waited, or of a new one.
+    fn tag(&mut self, record: TagRecord, at: Gst) -> Judged {
+        let mut judged = Judged {
             place: self.last_place,
             at,
             record,
             root: self.vouched.root().cloned(),
-        }
-    }
-
-    /// A tag record: of a tag that waited, or of a new one.
-    fn tag(&mut self, record: &TagRecord) {
+            bits: None,
+        };
+        let record = &record;
         // A tag is known by its sender, arrival, block and position.
         let name = |tag: &TagRecord| (tag.sender, tag.time, tag.block, tag.position);
         let waited = |tag: &Waiting| name(&tag.record) == name(record);
-        let said = Said::of(record.outcome);
-        let tag = match self.waiting.iter().position(waited) {
+        let waited = self.waiting.iter().position(waited);
+        let tag = match waited {
             Some(place) => {
-                self.tell(record, |cell| cell.says_instead(said));
                 if let Some(waits) = self.tallies.get_mut(&Outcome::Waits.number()) {
                     waits.count = waits.count.saturating_sub(1);
                 }
                 self.waiting.remove(place)
             }
             None => {
-                self.tell(record, |cell| cell.says(said));
                 let data = self.data.get(&record.prn);
                 Waiting {
                     record: *record,
                     stretch: data.map_or(0, Data::now),
+                    set: data.and_then(Data::set),
                     mark: self.mark(record.prn),
                     old: data.is_some_and(|data| data.is_old(record.time)),
                     changes: Vec::new(),
@@ -574,10 +579,42 @@ impl Run {
         let tally = self.tallies.entry(record.outcome.number());
         tally.or_default().add(record);
         match record.outcome {
-            Outcome::Waits => self.waiting.push(tag),
-            Outcome::Authentic | Outcome::Wrong => self.judge(&tag, record),
+            Outcome::Authentic | Outcome::Agrees => {
+                judged.bits = self.agree(&tag, &judged);
+                self.judge(&tag, record);
+            }
+            Outcome::Wrong => self.judge(&tag, record),
             _ => {}
         }
+        let said = Said::of(record.outcome);
+        self.tell(record, |cell| {
+            match waited {
+                Some(_) => cell.says_instead(said),
+                None => cell.says(said),
+            }
+            cell.bits = judged.bits.or(cell.bits);
+        });
+        if record.outcome == Outcome::Waits {
+            self.waiting.push(tag);
+        }
+        judged
+    }
+
+    /// Bits of a tag of the chain in force.
+    fn tag_bits(&self) -> u32 {
+        let root = self.vouched.root();
+        root.map_or(0, |root| u32::from(root.chain.tag_bits))
+    }
+
+    /// A tag agrees with its satellite's data. Gives the bits that agree on it, where they are too few.
+    fn agree(&mut self, tag: &Waiting, judged: &Judged) -> Option<u32> {
+        let (record, tag_bits) = (&judged.record, self.tag_bits());
+        let candidates = self.candidates.entry(record.prn).or_default();
+        if record.outcome == Outcome::Agrees {
+            return candidates.agrees(tag.set?, judged.clone(), tag_bits);
+        }
+        candidates.marks(tag.set?, judged.clone(), tag_bits);
+        None
     }
 
     /// A change to the cell of a tag that came; tags without a satellite have none.
@@ -588,14 +625,14 @@ impl Run {
         }
     }
 
-    /// A tag is authentic or wrong now.
+    /// A tag is authentic, agrees or is wrong now.
     fn judge(&mut self, tag: &Waiting, record: &TagRecord) {
-        let matched = record.outcome == Outcome::Authentic;
+        let (outcome, tag_bits) = (record.outcome, self.tag_bits());
         let data = self.data.get_mut(&record.prn);
-        let stretch = data.and_then(|data| data.judge(tag.stretch, record.time, matched));
-        if !matched {
+        let stretch = data.and_then(|data| data.judge(tag.stretch, record.time, outcome, tag_bits));
+        if outcome == Outcome::Wrong {
             // Data that is old and was right before is out of date.
-            let was_right = stretch.is_some_and(|stretch| stretch.matched > 0);
+            let was_right = stretch.is_some_and(|stretch| stretch.bits > 0);
             let wrong = match tag.old && was_right {
                 true => &mut self.out_of_date,
                 false => &mut self.wrong,
@@ -606,33 +643,40 @@ impl Run {
         for &change in &tag.changes {
             let waited = &mut self.changed[change].waited;
             waited.waits = waited.waits.saturating_sub(1);
-            let tally = match matched {
-                true => &mut waited.authentic,
-                false => &mut waited.wrong,
+            let tally = match outcome {
+                Outcome::Authentic => &mut waited.authentic,
+                Outcome::Agrees => &mut waited.agree,
+                _ => &mut waited.wrong,
             };
             tally.add(record);
         }
     }
 
-    /// Reads the sets of the satellites whose tags matched. The tag that a read rests on is the
-    /// last that was judged of those that came at the time read (01, MACK).
-    fn marks(&mut self, tags: &[TagRecord], at: Gst, reads: &dyn Reads) {
-        let matched = || tags.iter().filter(|t| t.outcome == Outcome::Authentic);
-        let prns: BTreeSet<u8> = matched().map(|tag| tag.prn).collect();
+    /// Reads the sets of the satellites whose tags marked data. The tag that is told of a read is the
+    /// last that was judged of those that came at the time read: one of this sub-frame, or one that was
+    /// summed before (02, P4).
+    fn marks(&mut self, tags: &[Judged], at: Gst, reads: &dyn Reads) {
+        let is_mark = |tag: &&Judged| tag.record.outcome == Outcome::Authentic;
+        let prns: BTreeSet<u8> = tags.iter().filter(is_mark).map(|t| t.record.prn).collect();
         for prn in prns {
             let Some(set) = reads.set(prn) else {
                 continue;
             };
-            let tag = matched().rfind(|tag| tag.prn == prn && tag.time == set.time);
+            let candidates = self.candidates.get(&prn);
+            let by = candidates.and_then(|all| all.marked.clone());
+            let by = by.filter(|by| by.bytes == set.bytes);
+            let summed = by.iter().flat_map(|by| &by.tags);
+            let own = tags.iter().filter(is_mark).filter(|t| t.record.prn == prn);
+            let mut tag = summed.chain(own).filter(|t| t.record.time == set.time);
             // An older tag leaves the set of a later one.
-            if let Some(&record) = tag {
-                self.mark_set(set, self.judged(record, at));
+            if let Some(tag) = tag.next_back().cloned() {
+                self.mark_set(set, by, tag, at);
             }
         }
     }
 
-    fn mark_set(&mut self, set: AuthenticSet, judged: Judged) {
-        let (prn, at) = (judged.record.prn, judged.at);
+    fn mark_set(&mut self, set: AuthenticSet, by: Option<Candidate>, judged: Judged, at: Gst) {
+        let prn = judged.record.prn;
         let sets = self.marked.entry(prn).or_default();
         match sets.kept.back_mut() {
             Some(last) if last.bytes == set.bytes => return last.last = judged,
@@ -647,7 +691,8 @@ impl Run {
             prn,
             bytes: set.bytes,
             iodnav: set.iodnav,
-            first: judged.clone(),
+            since: at,
+            by,
             last: judged,
             until: None,
         });
@@ -703,6 +748,9 @@ impl Run {
                 .partition(|tag| vouched.stays(change, &tag.record));
             self.waiting = stay;
             self.give_up(go);
+        }
+        if matches!(change, Change::Dropped | Change::Root { same_chain: false }) {
+            self.candidates.values_mut().for_each(Candidates::clear);
         }
     }
 

@@ -8,6 +8,7 @@ use crate::time::Clock;
 use crate::timeline::{Cell, Said};
 use crate::warnings::{Grade, Table, Warning};
 use crate::words::count;
+use osnma::AUTHENTIC_BITS;
 use std::fmt::Write;
 
 const STYLE: &str = include_str!("sheet.css");
@@ -278,9 +279,9 @@ fn legend(out: &mut String, run: &RunSheet) {
     };
     let _ = writeln!(
         out,
-        "<p class=\"how\">A tag is a short code that the system sends: data that it matches is the \
-         system\u{2019}s own, and is marked. A cell is {} with what the tags for that satellite \
-         said{several}; slow tags are judged later. Over the cells: since when data is marked, with \
+        "<p class=\"how\">A tag is a short code that the system sends. Data that tags of {AUTHENTIC_BITS} \
+         bits together match is the system\u{2019}s own, and is marked; with fewer they only agree. A \
+         cell is {} with what the tags for that satellite said{several}; slow tags are judged later. Over the cells: since when data is marked, with \
          its issue number. Under them: when the satellite was heard.</p>\n<ul class=\"legend\">",
         strips.cell_told()
     );
@@ -326,9 +327,10 @@ fn marked_sets(out: &mut String, run: &RunSheet) {
     let _ = writeln!(
         out,
         "<p class=\"how\">Words 1 to 5 of the satellite: 549 bits and three zero bits, 69 bytes. \
-         Each rests on a tag that matches these very bits, under the key of its slot; that key \
-         hashes down to the root; a good verdict vouched for the root, under a public key that was \
-         given at the start or proved by the tree. {} The check of all is over the sets at the end, \
+         Each rests on tags of {AUTHENTIC_BITS} bits or more together that match these very bits, each \
+         under the key of its slot; that key hashes down to the root; a good verdict vouched for the \
+         root, under a public key that was given at the start or proved by the tree. Shown are the \
+         latest tag and the tags that were summed. {} The check of all is over the sets at the end, \
          one after another.</p>\n<div class=\"sets\">",
         escaped(phone::HOW)
     );

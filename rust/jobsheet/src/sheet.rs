@@ -3,7 +3,7 @@
 
 use crate::boom::Counts;
 use crate::finding::{self, Finding};
-use crate::history::{History, Marked, Run, What};
+use crate::history::{History, Judged, Marked, Run, What};
 use crate::phone::check_value;
 use crate::recording::RECORD_LEN;
 use crate::time::{Clock, Zone};
@@ -117,17 +117,40 @@ pub struct MarkedSet {
 }
 
 impl MarkedSet {
-    /// From when to when a read gave it.
+    /// From when to when a read gave it, and from when it was a candidate before.
     pub fn period(&self, clock: Clock) -> String {
-        let from = clock.say(self.set.first.at);
+        let from = clock.say(self.set.since);
+        let first = self.set.by.as_ref().and_then(|by| by.tags.first());
+        let candidate = match first {
+            Some(tag) if tag.at < self.set.since => {
+                format!("; candidate from {}", clock.say(tag.at))
+            }
+            _ => String::new(),
+        };
         match self.set.until {
-            None => format!("from {from} to the end"),
-            Some(until) => format!("from {from} until {}", clock.say(until)),
+            None => format!("from {from} to the end{candidate}"),
+            Some(until) => format!("from {from} until {}{candidate}", clock.say(until)),
         }
     }
 
-    /// The tag, its arrival, its key, and the root with its verdict: a line each.
-    pub fn rests_on(&self, clock: Clock) -> [String; 4] {
+    /// The tags that were summed until they had enough bits: each with its sender and arrival.
+    fn summed(&self, clock: Clock) -> String {
+        let Some(by) = &self.set.by else {
+            return "none".into();
+        };
+        let tag =
+            |tag: &Judged| format!("E{:02} {}", tag.record.sender, clock.say(tag.record.time));
+        format!(
+            "{} of {}: {}",
+            count(by.bits.into(), "bit"),
+            count(by.tags.len() as u64, "tag"),
+            Vec::from_iter(by.tags.iter().map(tag)).join(", ")
+        )
+    }
+
+    /// The latest tag, its arrival, its key, the root with its verdict, and the tags that first marked
+    /// the set: a line each.
+    pub fn rests_on(&self, clock: Clock) -> [String; 5] {
         let (judged, tag) = (&self.set.last, &self.set.last.record);
         let (when, place) = (clock.say(judged.at), judged.place);
         let slot = self.slot.map_or("none".into(), |slot| slot.to_string());
@@ -147,12 +170,13 @@ impl MarkedSet {
             format!("{} ({})", clock.say(tag.time), tag.time),
             format!("slot {slot}; judged {when}, record {place}"),
             root,
+            self.summed(clock),
         ]
     }
 }
 
 /// What the lines of [`MarkedSet::rests_on`] are.
-pub const RESTS_ON: [&str; 4] = ["Tag", "Came", "Key", "Root"];
+pub const RESTS_ON: [&str; 5] = ["Tag", "Came", "Key", "Root", "Sum"];
 
 /// Something that happened, with its time.
 #[derive(Clone, Debug, PartialEq, Eq)]
@@ -474,14 +498,15 @@ fn roots_told(run: &Run) -> Option<String> {
 fn tags_told(run: &Run) -> String {
     let n = |outcome| run.tally(outcome).count;
     let (authentic, wrong) = (n(Outcome::Authentic), n(Outcome::Wrong));
-    let waits = run.waiting() as u64;
+    let (agree, waits) = (n(Outcome::Agrees), run.waiting() as u64);
     let missing = match n(Outcome::BitsMissing) {
         0 => String::new(),
         n => format!(", of these {n} with bits missing"),
     };
     format!(
-        "{authentic} authentic, {wrong} wrong, {waits} wait still, {} without judgement{missing}",
-        run.tags() - authentic - wrong - waits
+        "{authentic} authentic, {agree} agree, {wrong} wrong, {waits} wait still, {} without \
+         judgement{missing}",
+        run.tags() - authentic - agree - wrong - waits
     )
 }
 

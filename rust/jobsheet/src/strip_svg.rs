@@ -62,6 +62,7 @@ impl Heights {
 /// The signs, once a page. A cell is 20 by 24 here.
 pub const SIGNS: &str = r##"<svg width="0" height="0" aria-hidden="true"><defs>
 <symbol id="authentic" viewBox="0 0 20 24" preserveAspectRatio="none"><rect width="20" height="24" fill="#66b0a8"/></symbol>
+<symbol id="agrees" viewBox="0 0 20 24" preserveAspectRatio="none"><rect x=".6" y=".6" width="18.8" height="22.8" fill="#fff" stroke="#2c7a70" stroke-width="1.2"/><path d="M.6 .6L19.4 23.4H.6Z" fill="#66b0a8"/></symbol>
 <symbol id="wrong" viewBox="0 0 20 24" preserveAspectRatio="none"><rect width="20" height="24" fill="#9c1118"/><path d="M4 5L16 19M16 5L4 19" stroke="#fff" stroke-width="3.6" fill="none"/></symbol>
 <symbol id="waits" viewBox="0 0 20 24" preserveAspectRatio="none"><rect x=".6" y=".6" width="18.8" height="22.8" fill="#fdeec2" stroke="#8a7a45" stroke-width="1.2"/><circle cx="10" cy="12" r="3.4" fill="#4a4024"/></symbol>
 <symbol id="noset" viewBox="0 0 20 24" preserveAspectRatio="none"><rect x=".6" y=".6" width="18.8" height="22.8" fill="#fff" stroke="#888" stroke-width="1.2"/><path d="M5 12H15" stroke="#333" stroke-width="2.6"/></symbol>
@@ -82,6 +83,7 @@ pub const SIGNS: &str = r##"<svg width="0" height="0" aria-hidden="true"><defs>
 pub fn sign(said: Said) -> &'static str {
     match said {
         Said::Authentic => "authentic",
+        Said::Agrees => "agrees",
         Said::Wrong => "wrong",
         Said::Waits => "waits",
         Said::NoSet => "noset",

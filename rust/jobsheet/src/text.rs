@@ -20,6 +20,7 @@ const CELLS: usize = 60;
 pub fn letter(said: Said) -> char {
     match said {
         Said::Authentic => '#',
+        Said::Agrees => '=',
         Said::Wrong => 'X',
         Said::Waits => 'w',
         Said::NoSet => '-',
@@ -202,9 +203,8 @@ fn shown(out: &mut String, clock: Clock, strips: &Strips) {
         "\nWHAT WAS AUTHENTIC WHEN (a sign is {})\n  ",
         strips.cell_told()
     );
-    for said in Said::ALL {
-        let _ = write!(out, "{} {}   ", letter(said), said.words().0);
-    }
+    let sign = |said: Said| format!("{} {}", letter(said), said.words().0);
+    out.push_str(&Said::ALL.map(sign).join("  "));
     let [few, more] = LIMITS.map(|limit| limit * SUBFRAME / 60);
     let _ = writeln!(
         out,

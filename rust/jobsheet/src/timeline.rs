@@ -4,7 +4,7 @@
 
 use crate::boom::Least;
 use crate::time::{self, SUBFRAME};
-use osnma::{Gst, Outcome};
+use osnma::{Gst, Outcome, AUTHENTIC_BITS};
 use std::collections::BTreeMap;
 
 /// Columns at most: eight hours of half minutes.
@@ -15,8 +15,10 @@ pub const COLUMNS: usize = 960;
 pub enum Said {
     /// At least one did not match.
     Wrong,
-    /// At least one matched, none was wrong.
+    /// At least one marked the data, none was wrong.
     Authentic,
+    /// At least one agrees with the data, by too few bits to mark it.
+    Agrees,
     /// A slow one has no answer: its key has not come, or it was given up.
     Waits,
     /// A slow one found no place.
@@ -35,9 +37,10 @@ pub enum Said {
 
 impl Said {
     /// What a tag can say, the first that applies first.
-    const BY_TAGS: [Said; 7] = [
+    const BY_TAGS: [Said; 8] = [
         Said::Wrong,
         Said::Authentic,
+        Said::Agrees,
         Said::Waits,
         Said::NoPlace,
         Said::NotTaken,
@@ -46,8 +49,9 @@ impl Said {
     ];
 
     /// All that have a sign, in the order of the legend.
-    pub const ALL: [Said; 8] = [
+    pub const ALL: [Said; 9] = [
         Said::Authentic,
+        Said::Agrees,
         Said::Wrong,
         Said::Waits,
         Said::NoSet,
@@ -61,6 +65,7 @@ impl Said {
     pub fn of(outcome: Outcome) -> Said {
         match outcome {
             Outcome::Authentic => Said::Authentic,
+            Outcome::Agrees => Said::Agrees,
             Outcome::Wrong => Said::Wrong,
             Outcome::Waits => Said::Waits,
             Outcome::NoPlace => Said::NoPlace,
@@ -73,7 +78,8 @@ impl Said {
     /// For the legend.
     pub fn words(self) -> (&'static str, &'static str) {
         match self {
-            Said::Authentic => ("authentic", "a tag matched, none was wrong"),
+            Said::Authentic => ("authentic", "data marked, no tag was wrong"),
+            Said::Agrees => ("agrees", "tags match, too few bits so far"),
             Said::Wrong => ("wrong", "a tag did not match"),
             Said::Waits => ("waits", "slow tag without an answer"),
             Said::NoSet => ("no data", "nothing whole to compare"),
@@ -91,6 +97,8 @@ impl Said {
 pub struct Cell {
     /// How many tags said what, in the order of [`Said`].
     tags: [u32; Said::BY_TAGS.len()],
+    /// The bits that agree on its satellite's candidate, with the last tag of here that agrees.
+    pub bits: Option<u32>,
     /// Whether its own section was refused.
     pub section_refused: bool,
     /// Whether its words changed while a slow tag waited.
@@ -139,12 +147,16 @@ impl Cell {
         self.section_refused && self.said() != Said::Refused
     }
 
-    /// `3 authentic, 1 waits`.
+    /// `3 authentic, 1 waits`; `1 agrees, 24 of 40 bits`.
     pub fn told(&self) -> String {
         let tags = Said::BY_TAGS.into_iter().zip(self.tags);
+        let bits = |said| match (said, self.bits) {
+            (Said::Agrees, Some(bits)) => format!(", {bits} of {AUTHENTIC_BITS} bits"),
+            _ => String::new(),
+        };
         let mut parts: Vec<String> = tags
             .filter(|(_, n)| *n > 0)
-            .map(|(said, n)| format!("{n} {}", said.words().0))
+            .map(|(said, n)| format!("{n} {}{}", said.words().0, bits(said)))
             .collect();
         if parts.is_empty() {
             parts.push(Said::Nothing.words().1.into());
@@ -165,6 +177,7 @@ impl Cell {
         for (n, more) in self.tags.iter_mut().zip(later.tags) {
             *n += more;
         }
+        self.bits = later.bits.or(self.bits);
         self.section_refused |= later.section_refused;
         self.changed |= later.changed;
         self.marked = later.marked.or(self.marked);

@@ -150,7 +150,7 @@ fn disputed(run: &Run) -> Option<Warning> {
             Grade::Warning,
             format!("The same data called both authentic and wrong: {}.", which(run, &prns)),
             "Some tags matched it and some did not. A short tag matches wrong data by chance now and \
-             then. Do not rely on this mark.",
+             then, and one is enough for data that was marked before. Do not rely on this mark.",
         )
     })
 }
@@ -159,6 +159,10 @@ fn disputed(run: &Run) -> Option<Warning> {
 fn not_marked(run: &Run) -> Vec<Warning> {
     let heard = run.heard.keys().copied();
     let without: BTreeSet<u8> = heard.filter(|prn| !run.data.contains_key(prn)).collect();
+    let short = finding::short(run);
+    let (agreed, unjudged) = finding::unmarked(run)
+        .into_iter()
+        .partition(|prn| short.contains_key(prn));
     let warning = |grade, prns: BTreeSet<u8>, why: &str| {
         let title = format!("Nothing marked for {}.", which(run, &prns));
         (!prns.is_empty()).then(|| Warning::new(grade, title, why))
@@ -166,9 +170,10 @@ fn not_marked(run: &Run) -> Vec<Warning> {
     let told = [
         warning(
             Grade::Warning,
-            finding::unmarked(run),
+            unjudged,
             "Data was heard, but no tag has shown it to be authentic.",
         ),
+        warning(Grade::Warning, agreed, &finding::short_told(&short)),
         warning(Grade::Note, without, "Heard, but without orbit data."),
     ];
     told.into_iter().flatten().collect()
@@ -322,12 +327,13 @@ fn no_place(run: &Run, clock: Clock) -> Option<Warning> {
 /// What became of tags that waited: `3 authentic (68), 1 still waiting`.
 fn became(all: &Became) -> String {
     let named = |what: &str, tags: &Tally| {
-        let text = format!("{} {what} (IODnav {})", tags.count, issues(&tags.issues));
+        let text = format!("{} {what} ({})", tags.count, issues(&tags.issues));
         (tags.count > 0).then_some(text)
     };
     let counted = |what: &str, n: u64| (n > 0).then(|| format!("{n} {what}"));
     let parts = [
         named("authentic", &all.authentic),
+        named("agree", &all.agree),
         named("wrong", &all.wrong),
         counted("still waiting", all.waits),
         counted("given up", all.given_up),
@@ -350,7 +356,7 @@ fn changed(run: &Run, clock: Clock) -> Option<Warning> {
         head: vec![
             "Satellite",
             "Words changed (IODnav)",
-            "Slow tags that waited then",
+            "Slow tags that waited then (IODnav)",
             "Marked at the end",
         ],
         rows,

@@ -10,7 +10,8 @@ use jobsheet::sheet::Sheet;
 use jobsheet::time::Zone;
 use jobsheet::warnings::Grade;
 use jobsheet::{html, text};
-use osnma::Refusal;
+use osnma::{Outcome, Refusal};
+use second_receiver::sets::Candidate;
 use std::collections::{BTreeMap, BTreeSet};
 use std::time::{Duration, Instant};
 
@@ -53,7 +54,7 @@ fn data_changed_while_a_slow_tag_waited() {
     assert_eq!(warning.grade, Grade::Note);
     let row = &warning.table.as_ref().unwrap().rows[0];
     assert!(row[1].ends_with("(66 to 500)"), "{row:?}");
-    assert!(row[2].contains("authentic (IODnav 66)"), "{row:?}");
+    assert!(row[2].contains("authentic (66)"), "{row:?}");
     assert_eq!(row[3], "IODnav 66");
     let strip = run
         .overview
@@ -91,7 +92,7 @@ fn changes_are_marked_only_where_tags_waited() {
             );
             let waited = |c: &WordsChanged| {
                 let w = &c.waited;
-                w.authentic.count + w.wrong.count + w.waits + w.given_up
+                w.authentic.count + w.agree.count + w.wrong.count + w.waits + w.given_up
             };
             assert!(run.changed.iter().all(|c| waited(c) > 0), "{name}");
             changes += run.changed.len();
@@ -349,6 +350,80 @@ fn words_that_do_not_go_together() {
     );
 }
 
+/// How many bits each candidate has, the most first, as the box says it.
+fn bits_so_far(candidates: &BTreeMap<u8, Candidate>) -> String {
+    let mut bits: Vec<usize> = candidates.values().map(|of| of.total()).collect();
+    bits.sort_by(|a, b| b.cmp(a));
+    bits.dedup();
+    let have = |bits: &usize| {
+        let of = |(prn, of): (&u8, &Candidate)| (of.total() == *bits).then(|| format!("E{prn:02}"));
+        let names = Vec::from_iter(candidates.iter().filter_map(of));
+        match &names[..] {
+            [one] => format!("{one} has {bits}"),
+            [others @ .., last] => format!("{} and {last} have {bits}", others.join(", ")),
+            [] => unreachable!(),
+        }
+    };
+    Vec::from_iter(bits.iter().map(have)).join("; ")
+}
+
+/// The first cell of each candidate's satellite with the sign of a tag that agrees says its bits.
+fn cells_say_bits(page: &str, candidates: &BTreeMap<u8, Candidate>) {
+    for (prn, of) in candidates {
+        let (_, strip) = page
+            .split_once(&format!("data-strip=\"E{prn:02}\""))
+            .unwrap();
+        let (strip, _) = strip.split_once("</g>").unwrap();
+        let (_, cell) = strip.split_once("href=\"#agrees\"").unwrap();
+        let (cell, _) = cell.split_once("</title>").unwrap();
+        let bits = format!(" agrees, {} of 40 bits", of.total());
+        assert!(cell.contains(&bits), "{cell}: {bits}");
+    }
+}
+
+// Data that tags agree with, short of a mark: its sign and bits, and why it is not marked.
+#[test]
+fn short_of_a_mark() {
+    let bytes = common::short_of_a_mark();
+    let candidates = &common::second(&bytes).1.pop().unwrap().after.candidates;
+    let all = bits_so_far(candidates);
+    assert!(candidates.len() > 1, "{all}");
+    let told = boxes(&bytes);
+    says(
+        &told,
+        &[
+            "NO DATA WAS PROVED. No tag has shown the data of ",
+            "is not marked. Tags agree with the data heard, but a mark takes 40 bits of tags for the \
+             same data: E",
+        ],
+    );
+    let sheet = Sheet::of("short", &history(&bytes), None);
+    let warning = sheet.runs[0]
+        .front
+        .iter()
+        .find(|warning| warning.text.starts_with("Tags agree with the data heard"))
+        .unwrap();
+    assert_eq!(warning.grade, Grade::Warning);
+    let page = html::page(&sheet);
+    let told_of = |text: &str| text.contains(&format!(" same data: {all}."));
+    assert!(
+        told_of(&told[0]) && told_of(&warning.text),
+        "{told:?}: {all}"
+    );
+    cells_say_bits(&page, candidates);
+    assert!(page.contains("<b>agrees</b> tags match, too few bits so far"));
+    assert!(sheet.runs[0].marked.is_empty());
+    // Newer data, while the older stays marked.
+    says(
+        &boxes(&common::newer_data_short()),
+        &[
+            "All data that enough tags judged was authentic.",
+            "Tags agree with data that came for E18 ",
+            ", but by fewer than the 40 bits that a mark takes.",
+        ],
+    );
+}
+
 // The words of the box are the largest of the page.
 #[test]
 fn verdict_is_largest() {
@@ -397,7 +472,7 @@ fn disputed_data() {
     assert!(jobsheet::finding::disputed(&all.runs[0]).is_empty());
     let data = all.runs[0].data.get_mut(&4).unwrap();
     let wrong = (1..=data.now()).find(|n| data.stretches().nth(*n as usize - 1).unwrap().wrong > 0);
-    data.judge(wrong.unwrap(), first, true);
+    data.judge(wrong.unwrap(), first, Outcome::Authentic, 12);
     let sheet = Sheet::of("fitter", &all, None);
     let text = sheet.runs[0].finding.text.join(" ");
     assert!(

@@ -81,7 +81,7 @@ impl Digest {
     fn call(&mut self, answer: &Answer, twin: &Twin) {
         self.number(answer.number.into());
         self.number(answer.mack.into());
-        self.number(answer.outcomes.len() as u64);
+        self.number(answer.tags.len() as u64);
         self.bytes(twin.area());
         self.regions(twin.core.regions());
         self.calls += 1;

@@ -130,7 +130,7 @@ pub const VERSION: &str = env!("CARGO_PKG_VERSION");
 /// The number of the layout that this crate lends: it rises whenever a region, in size or in meaning, or
 /// the parameters of an export change. The archive exports a function whose name ends in it, which
 /// [`Core::start`] calls, so that an archive of another layout does not link.
-pub const LAYOUT: u32 = 1;
+pub const LAYOUT: u32 = 2;
 
 /// Bytes of the authentication fields of a sub-frame: 15 of five bytes.
 pub const FIELDS_LEN: usize = 75;
@@ -150,6 +150,8 @@ pub const SIGNATURE_LEN: usize = 132;
 pub const KEY_LEN: usize = 67;
 /// Bytes of the root of the tree of public keys.
 pub const TREE_ROOT_LEN: usize = 32;
+/// The tag bits that must agree on a set before it is authentic.
+pub const AUTHENTIC_BITS: u32 = 40;
 /// The mark of a flexible field; the others are 0 to 15, the ADKD of a fixed one.
 pub const FLEXIBLE: u8 = 255;
 
@@ -173,14 +175,14 @@ pub struct Settings {
     pub key: [u8; KEY_LEN],
 }
 
-/// A satellite's navigation data that a tag showed to be authentic.
+/// A satellite's navigation data that tags showed to be authentic.
 #[derive(Clone, Debug, PartialEq, Eq)]
 pub struct AuthenticSet {
     /// The 549 bits of words 1 to 5, then three zero bits.
     pub bytes: [u8; SET_LEN],
     /// Their IODnav.
     pub iodnav: u16,
-    /// When the tag came.
+    /// When the latest of the tags came that agree with them.
     pub time: Gst,
 }
 
@@ -202,7 +204,7 @@ pub struct SubframeAnswer<'a> {
     pub tags: TagRecords<'a>,
 }
 
-/// The core: all memory that the calls take up, 32,896 bytes.
+/// The core: all memory that the calls take up, 35,664 bytes.
 ///
 /// Only a [`start`](Core::start) makes it a receiver. Before the first accepted one no satellite,
 /// message or chain is known: words are taken by the same rules and forgotten at the start, and
@@ -223,7 +225,7 @@ impl Core {
     }
 
     /// Begins a new list with what it is given and nothing from before: no word, block, message,
-    /// chain, tag, set or time. Also ends a stop.
+    /// chain, tag, set, candidate or time. Also ends a stop.
     ///
     /// # Errors
     /// [`Refusal::OutOfRange`] where NS, key ID, key type or a mark is not in its range, or the
@@ -266,7 +268,7 @@ impl Core {
     /// stops the core. The others are the MACK half: the section's keys are proved, the tags that
     /// waited for them and the section's own are judged, and `records` has a record for each.
     ///
-    /// A half that is refused changes no public key, chain, held key or authentic set.
+    /// A half that is refused changes no public key, chain, held key, authentic set or candidate.
     ///
     /// The section walks one hash step for each slot from its key down to the held one, at most 1,000,000,
     /// also where it is then refused with [`Refusal::KeyUnfit`] (`docs/INTEGRATION.md`, "Threads, room
@@ -359,7 +361,8 @@ impl Core {
     ///
     /// A good verdict on a message of status 1 or 2 drops public keys of lower ID and puts the root
     /// in force, unless these contents are in force already; one on a message of status 3 drops the
-    /// chain in force. Either ends the wait.
+    /// chain in force. Either ends the wait. A root of another chain and a drop clear the candidates;
+    /// authentic sets stay.
     ///
     /// # Errors
     /// In this order:
@@ -398,11 +401,11 @@ impl Core {
         self.verdict(good, waiting.key_id, &waiting.message, &waiting.signature)
     }
 
-    /// A satellite's authentic set. Answers in a stopped core too.
+    /// A satellite's authentic set; a candidate is not given. Answers in a stopped core too.
     ///
     /// # Errors
     /// - [`Refusal::OutOfRange`]: PRN not 1 to 36;
-    /// - [`Refusal::NoSet`]: no tag has shown a set of this satellite to be authentic since the
+    /// - [`Refusal::NoSet`]: tags have shown no set of this satellite to be authentic since the
     ///   start.
     pub fn read_set(&self, prn: u8) -> Result<AuthenticSet, Refusal> {
         let (mut bytes, mut iodnav, mut time) = ([0; SET_LEN], 0, 0);
@@ -456,7 +459,7 @@ impl Core {
 /// The layout that the archive was made for.
 fn layout() -> u32 {
     // SAFETY: it takes nothing and returns a number.
-    unsafe { raw::osnma_layout_1() }
+    unsafe { raw::osnma_layout_2() }
 }
 
 impl Default for Core {

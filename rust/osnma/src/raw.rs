@@ -10,7 +10,7 @@
 
 extern "C" {
     /// The number of the layout, which is also its name's.
-    pub fn osnma_layout_1() -> u32;
+    pub fn osnma_layout_2() -> u32;
 
     pub fn osnma_regions_start(
         config: *mut u8,
@@ -131,6 +131,8 @@ extern "C" {
         heldkey_count: usize,
         waiting: *mut u8,
         waiting_count: usize,
+        arrivals: *mut u32,
+        arrivals_count: usize,
         good: u8,
         id: u8,
         message: *const u8,

@@ -82,14 +82,16 @@ regions! {
     heldkey: [u8; 32],
     /// 256 places for waiting tags, 84 bytes each, in order of arrival.
     waiting: [u8; 21504],
-    /// By PRN: the authentic set.
-    sets: [u8; 2484],
-    /// By PRN: the stamp of the sub-frame that brought that set's tag.
-    arrivals: [u32; 36],
+    /// By PRN: the authentic set. Then by PRN: the candidate.
+    sets: [u8; 4968],
+    /// By PRN: the stamp of the sub-frame that brought that set's tag. Then by PRN: that of the
+    /// candidate's latest tag, 0 where there is no candidate. Then by PRN: the tag bits that agree on
+    /// it.
+    arrivals: [u32; 108],
 }
 
 // As the header says of `struct osnma_core`.
-const _: () = assert!(size_of::<Regions>() <= 32_896);
+const _: () = assert!(size_of::<Regions>() <= 35_664);
 
 /// Lends the named regions to an export, by pointer and count, and then its other arguments.
 macro_rules! lend {
@@ -200,7 +202,7 @@ impl Lent<'_> {
             lend!(
                 osnma_regions_verdict,
                 self.as_mut_ptr,
-                [config pubkeys offer chain numbers heldkey waiting],
+                [config pubkeys offer chain numbers heldkey waiting arrivals],
                 good,
                 key_id,
                 message.as_ptr(),

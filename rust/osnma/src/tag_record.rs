@@ -4,11 +4,16 @@ use crate::{Gst, RECORDS_LEN, RECORD_LEN};
 use core::fmt;
 use core::iter::FusedIterator;
 
-/// What became of a tag: document 01's outcomes, and 8 of document 02.
+/// What became of a tag: document 01's outcomes, and 8 and 9 of document 02.
+///
+/// A tag that matches its satellite's set agrees with it. Tag bits that agree on the same 549 bits of a
+/// satellite are summed, and at [`AUTHENTIC_BITS`](crate::AUTHENTIC_BITS) the set is authentic. Until
+/// then it is the satellite's candidate, which no read gives (`include/osnma.h` says more).
 #[derive(Clone, Copy, Debug, PartialEq, Eq, Hash)]
 #[non_exhaustive]
 pub enum Outcome {
-    /// 1: it matches its satellite's set, which is now authentic unless a later tag's set is held.
+    /// 1: it agrees with its satellite's set, on which enough tag bits agree. The set is now authentic
+    /// unless a later tag's set is held.
     Authentic,
     /// 2: it does not match.
     Wrong,
@@ -26,13 +31,15 @@ pub enum Outcome {
     /// 8: bits of it, of its block's key, of its field's MAC-Info or of what MACSEQ is made of are
     /// missing, so that it cannot be judged.
     BitsMissing,
+    /// 9: it agrees with its satellite's set, on which too few tag bits agree so far.
+    Agrees,
     /// A number that is no outcome. The contracts of the proved calls leave none; it would tell of
     /// another library.
     Unlisted(u8),
 }
 
 /// The outcomes by number, from 1 on.
-const LISTED: [Outcome; 8] = [
+const LISTED: [Outcome; 9] = [
     Outcome::Authentic,
     Outcome::Wrong,
     Outcome::NoUsableSet,
@@ -41,6 +48,7 @@ const LISTED: [Outcome; 8] = [
     Outcome::SequenceUnfit,
     Outcome::NoPlace,
     Outcome::BitsMissing,
+    Outcome::Agrees,
 ];
 
 impl Outcome {
@@ -55,6 +63,7 @@ impl Outcome {
             Outcome::SequenceUnfit => 6,
             Outcome::NoPlace => 7,
             Outcome::BitsMissing => 8,
+            Outcome::Agrees => 9,
             Outcome::Unlisted(number) => number,
         }
     }
@@ -78,6 +87,7 @@ impl fmt::Display for Outcome {
             Outcome::SequenceUnfit => "MACSEQ fails",
             Outcome::NoPlace => "no place to wait",
             Outcome::BitsMissing => "bits are missing",
+            Outcome::Agrees => "agrees, too few bits so far",
             Outcome::Unlisted(_) => "a number that is not listed",
         };
         write!(f, "{text} ({})", self.number())
@@ -167,7 +177,7 @@ mod tests {
             assert_eq!(outcome.number(), number);
             assert_eq!(Outcome::of(number), outcome);
         }
-        for number in [0, 9, 255] {
+        for number in [0, 10, 255] {
             assert_eq!(Outcome::of(number), Outcome::Unlisted(number));
             assert_eq!(Outcome::of(number).number(), number);
         }

@@ -7,8 +7,9 @@ mod common;
 use common::annex::*;
 use common::{binary, fields, gst, hex, hkroot, later, packed, set, upper};
 use osnma::collector::Collector;
-use osnma::{Core, Gst, Outcome, Refusal, Settings, TagRecord, FLEXIBLE, NO_RECORDS};
+use osnma::{Core, Gst, Outcome, Refusal, Settings, TagRecord, FLEXIBLE, NO_RECORDS, SET_LEN};
 use second_receiver::chain::TeslaKey;
+use second_receiver::times::SATELLITES;
 
 /// NS 36, MACLT 11, key 0 of type 1, and the four fields a block that the annex's chain has: 00S,FLX,FLX,00E
 /// then 00S,00E,00E,00E.
@@ -112,7 +113,14 @@ fn outcomes(tags: &[TagRecord]) -> Vec<u8> {
     tags.iter().map(|tag| tag.outcome.number()).collect()
 }
 
-// A.1.5: tag0 matches under key 73, the third field's tag waits, MACSEQ holds.
+/// The places of E18's candidate: its set, the stamp of its latest tag, and its total.
+const CANDIDATE: (usize, usize, usize) = (
+    SET_LEN * (SATELLITES + 17),
+    SATELLITES + 17,
+    2 * SATELLITES + 17,
+);
+
+// A.1.5: tag0 matches under key 73, the third field's tag waits, MACSEQ holds. Twelve bits make a candidate.
 #[test]
 fn a_1_5_section() {
     let mut core = ready();
@@ -120,9 +128,9 @@ fn a_1_5_section() {
     let block = hkroot(HEADER_A, 0, 0, &hex(DSM_KROOT)[..13]);
     let (halves, tags) = subframe(&mut core, 18, time, &block, &section(|_| {}));
     assert_eq!(halves, [Ok(()), Ok(())]);
-    assert_eq!(outcomes(&tags), [1, 4, 5, 4, 4, 4, 4, 4]);
+    assert_eq!(outcomes(&tags), [9, 4, 5, 4, 4, 4, 4, 4]);
     let right = TagRecord {
-        outcome: Outcome::Authentic,
+        outcome: Outcome::Agrees,
         sender: 18,
         prn: 18,
         adkd: 0,
@@ -132,17 +140,43 @@ fn a_1_5_section() {
         time: Gst::from_bits(0x3B36_979E),
     };
     assert_eq!(tags[0], right);
+    assert_eq!(core.read_set(18), Err(Refusal::NoSet));
+    let regions = core.regions();
+    let (place, stamp, total) = CANDIDATE;
+    assert_eq!(regions.sets[place..place + SET_LEN], set(&words_of_e18()));
+    assert_eq!(
+        (regions.arrivals[stamp], regions.arrivals[total]),
+        (0x3B36_979F, 12)
+    );
+    assert_eq!(regions.numbers, [126, 1]);
+}
+
+// The same where tags of 28 bits agreed with the set before: with tag0's twelve it is authentic.
+#[test]
+fn a_1_5_forty_bits() {
+    let mut core = ready();
+    let (place, stamp, total) = CANDIDATE;
+    let regions = core.regions_mut();
+    regions.sets[place..place + SET_LEN].copy_from_slice(&set(&words_of_e18()));
+    regions.arrivals[stamp] = gst(947, 432_000) + 1;
+    regions.arrivals[total] = 28;
+    let block = hkroot(HEADER_A, 0, 0, &hex(DSM_KROOT)[..13]);
+    let time = gst(947, 432_030);
+    let (halves, tags) = subframe(&mut core, 18, time, &block, &section(|_| {}));
+    assert_eq!(halves, [Ok(()), Ok(())]);
+    assert_eq!(outcomes(&tags), [1, 4, 5, 4, 4, 4, 4, 4]);
     let read = core.read_set(18).unwrap();
     assert_eq!(read.bytes[..], set(&words_of_e18()));
     assert_eq!((read.iodnav, read.time.bits()), (0x50, 0x3B36_979E));
-    assert_eq!(core.regions().numbers, [126, 1]);
+    let arrivals = &core.regions().arrivals;
+    assert_eq!((arrivals[stamp], arrivals[total]), (0, 0));
 }
 
 // A bit of the tag, of MACSEQ, of the second MAC-Info, of the first key.
 #[test]
 fn a_1_5_changed() {
     let block = hkroot(HEADER_A, 0, 0, &hex(DSM_KROOT)[..13]);
-    for (at, right) in [(11, [2, 4, 5]), (23, [1, 4, 6]), (40, [1, 4, 6])] {
+    for (at, right) in [(11, [2, 4, 5]), (23, [9, 4, 6]), (40, [9, 4, 6])] {
         let turned = |bits: &mut String| {
             let bit = if &bits[at..=at] == "0" { "1" } else { "0" };
             bits.replace_range(at..=at, bit);
@@ -220,6 +254,7 @@ fn table_26_pages() {
     let time = gst(947, 432_030);
     let (halves, tags) = subframe(&mut core, 18, time, &block, &section(|_| {}));
     assert_eq!(halves, [Ok(()), Ok(())]);
-    assert_eq!(outcomes(&tags)[..3], [1, 4, 5]);
-    assert_eq!(core.read_set(18).unwrap().bytes[..], set(&words_of_e18()));
+    assert_eq!(outcomes(&tags)[..3], [9, 4, 5]);
+    let candidate = &core.regions().sets[CANDIDATE.0..][..SET_LEN];
+    assert_eq!(candidate, set(&words_of_e18()));
 }

@@ -61,7 +61,7 @@ fn covered() -> BTreeSet<String> {
 
 /// The exports that are no call of 01, with the reason why no run has them. They are lent nothing.
 const NO_CALLS: [(&str, &str); 1] = [(
-    "osnma_layout_1",
+    "osnma_layout_2",
     "gives the number of the layout; that it links says that the layout is the caller's",
 )];
 

@@ -7,7 +7,7 @@ mod compiled;
 use compiled::{build, cpp_compilers, run, top, Program, C99, CPP17};
 use osnma::collector::NotTaken;
 use osnma::regions::Regions;
-use osnma::{Gst, WaitingMessage, LAYOUT, VERSION};
+use osnma::{Gst, WaitingMessage, AUTHENTIC_BITS, LAYOUT, VERSION};
 use std::fmt::Write;
 use std::fs;
 use std::mem::offset_of;
@@ -58,7 +58,9 @@ fn text(shown: impl std::fmt::Display) -> String {
 
 /// What tests/c/glue.c prints, of the Rust binding.
 fn glue() -> String {
-    let mut lines = format!("version {VERSION}, layout {LAYOUT}\nanswer 0: done\n");
+    let mut lines = format!("version {VERSION}, layout {LAYOUT}\n");
+    writeln!(lines, "authentic at {AUTHENTIC_BITS} bits").unwrap();
+    writeln!(lines, "answer 0: done").unwrap();
     let unlisted = "a number that is not listed";
     for number in 1..20 {
         let refusal = osnma::Refusal::LISTED.get(number - 1);
@@ -134,7 +136,7 @@ fn documented() {
         .filter_map(|line| line.strip_prefix("    OSNMA_")?.split_once(" = "))
         .map(|(name, number)| format!("| {} | `OSNMA_{name}` |", number.trim_end_matches(',')))
         .collect();
-    assert_eq!(listed.len(), 18 + 8);
+    assert_eq!(listed.len(), 18 + 9);
     for row in listed {
         assert!(page.contains(&row), "{row} is not in docs/RECORDING.md");
     }
@@ -154,7 +156,7 @@ fn lent(header: &str) -> String {
 }
 
 /// The first bytes of SHA-256 of what each layout lends. A line is added with each layout, and none is changed.
-const LAYOUTS: [(u32, u64); 1] = [(1, 0x861F_34CF_E277_74A6)];
+const LAYOUTS: [(u32, u64); 2] = [(1, 0x861F_34CF_E277_74A6), (2, 0x2CBB_81E3_24AE_1A95)];
 
 // Who changes a region or a parameter raises the layout, and the version and the layout have their place in CHANGELOG.md.
 #[test]

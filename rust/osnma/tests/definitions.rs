@@ -13,7 +13,10 @@ use rules_runner::program::Hashes;
 use rules_runner::rules::{self, Rules};
 use second_receiver::bits::BitString;
 use second_receiver::chain::{Chain, TeslaKey};
+use second_receiver::mac::MacKey;
 use second_receiver::mack::Layout;
+use second_receiver::navdata::NavSet;
+use second_receiver::tags::Tag;
 use second_receiver::Receiver;
 use signal::rng::Rng;
 use signal::scenario::{MacFunctions, Pages};
@@ -53,7 +56,7 @@ fn lists(r: &Regions) -> rules::Regions {
 fn spoil(r: &mut Regions, rng: &mut Rng) {
     for _ in 0..rng.below(4) {
         let any = rng.number();
-        match rng.below(14) {
+        match rng.below(15) {
             0 => r.config[0] = any as u8,
             1 => r.config[1] ^= 1,
             2 => r.config[62] = *rng.pick(&[0, 1, 2, 255]),
@@ -64,11 +67,16 @@ fn spoil(r: &mut Regions, rng: &mut Rng) {
             7 => r.numbers[0] = any >> rng.below(64),
             8 => r.numbers[1] = *rng.pick(&[0, 1, 2, 3, 255, 256, 257, 1 << 32, u64::MAX]),
             9 => r.pubkeys[68 * rng.below(16) as usize] = rng.below(7) as u8,
-            10 => r.arrivals[rng.below(36) as usize] = *rng.pick(&[0, 1, any as u32, u32::MAX]),
+            // Stamps of authentic sets and of candidates, and totals.
+            10 => {
+                let number = *rng.pick(&[0, 1, 39, 40, any as u32, u32::MAX]);
+                r.arrivals[rng.below(108) as usize] = number;
+            }
             11 => {
                 r.clocks[36 + rng.range(1, 36) as usize] = *rng.pick(&[0, 1, any as u32, u32::MAX])
             }
             12 => rng.fill(&mut r.waiting),
+            13 => rng.fill(&mut r.sets),
             _ => rng.fill(&mut r.pubkeys),
         }
     }
@@ -111,25 +119,135 @@ fn verdict(r: &Regions, rng: &mut Rng) -> Call {
     }
 }
 
-/// A section with any fields whose keys are those below the held one, if the regions say a chain; the held key
-/// becomes that of the section's last slot or of one above it.
-fn section(r: &mut Regions, rng: &mut Rng, prn: u8, time: u32) -> Option<[u8; 60]> {
+/// What is held of a satellite that may have these 69 bytes as its set: authentic or candidate, with stamps around one
+/// and totals around 40.
+fn hold(r: &mut Regions, rng: &mut Rng, prn: u8, set: &[u8; 69], stamp: u32) {
+    let at = usize::from(prn) - 1;
+    for place in [at, 36 + at] {
+        if rng.once_in(2) {
+            r.sets[69 * place..69 * (place + 1)].copy_from_slice(set);
+        }
+        let (before, after) = (stamp.saturating_sub(30), stamp.saturating_add(30));
+        r.arrivals[place] = *rng.pick(&[0, before, stamp, after]);
+    }
+    let any = rng.number() as u32;
+    r.arrivals[72 + at] = *rng.pick(&[0, 1, 12, 24, 28, 29, 30, 36, 39, 40, any, u32::MAX]);
+}
+
+/// A set of this satellite that is usable at this time.
+fn usable_set(r: &mut Regions, rng: &mut Rng, prn: u8, time: u32) -> NavSet {
+    let at = 5 * (usize::from(prn) - 1);
+    let words = &mut r.words[16 * at..16 * (at + 5)];
+    // IODnav is bits 6 to 15 of words 1 to 4.
+    let iodnav = [words[0] & 3, words[1]];
+    for word in words.chunks_exact_mut(16).take(4) {
+        (word[0], word[1]) = (word[0] & !3 | iodnav[0], iodnav[1]);
+    }
+    r.stamps[at..at + 5].fill_with(|| rng.range(1, u64::from(time).max(1)) as u32);
+    NavSet::pack(&std::array::from_fn(|k| {
+        std::array::from_fn(|i| r.words[16 * (at + k) + i])
+    }))
+}
+
+/// A tag that matches this set under the chain, if its MAC function takes its key.
+fn right_bits(chain: &Chain, layout: &Layout, tag: &Tag, set: &NavSet) -> Option<u64> {
+    let slot = tag.key_slot(&chain.slots);
+    let key = chain.hash_down(&chain.held, chain.held_slot, slot);
+    let key = MacKey::new(chain.parameters.mf, key.as_slice())?;
+    Some(key.code(&tag.message(set), layout.tag_bits))
+}
+
+/// Due tags of any sets that match them, for any PRNs, in place of what waits.
+fn due_tags(r: &mut Regions, rng: &mut Rng, chain: &Chain, layout: &Layout, tag: &Tag) {
+    let count = rng.below(6) as usize;
+    r.numbers[1] = count as u64;
+    for entry in 0..count {
+        let tag = Tag {
+            sender: rng.number() as u8,
+            prn: match rng.below(6) {
+                0 => *rng.pick(&[0, 37, 255]),
+                1 => rng.range(1, 36) as u8,
+                _ => tag.prn,
+            },
+            position: rng.range(2, 14) as u8,
+            status: rng.below(4) as u8,
+            ..tag.clone()
+        };
+        // Mostly of one satellite and one set, so that they are summed.
+        let mut set = NavSet([entry as u8 / 3; 69]);
+        if rng.once_in(4) {
+            set = NavSet(rng.array());
+        }
+        let Some(bits) = right_bits(chain, layout, &tag, &set) else {
+            continue;
+        };
+        if (1..=36).contains(&tag.prn) && rng.once_in(3) {
+            hold(r, rng, tag.prn, &set.0, tag.time.0.saturating_add(1));
+        }
+        let place = &mut r.waiting[84 * entry..84 * (entry + 1)];
+        place[..5].copy_from_slice(&[tag.sender, tag.prn, tag.adkd, tag.block, tag.position]);
+        place[5..9].copy_from_slice(&tag.time.0.to_be_bytes());
+        place[9] = tag.status;
+        place[10..15].copy_from_slice(&bits.to_be_bytes()[3..]);
+        place[15..].copy_from_slice(&set.0);
+    }
+}
+
+/// A section with any fields, or fields whose tags match, whose keys are those below the held one, if the regions say a
+/// chain; the held key becomes that of the section's last slot or of one above it.
+fn section(r: &mut Regions, rng: &mut Rng, prn: u8, time: u32, status: u8) -> Option<[u8; 60]> {
     let ns = Some(r.config[0]).filter(|ns| (1..=36).contains(ns));
     let mut chain = Chain::new(&r.chain[1..], ns.unwrap_or(1));
     let layout = Layout::of(&chain.parameters).filter(|layout| layout.fields > 0)?;
-    let (seconds, slots) = (second_receiver::times::Gst(time).seconds(), chain.slots);
+    let time = second_receiver::times::Gst(time);
+    let (seconds, slots) = (time.seconds(), chain.slots);
     if seconds < slots.start || !(1..=36).contains(&prn) {
         return None;
     }
     chain.held_slot = slots.of_key(seconds, layout.blocks, prn) + rng.below(40);
     chain.held = TeslaKey::new(&r.heldkey[..layout.key_bits / 8]);
     r.numbers[0] = chain.held_slot;
+    let mut tag = Tag {
+        sender: prn,
+        prn,
+        adkd: 0,
+        block: 1,
+        position: 1,
+        time,
+        status,
+        bits: 0,
+    };
+    let right = rng.once_in(2);
+    if right && rng.once_in(2) {
+        due_tags(r, rng, &chain, &layout, &tag);
+    }
     let mut bits = BitString::default();
     for block in 1..=layout.blocks {
         let fields = layout.fields * (layout.tag_bits + 16);
         let slot = slots.of_key(seconds, block, prn);
         let key = chain.hash_down(&chain.held, chain.held_slot, slot);
-        bits.push_bits(&rng.bytes(60), 0, fields);
+        if !right {
+            bits.push_bits(&rng.bytes(60), 0, fields);
+        }
+        for position in (1..=layout.fields).filter(|_| right) {
+            // Mostly the sender's own, so that tags of one satellite are summed.
+            let first = block == 1 && position == 1;
+            let other = !first && rng.once_in(4);
+            tag.prn = if other { rng.range(1, 36) as u8 } else { prn };
+            (tag.block, tag.position) = (block, position as u8);
+            let set = usable_set(r, rng, tag.prn, time.0);
+            let at = usize::from(block - 1) * layout.fields + position - 1;
+            for list in 0..2 {
+                r.config[2 + 14 * list + at] = 0;
+            }
+            if first || rng.once_in(8) {
+                hold(r, rng, tag.prn, &set.0, time.0.saturating_add(1));
+            }
+            let any = rng.number() >> (64 - layout.tag_bits);
+            let right = right_bits(&chain, &layout, &tag, &set).filter(|_| !rng.once_in(8));
+            bits.push(right.unwrap_or(any), layout.tag_bits);
+            bits.push(u64::from(tag.prn) << 8 | rng.below(16), 16);
+        }
         bits.push_bits(key.as_slice(), 0, layout.key_bits);
         bits.push_bits(&[0; 60], 0, layout.block_bits - layout.key_bits - fields);
     }
@@ -174,7 +292,7 @@ fn subframe(r: &mut Regions, rng: &mut Rng) -> Call {
     let hkroot = block(r, rng, header, time);
     let any = rng.array();
     let right = (!rng.once_in(4))
-        .then(|| section(r, rng, prn, time))
+        .then(|| section(r, rng, prn, time, header >> 6))
         .flatten();
     let fields = match rng.below(16) {
         0 => [0; 75],
@@ -319,13 +437,14 @@ fn lengths_of_the_regions() {
 #[test]
 fn any_contents() {
     let crates = Path::new(env!("CARGO_MANIFEST_DIR")).join("../../crates");
-    let answers = with_large_stack(|| {
+    let (answers, outcomes) = with_large_stack(|| {
         let rules = Rules::load(&crates, Hashes::Portable).unwrap_or_else(|e| panic!("{e}"));
         let mut rng = Rng::new(11);
         let tree = draw::tree(&mut rng);
         let states = driver::states(11, 2, MacFunctions::Both, Pages::Lost)
             .unwrap_or_else(|error| panic!("{error}"));
         let mut answers: BTreeMap<(Kind, [u64; 2]), u64> = BTreeMap::new();
+        let mut outcomes: BTreeMap<u8, u64> = BTreeMap::new();
         for at in 0..CALLS {
             let mut regions = match rng.below(8) {
                 0 => garbage(&mut rng),
@@ -353,8 +472,19 @@ fn any_contents() {
                 _ => [given.0, 0],
             };
             *answers.entry((call.kind(), numbers)).or_default() += 1;
+            if matches!(call, Call::Subframe { .. }) {
+                let records = given.1.chunks_exact(12).take(given.0 as usize);
+                for record in records {
+                    *outcomes.entry(record[0]).or_default() += 1;
+                }
+            }
         }
-        answers
+        (answers, outcomes)
     });
-    println!("{answers:?}");
+    println!("{answers:?}\noutcomes {outcomes:?}");
+    if CALLS >= 3_000 {
+        for outcome in [1, 2, 9] {
+            assert!(outcomes.contains_key(&outcome), "no outcome {outcome}");
+        }
+    }
 }

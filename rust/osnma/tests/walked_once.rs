@@ -39,7 +39,7 @@ fn compressions(adkds: [u8; 2]) -> Option<u64> {
     let records = if adkds == [0; 2] { 14 } else { 13 + 14 };
     calls_of("sha256::compress", || {
         let answer = twin.call(section, 1);
-        answer.is_ok_and(|a| (a.number, a.mack, a.outcomes.len()) == (0, 0, records))
+        answer.is_ok_and(|a| (a.number, a.mack, a.tags.len()) == (0, 0, records))
     })
 }
 

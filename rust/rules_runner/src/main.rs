@@ -1,6 +1,6 @@
 //! The replay program over the definitions: records on standard input, lines on standard output.
-//! With `--reads FILE` it also writes to FILE what every read gives after the last record; `--crates DIR` names the
-//! folder of crates whose definitions are run.
+//! With `--reads FILE` it also writes to FILE what every read gives after the last record, with `--candidates FILE` the
+//! candidates that are held then; `--crates DIR` names the folder of crates whose definitions are run.
 
 #![forbid(unsafe_code)]
 
@@ -17,18 +17,21 @@ use std::process::ExitCode;
 struct Options {
     crates: PathBuf,
     reads: Option<PathBuf>,
+    candidates: Option<PathBuf>,
 }
 
 fn options() -> Option<Options> {
     let mut options = Options {
         crates: concat!(env!("CARGO_MANIFEST_DIR"), "/../../crates").into(),
         reads: None,
+        candidates: None,
     };
     let mut arguments = std::env::args().skip(1);
     while let Some(argument) = arguments.next() {
         match argument.as_str() {
             "--crates" => options.crates = arguments.next()?.into(),
             "--reads" => options.reads = Some(arguments.next()?.into()),
+            "--candidates" => options.candidates = Some(arguments.next()?.into()),
             _ => return None,
         }
     }
@@ -39,17 +42,20 @@ fn run(options: &Options) -> Result<(), Box<dyn Error + Send + Sync>> {
     let rules = Rules::load(&options.crates, Hashes::Portable)?;
     let mut input = Vec::new();
     io::stdin().lock().read_to_end(&mut input)?;
-    let (lines, reads) = replay(&rules, &input);
-    io::stdout().lock().write_all(lines.as_bytes())?;
+    let replayed = replay(&rules, &input);
+    io::stdout().lock().write_all(replayed.lines.as_bytes())?;
     if let Some(path) = &options.reads {
-        fs::write(path, reads)?;
+        fs::write(path, replayed.reads)?;
+    }
+    if let Some(path) = &options.candidates {
+        fs::write(path, replayed.candidates)?;
     }
     Ok(())
 }
 
 fn main() -> ExitCode {
     let Some(options) = options() else {
-        eprintln!("usage: rules_runner [--crates DIR] [--reads FILE] < INPUT");
+        eprintln!("usage: rules_runner [--crates DIR] [--reads FILE] [--candidates FILE] < INPUT");
         return ExitCode::from(2);
     };
     match with_large_stack(|| run(&options)) {

@@ -40,13 +40,37 @@ fn reads(rules: &Rules, started: bool, run: &Run) -> String {
     lines
 }
 
-/// What a replay program prints for an input, and what all reads give after it. The definition of one record is run for
-/// each; `whole` runs that of a whole input.
-pub fn replay(rules: &Rules, input: &[u8]) -> (String, String) {
+/// The candidates: `C PRN TOTAL SET IODnav GST_SF`, by PRN.
+fn candidates(run: &Run) -> String {
+    let line = |prn: u8| {
+        let c = run.candidate(prn)?;
+        let set = hex(&c.set);
+        Some(format!(
+            "C {prn} {} {set} {} {:08X}\n",
+            c.total, c.iodnav, c.time
+        ))
+    };
+    (1..=36).filter_map(line).collect()
+}
+
+/// What a replay program prints for an input, what all reads give after it, and the candidates that are held then.
+pub struct Replayed {
+    pub lines: String,
+    pub reads: String,
+    pub candidates: String,
+}
+
+/// The definition of one record is run for each; `whole` runs that of a whole input.
+pub fn replay(rules: &Rules, input: &[u8]) -> Replayed {
     let mut replay = Replay::new(rules);
     let records = input.chunks(INPUT_LEN);
     let lines = records.map(|record| replay.record(record)).collect();
-    (lines, reads(rules, replay.started(), &replay.run()))
+    let run = replay.run();
+    Replayed {
+        lines,
+        reads: reads(rules, replay.started(), &run),
+        candidates: candidates(&run),
+    }
 }
 
 /// What a replay program prints for an input, by the definition of a whole input. It joins what it printed so far anew

@@ -55,6 +55,15 @@ pub struct SetAnswer {
     pub time: u64,
 }
 
+/// A set with which tags agree, short of 40 bits (02, P4). No call of 01 reads it.
+pub struct Candidate {
+    pub set: Vec<u8>,
+    pub iodnav: u64,
+    /// GST_SF of its latest tag.
+    pub time: u64,
+    pub total: u64,
+}
+
 pub struct OfferAnswer {
     pub number: u64,
     pub message: Vec<u8>,
@@ -384,6 +393,26 @@ impl Run<'_> {
             iodnav: self.rules.number(&read, "issue"),
             time: self.rules.number(&read, "time"),
         }
+    }
+
+    /// A satellite's candidate as the state has it; a stamp is one more than its GST_SF, 0 where there is none.
+    pub fn candidate(&self, prn: u8) -> Option<Candidate> {
+        let auth = self.rules.field(&self.state, "auth");
+        let arguments = ["sets", "arrivals"].map(|name| self.rules.field(&auth, name));
+        let arguments = [&arguments[..], &[number(prn)]].concat();
+        let pair = self.rules.call("rules.Candidates.pairAt", arguments);
+        let set = self.rules.field(&pair, "candidate");
+        let time = self.rules.number(&pair, "latest").checked_sub(1)?;
+        let issue = self.rules.call("rules.Navdata.setIssue", vec![set.clone()]);
+        let Value::Number(iodnav) = issue else {
+            panic!("{issue:?} is no number");
+        };
+        Some(Candidate {
+            set: bytes(&set),
+            iodnav,
+            time,
+            total: self.rules.number(&pair, "total"),
+        })
     }
 
     pub fn read_offer(&self) -> OfferAnswer {

@@ -1,4 +1,4 @@
-//! The definitions give the lines and the reads that are recorded for the replay inputs.
+//! The definitions give the lines, the reads and the candidates that are recorded for the replay inputs.
 
 mod common;
 
@@ -10,11 +10,13 @@ use std::fs;
 use std::path::{Path, PathBuf};
 
 /// The recorded inputs that are run here.
-const RUN: [&str; 23] = [
+const RUN: [&str; 25] = [
     "P1_cmac_nominal",
     "P1_mf_changes",
     "P3_hkroot",
     "P3_lost_2_128_12",
+    "P4_candidates",
+    "P4_nominal",
     "a_empty",
     "a_example",
     "a_framing",
@@ -45,6 +47,10 @@ fn folder() -> PathBuf {
 
 fn read(name: &str, extension: &str) -> Vec<u8> {
     let path = folder().join(name).with_extension(extension);
+    // Where there are no candidates there is no file of them.
+    if extension == "candidates" && !path.exists() {
+        return Vec::new();
+    }
     fs::read(&path).unwrap_or_else(|error| panic!("{}: {error}", path.display()))
 }
 
@@ -52,8 +58,12 @@ fn check(names: &[&str]) {
     let differences = with_rules(Hashes::Portable, |rules| {
         let mut differences = Vec::new();
         for name in names {
-            let (lines, reads) = replay(rules, &read(name, "in"));
-            for (extension, got) in [("out", lines), ("reads", reads)] {
+            let got = replay(rules, &read(name, "in"));
+            for (extension, got) in [
+                ("out", got.lines),
+                ("reads", got.reads),
+                ("candidates", got.candidates),
+            ] {
                 let want = String::from_utf8(read(name, extension)).unwrap();
                 if let Some(difference) = first_difference(&got, &want) {
                     differences.push(format!("{name}.{extension} {difference}"));

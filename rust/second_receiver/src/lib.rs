@@ -17,7 +17,8 @@
 //! - `chain`: the TESLA chain in force and its key walk;
 //! - `verdict`: the message that waits and what a verdict on it does;
 //! - `mack`: the layout of a MACK section, what of it is missing, and the check of its keys;
-//! - `tags`: MACSEQ, tag outcomes, waiting tags, authentic sets, tag records;
+//! - `sets`: authentic sets and candidates;
+//! - `tags`: MACSEQ, tag outcomes, waiting tags, tag records;
 //! - `receiver`: the calls of 01 over the whole state;
 //! - `replay`: the replay program's format.
 
@@ -36,6 +37,7 @@ pub mod public_keys;
 pub mod received;
 pub mod receiver;
 pub mod replay;
+pub mod sets;
 pub mod tags;
 pub mod times;
 pub mod verdict;

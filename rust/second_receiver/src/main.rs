@@ -1,36 +1,54 @@
 //! The replay program of the second receiver: records on standard input, lines on standard output.
-//! With `--reads FILE` it also writes to FILE what every read gives after the last record.
+//! With `--reads FILE` it also writes to FILE what every read gives after the last record, with
+//! `--candidates FILE` the candidates that are held then.
 
 #![forbid(unsafe_code)]
 
-use second_receiver::replay::{replay, write_reads};
+use second_receiver::replay::{replay, write_candidates, write_reads};
 use std::fs::File;
 use std::io::{self, BufReader, BufWriter};
 use std::process::ExitCode;
 
-fn run(reads: Option<&str>) -> io::Result<()> {
+#[derive(Default)]
+struct Options {
+    reads: Option<String>,
+    candidates: Option<String>,
+}
+
+fn options() -> Option<Options> {
+    let mut options = Options::default();
+    let mut arguments = std::env::args().skip(1);
+    while let Some(argument) = arguments.next() {
+        let file = match argument.as_str() {
+            "--reads" => &mut options.reads,
+            "--candidates" => &mut options.candidates,
+            _ => return None,
+        };
+        *file = Some(arguments.next()?);
+    }
+    Some(options)
+}
+
+fn run(options: &Options) -> io::Result<()> {
     let receiver = replay(
         BufReader::new(io::stdin().lock()),
         BufWriter::new(io::stdout().lock()),
     )?;
-    match reads {
-        Some(path) => write_reads(&receiver, BufWriter::new(File::create(path)?)),
-        None => Ok(()),
+    if let Some(path) = &options.reads {
+        write_reads(&receiver, BufWriter::new(File::create(path)?))?;
     }
+    if let Some(path) = &options.candidates {
+        write_candidates(&receiver, BufWriter::new(File::create(path)?))?;
+    }
+    Ok(())
 }
 
 fn main() -> ExitCode {
-    let arguments: Vec<String> = std::env::args().skip(1).collect();
-    let words: Vec<&str> = arguments.iter().map(String::as_str).collect();
-    let result = match words[..] {
-        [] => run(None),
-        ["--reads", path] => run(Some(path)),
-        _ => {
-            eprintln!("usage: second_receiver [--reads FILE] < INPUT");
-            return ExitCode::from(2);
-        }
+    let Some(options) = options() else {
+        eprintln!("usage: second_receiver [--reads FILE] [--candidates FILE] < INPUT");
+        return ExitCode::from(2);
     };
-    match result {
+    match run(&options) {
         Ok(()) => ExitCode::SUCCESS,
         Err(error) => {
             eprintln!("second_receiver: {error}");

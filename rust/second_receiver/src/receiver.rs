@@ -4,13 +4,13 @@ use crate::chain::Chain;
 use crate::gather::{nma_status, Dsm, DsmStore, Gathered, Hkroot, HKROOT_LEN};
 use crate::kroot;
 use crate::mack::{self, Layout, Missing, Section, SECTION_LEN};
-use crate::navdata::{svid, word_type, SatelliteWords, Words, SET_LEN, WORD_LEN};
+use crate::navdata::{svid, word_type, NavSet, SatelliteWords, Words, SET_LEN, WORD_LEN};
 use crate::numbers::*;
 use crate::pkr::{self, Proved, NODE_LEN};
 use crate::public_keys::{is_key_id, key_len, PublicKey, PublicKeys, MAX_KEY_LEN};
 use crate::received::{Received, FIELDS, FIELD_LEN};
-use crate::tags::{AuthenticSet, AuthenticSets, Marks, ProvedSection, Record};
-use crate::tags::{WaitingTag, MARKS, RECORD_LEN};
+use crate::sets::{AuthenticSet, Candidate, SatelliteSets, Sets};
+use crate::tags::{Marks, ProvedSection, Record, WaitingTag, MARKS, RECORD_LEN};
 use crate::times::{is_prn, Gst, RootTime, SATELLITES};
 use crate::verdict::{filled, Vouched, WaitingMessage, MESSAGE_LEN, SIGNATURE_LEN};
 
@@ -67,7 +67,7 @@ pub struct Receiver {
     keys: PublicKeys,
     waiting_message: Option<WaitingMessage>,
     vouched: Vouched,
-    authentic: AuthenticSets,
+    sets: Sets,
 }
 
 /// The time of each satellite's last sub-frame.
@@ -324,7 +324,7 @@ impl Receiver {
             &setup.marks,
             &self.words,
             waiting,
-            &mut self.authentic,
+            &mut self.sets,
         ))
     }
 
@@ -352,7 +352,8 @@ impl Receiver {
             .take_if(|waiting| waiting.is(key_id, message, signature))
             .ok_or(NOT_WAITING)?;
         require(verdict == 1, BAD_VERDICT)?;
-        self.vouched.good_verdict(&waiting, &mut self.keys, ns)
+        self.vouched
+            .good_verdict(&waiting, &mut self.keys, &mut self.sets, ns)
     }
 
     /// Reads a satellite's authentic set into 69 lent bytes. Checks 1, 2, 16.
@@ -368,7 +369,7 @@ impl Receiver {
         if !is_prn(prn) {
             return refused(OUT_OF_RANGE);
         }
-        match self.authentic.of(prn) {
+        match self.authentic_set(prn) {
             None => refused(NO_SET),
             Some(held) => {
                 set.copy_from_slice(&held.set.0);
@@ -478,6 +479,21 @@ impl Receiver {
     }
 
     pub fn authentic_set(&self, prn: u8) -> Option<&AuthenticSet> {
-        is_prn(prn).then(|| self.authentic.of(prn)).flatten()
+        self.sets_of(prn)?.authentic.as_ref()
+    }
+
+    /// The set of a satellite with which tags agree, short of 40 bits.
+    pub fn candidate(&self, prn: u8) -> Option<&Candidate> {
+        self.sets_of(prn)?.candidate.as_ref()
+    }
+
+    /// The last set that stood as a satellite's candidate in the last section judged, though it may
+    /// be gone since.
+    pub fn stood_as_candidate(&self, prn: u8) -> Option<&NavSet> {
+        self.sets.stood(prn)
+    }
+
+    fn sets_of(&self, prn: u8) -> Option<&SatelliteSets> {
+        is_prn(prn).then(|| self.sets.of(prn))
     }
 }

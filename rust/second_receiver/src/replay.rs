@@ -39,7 +39,11 @@ fn gst(bytes: &[u8]) -> u32 {
 }
 
 /// Answers one whole record; a second number other than 0 is a sub-frame's alone.
-fn answer(receiver: &mut Receiver, record: &[u8; INPUT_LEN], area: &mut [u8]) -> SubframeAnswer {
+pub fn answer(
+    receiver: &mut Receiver,
+    record: &[u8; INPUT_LEN],
+    area: &mut [u8],
+) -> SubframeAnswer {
     let one = |hkroot: Number| SubframeAnswer {
         hkroot,
         mack: ACCEPTED,
@@ -99,6 +103,24 @@ pub fn replay(mut input: impl Read, mut output: impl Write) -> io::Result<Receiv
     }
     output.flush()?;
     Ok(receiver)
+}
+
+/// Writes what no read gives: `C PRN TOTAL SET IODnav GST_SF` for each candidate, by PRN, with the
+/// GST_SF of its latest tag.
+pub fn write_candidates(receiver: &Receiver, mut output: impl Write) -> io::Result<()> {
+    for prn in 1..=SATELLITES as u8 {
+        if let Some(candidate) = receiver.candidate(prn) {
+            writeln!(
+                output,
+                "C {prn} {} {} {} {:08X}",
+                candidate.total(),
+                hex(&candidate.set.0),
+                candidate.set.iodnav(),
+                candidate.latest().0
+            )?;
+        }
+    }
+    output.flush()
 }
 
 /// Writes what every read gives: `A PRN 0 SET IODnav GST_SF` or `A PRN 16` for PRN 1 to 36, then

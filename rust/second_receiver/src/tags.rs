@@ -1,12 +1,13 @@
-//! MACSEQ, the outcomes of tags, waiting tags, authentic sets and tag records (000, 5.5 and 5.6;
-//! 01, MACK; 02, P3).
+//! MACSEQ, the outcomes of tags, waiting tags and tag records (000, 5.5 and 5.6; 01, MACK; 02, P3
+//! and P4).
 
 use crate::bits::BitString;
 use crate::chain::Chain;
 use crate::mac::MacKey;
 use crate::mack::{Field, Missing, Section, FIRST};
 use crate::navdata::{NavSet, Words};
-use crate::times::{is_prn, Gst, Slots, SATELLITES, SUBFRAME_SECONDS};
+use crate::sets::{AgreeingTag, Sets};
+use crate::times::{is_prn, Gst, Slots, SUBFRAME_SECONDS};
 use std::collections::BTreeMap;
 
 /// Places for waiting tags, over all satellites.
@@ -29,6 +30,8 @@ pub enum Outcome {
     MacseqFails = 6,
     NoPlace = 7,
     BitsMissing = 8,
+    /// It agrees, but its set has too few bits yet.
+    Agrees = 9,
 }
 
 /// The two lists of marks given at start.
@@ -117,11 +120,19 @@ impl Tag {
         self.bits == key.code(&self.message(set), tag_bits)
     }
 
-    fn judge(&self, set: &NavSet, key: &MacKey, tag_bits: usize) -> Outcome {
-        if self.matches(set, key, tag_bits) {
+    /// Outcome 2 if the tag does not match its set; else it counts for this set.
+    fn judge(&self, set: &NavSet, key: &MacKey, tag_bits: usize, sets: &mut Sets) -> Outcome {
+        if !self.matches(set, key, tag_bits) {
+            return Outcome::Wrong;
+        }
+        let tag = AgreeingTag {
+            time: self.time,
+            bits: tag_bits,
+        };
+        if sets.agree(self.prn, set, tag) {
             Outcome::Authentic
         } else {
-            Outcome::Wrong
+            Outcome::Agrees
         }
     }
 }
@@ -141,41 +152,6 @@ impl WaitingTag {
     /// Due once the held slot reaches its key's slot, counted from the root in force (A71).
     pub fn is_due(&self, chain: &Chain) -> bool {
         chain.held_slot >= self.tag.key_slot(&chain.slots)
-    }
-}
-
-/// A set that a tag showed to be authentic.
-#[derive(Clone, Debug, PartialEq, Eq)]
-pub struct AuthenticSet {
-    pub set: NavSet,
-    /// GST_SF of its tag's arrival.
-    pub time: Gst,
-}
-
-/// The authentic set of each satellite.
-#[derive(Clone, Debug, PartialEq, Eq)]
-pub struct AuthenticSets(Vec<Option<AuthenticSet>>);
-
-impl Default for AuthenticSets {
-    fn default() -> Self {
-        AuthenticSets(vec![None; SATELLITES])
-    }
-}
-
-impl AuthenticSets {
-    pub fn of(&self, prn: u8) -> Option<&AuthenticSet> {
-        self.0[usize::from(prn) - 1].as_ref()
-    }
-
-    /// Replaces the satellite's authentic set unless that set's tag came later (A68).
-    fn mark(&mut self, prn: u8, set: &NavSet, time: Gst) {
-        let held = &mut self.0[usize::from(prn) - 1];
-        if held.as_ref().is_none_or(|held| held.time <= time) {
-            *held = Some(AuthenticSet {
-                set: set.clone(),
-                time,
-            });
-        }
     }
 }
 
@@ -270,10 +246,10 @@ impl ProvedSection<'_> {
         marks: &Marks,
         words: &Words,
         waiting: &mut Vec<WaitingTag>,
-        authentic: &mut AuthenticSets,
+        sets: &mut Sets,
     ) -> Vec<Record> {
         let missing = Missing::default();
-        self.judge_received(&missing, chain, marks, words, waiting, authentic)
+        self.judge_received(&missing, chain, marks, words, waiting, sets)
     }
 
     /// Judges the waiting tags that are due, in the order in which they came, then the section's
@@ -285,12 +261,13 @@ impl ProvedSection<'_> {
         marks: &Marks,
         words: &Words,
         waiting: &mut Vec<WaitingTag>,
-        authentic: &mut AuthenticSets,
+        sets: &mut Sets,
     ) -> Vec<Record> {
         let (due, later): (Vec<_>, Vec<_>) = std::mem::take(waiting)
             .into_iter()
             .partition(|tag| tag.is_due(chain));
         *waiting = later;
+        sets.begin_section();
 
         let now = self.time.seconds();
         let marks = marks.at(self.time);
@@ -316,10 +293,7 @@ impl ProvedSection<'_> {
 
         let mut records = Vec::new();
         for WaitingTag { tag, set } in &due {
-            let outcome = tag.judge(set, key_of(tag), self.tag_bits);
-            if outcome == Outcome::Authentic {
-                authentic.mark(tag.prn, set, tag.time);
-            }
+            let outcome = tag.judge(set, key_of(tag), self.tag_bits, sets);
             records.push(record(outcome, tag, Some(set)));
         }
         let macseq_holds = macseq_wanted && self.macseq_holds(marks, &keys[&macseq_slot]);
@@ -336,7 +310,8 @@ impl ProvedSection<'_> {
                 None => match words.of(tag.prn).usable(self.time) {
                     None => (Outcome::NoUsableSet, None),
                     Some(set) if delay(tag.adkd) == Some(0) => {
-                        (tag.judge(&set, key_of(&tag), self.tag_bits), Some(set))
+                        let outcome = tag.judge(&set, key_of(&tag), self.tag_bits, sets);
+                        (outcome, Some(set))
                     }
                     Some(set) if waiting.len() < PLACES => {
                         waiting.push(WaitingTag {
@@ -348,9 +323,6 @@ impl ProvedSection<'_> {
                     Some(set) => (Outcome::NoPlace, Some(set)),
                 },
             };
-            if let (Outcome::Authentic, Some(set)) = (outcome, &set) {
-                authentic.mark(tag.prn, set, tag.time);
-            }
             records.push(record(outcome, &tag, set.as_ref()));
         }
         records

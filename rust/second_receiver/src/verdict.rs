@@ -5,6 +5,7 @@ use crate::gather::{header_cid, nma_status};
 use crate::kroot::RootFields;
 use crate::numbers::{Number, NOT_NEWER, NO_CHAIN};
 use crate::public_keys::{PublicKeys, MAX_SIGNATURE_LEN};
+use crate::sets::Sets;
 use crate::tags::WaitingTag;
 use crate::times::RootTime;
 
@@ -53,12 +54,13 @@ impl Vouched {
         &mut self,
         waiting: &WaitingMessage,
         keys: &mut PublicKeys,
+        sets: &mut Sets,
         ns: u8,
     ) -> Result<(), Number> {
         let (header, contents) = (waiting.message[0], &waiting.message[1..]);
         match nma_status(header) {
-            1 | 2 => self.vouch(header_cid(header), contents, ns)?,
-            3 => self.revoke(header_cid(header))?,
+            1 | 2 => self.vouch(header_cid(header), contents, sets, ns)?,
+            3 => self.revoke(header_cid(header), sets)?,
             _ => return Err(NO_CHAIN),
         }
         // Status 1 or 2 drops keys of lower ID, also with contents equal to those in force; status
@@ -69,8 +71,8 @@ impl Vouched {
         Ok(())
     }
 
-    /// Status 3 with the CID in force drops the chain and the waiting tags.
-    fn revoke(&mut self, cid: u8) -> Result<(), Number> {
+    /// Status 3 with the CID in force drops the chain, the waiting tags and the candidates.
+    fn revoke(&mut self, cid: u8, sets: &mut Sets) -> Result<(), Number> {
         if self
             .chain
             .as_ref()
@@ -80,11 +82,12 @@ impl Vouched {
         }
         self.chain = None;
         self.waiting_tags.clear();
+        sets.clear_candidates();
         Ok(())
     }
 
     /// Status 1 or 2 with CIDKR equal to CID puts the root in force.
-    fn vouch(&mut self, cid: u8, contents: &[u8], ns: u8) -> Result<(), Number> {
+    fn vouch(&mut self, cid: u8, contents: &[u8], sets: &mut Sets, ns: u8) -> Result<(), Number> {
         let fields = RootFields::read(contents);
         if fields.parameters.cid != cid {
             return Err(NO_CHAIN);
@@ -107,6 +110,10 @@ impl Vouched {
             .is_some_and(|old| old.parameters == new.parameters);
         self.waiting_tags
             .retain(|tag| unchanged && tag.key_seconds() >= new.slots.start);
+        // A later root of the same chain is no new chain (B21).
+        if !unchanged {
+            sets.clear_candidates();
+        }
         self.last_root = Some(new.time);
         self.chain = Some(new);
         Ok(())

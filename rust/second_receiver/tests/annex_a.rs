@@ -255,15 +255,16 @@ fn a_1_5_through_the_receiver() {
         (bench, records)
     };
     let (bench, records) = run(|_| {});
-    assert_eq!(outcomes(&records)[..4], [1, 4, 5, 4]);
+    assert_eq!(outcomes(&records)[..4], [9, 4, 5, 4]);
     assert_eq!(
         upper(&records[0]),
-        "011212000101".to_string() + "0050" + "3B36979E"
+        "091212000101".to_string() + "0050" + "3B36979E"
     );
-    assert_eq!(
-        bench.read(18),
-        Ok((set(&words_of_e18()), 0x50, 0x3B36_979E))
-    );
+    // One tag of 12 bits: its set is a candidate.
+    assert_eq!(bench.read(18), Err(16));
+    let candidate = bench.receiver.candidate(18).unwrap();
+    assert_eq!(candidate.set.0[..], set(&words_of_e18()));
+    assert_eq!((candidate.total(), candidate.latest().0), (12, 0x3B36_979E));
     assert_eq!(bench.receiver.chain().unwrap().held_slot, 126);
     // A bit of the tag, of MACSEQ, of the second MAC-Info.
     assert_eq!(
@@ -272,11 +273,11 @@ fn a_1_5_through_the_receiver() {
     );
     assert_eq!(
         outcomes(&run(|bits| bits.replace_range(23..24, "1")).1)[..3],
-        [1, 4, 6]
+        [9, 4, 6]
     );
     assert_eq!(
         outcomes(&run(|bits| bits.replace_range(40..41, "0")).1)[..3],
-        [1, 4, 6]
+        [9, 4, 6]
     );
 }
 

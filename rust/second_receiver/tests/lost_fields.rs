@@ -186,7 +186,7 @@ impl Sky {
         fields(&hkroot(HEADER, 11, 1, &[0; 13]), &section)
     }
 
-    /// Lends a section to a copy: the MACK number and the records.
+    /// Lends a section to a copy: the MACK number and the records, 1 for every tag that agrees.
     fn judged(&self, subframe: usize, specs: &[Spec], flexible: &[usize], marks: u16) -> Judged {
         self.lent(subframe, &self.fields_of(subframe, specs, flexible), marks)
     }
@@ -194,6 +194,7 @@ impl Sky {
     fn lent(&self, subframe: usize, fields: &[u8], marks: u16) -> Judged {
         let (mut bench, time) = (self.bench.clone(), self.chain.at(subframe as i64));
         let ((hkroot, number), records) = lend(&mut bench, 2, time, marks, fields);
+        let records = agreeing_as_1(records);
         assert_eq!(hkroot, if marks | 1 == 0xFFFF { 0 } else { 17 });
         Judged {
             number,

@@ -153,13 +153,21 @@ fn number_2_start() {
     }
 }
 
+/// An authentic set of PRN 2 and a candidate of PRN 5, by a section of sub-frame 1.
+fn with_set_and_candidate(bench: &mut Bench, chain: &TestChain) {
+    bench.words(2, chain.at(0), &words(2, 9, 0));
+    bench.words(5, chain.at(0), &words(5, 9, 0));
+    let tag = |prn| Spec::new(prn, 0, &set(&words(prn, 9, 0)));
+    bench.send(chain, 2, 1, &[tag(2), tag(2), tag(2), tag(2), tag(5)]);
+    assert!(bench.read(2).is_ok());
+    assert!(bench.receiver.candidate(5).is_some());
+}
+
 // A refused start leaves all as before; an accepted one holds only what it was given.
 #[test]
 fn starts_again() {
     let (mut bench, chain) = Bench::usual();
-    bench.words(2, chain.at(0), &words(2, 9, 0));
-    bench.send(&chain, 2, 1, &[Spec::new(2, 0, &set(&words(2, 9, 0)))]);
-    assert!(bench.read(2).is_ok());
+    with_set_and_candidate(&mut bench, &chain);
     let before = bench.receiver.clone();
     assert_eq!(
         Start {
@@ -371,9 +379,8 @@ fn number_4_stopped() {
         },
         &chain,
     );
-    bench.words(2, chain.at(0), &words(2, 9, 0));
-    let good = Spec::new(2, 0, &set(&words(2, 9, 0)));
-    bench.send(&chain, 2, 1, std::slice::from_ref(&good));
+    let tag = |prn| Spec::new(prn, 0, &set(&words(prn, 9, 0)));
+    with_set_and_candidate(&mut bench, &chain);
     bench.dsm(3, chain.at(1), HEADER, 3, &chain.dsm(3, &[8; 64]));
     let last = chain.at(20);
     for (i, block) in dsm.chunks(13).enumerate().take(10) {
@@ -387,7 +394,7 @@ fn number_4_stopped() {
         subframe: 20,
         status: 2,
     };
-    let section = chain.section(sent, &[good], &[]);
+    let section = chain.section(sent, &[tag(2)], &[]);
     let answer = bench.subframe(7, last, &hkroot(HEADER, 13, 10, &dsm[130..]), &section);
     assert_eq!(answer, ((0, 4), vec![]));
     assert!(bench.receiver.is_stopped());
@@ -435,8 +442,9 @@ fn number_4_stopped() {
     assert_eq!(bench.good(3, &chain.message(HEADER), &[8; 64]), 4);
     assert_eq!(bench.good(3, &[7], &[8; 64]), 4, "4 before 14");
     assert_eq!(bench.receiver, stopped, "all as before");
-    // Reads are answered as otherwise.
+    // Reads are answered as otherwise, and candidates stay.
     assert!(bench.read(2).is_ok());
+    assert!(bench.receiver.candidate(5).is_some());
     let waiting = bench
         .receiver
         .read_waiting(&mut [0; 45], &mut [0; 132], &mut [0; 67]);
@@ -1182,7 +1190,7 @@ fn numbers_14_and_15() {
 
 #[test]
 fn number_16() {
-    let (mut bench, chain) = Bench::usual();
+    let (mut bench, chain) = Bench::wide();
     let two = words(2, 9, 0);
     bench.words(2, chain.at(0), &two);
     assert_eq!(bench.read(2), Err(16));

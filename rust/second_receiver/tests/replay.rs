@@ -3,7 +3,7 @@
 mod common;
 
 use common::*;
-use second_receiver::replay::{replay, write_reads};
+use second_receiver::replay::{replay, write_candidates, write_reads};
 use std::fs;
 use std::io::{Read, Write};
 use std::path::Path;
@@ -106,8 +106,14 @@ fn a_run() {
     for word in words(2, 9, 0) {
         input.extend(record(2, &[&[2], &chain.at(0).to_be_bytes(), &word]));
     }
-    let two = set(&words(2, 9, 0));
-    let specs = [Spec::new(2, 0, &two), Spec::new(2, 0, &two).flip(1)];
+    for word in words(5, 700, 0) {
+        input.extend(record(2, &[&[5], &chain.at(0).to_be_bytes(), &word]));
+    }
+    let (two, five) = (set(&words(2, 9, 0)), set(&words(5, 700, 0)));
+    // Four tags of 12 bits are enough for PRN 2; two of three are right for PRN 5.
+    let mut specs = vec![Spec::new(2, 0, &two); 4];
+    specs.extend([Spec::new(5, 0, &five), Spec::new(5, 0, &five).flip(1)]);
+    specs.push(Spec::new(5, 0, &five));
     let section = chain.section(
         Sent {
             prn: 2,
@@ -125,17 +131,17 @@ fn a_run() {
     ));
     let mut expected = "1 0 0 0\n".to_string();
     (2..10).for_each(|place| expected += &format!("{place} 0 11 0\n"));
-    (10..16).for_each(|place| expected += &format!("{place} 0 0 0\n"));
-    expected += "16 0 0 8\n010202000101";
+    (10..21).for_each(|place| expected += &format!("{place} 0 0 0\n"));
+    expected += "21 0 0 8\n";
     assert!(chain.at(2) == 0x3E80_8CDC);
-    expected += "00093E808CDC\n02020200010200093E808CDC\n";
-    let output = lines(&input);
-    assert!(output.starts_with(&expected), "{output}");
-    let fours: Vec<&str> = output.lines().skip(18).collect();
-    assert_eq!(fours.len(), 6);
-    assert!(fours
-        .iter()
-        .all(|line| line.starts_with("040200000") && line.ends_with("00003E808CDC")));
+    for (outcome, position) in [(9, 1), (9, 2), (9, 3), (1, 4)] {
+        expected += &format!("{outcome:02}02020001{position:02}00093E808CDC\n");
+    }
+    for (outcome, position) in [(9, 1), (2, 2), (9, 3)] {
+        expected += &format!("{outcome:02}02050002{position:02}02BC3E808CDC\n");
+    }
+    expected += "04020000020400003E808CDC\n";
+    assert_eq!(lines(&input), expected);
 
     let receiver = replay(&input[..], &mut Vec::new()).unwrap();
     let mut reads = Vec::new();
@@ -148,6 +154,13 @@ fn a_run() {
         ("A 1 16", &two_line[..], "A 36 16", "W 14")
     );
     assert_eq!(reads.len(), 37);
+
+    let mut candidates = Vec::new();
+    write_candidates(&receiver, &mut candidates).unwrap();
+    assert_eq!(
+        String::from_utf8(candidates).unwrap(),
+        format!("C 5 24 {} 700 3E808CDC\n", upper(&five))
+    );
 }
 
 /// Gives one byte a read, and now and then an interruption.

@@ -51,7 +51,7 @@ fn record(
 }
 
 #[test]
-fn outcomes_1_and_2() {
+fn outcomes_1_2_and_9() {
     let (mut bench, chain) = Bench::usual();
     let (two, five) = (words(2, 9, 0), words(5, 700, 0));
     bench.words(2, chain.at(0), &two);
@@ -72,18 +72,18 @@ fn outcomes_1_and_2() {
     assert_eq!(number, 0);
     let time = chain.at(2);
     let expected = [
-        record(1, 2, 2, 0, (1, 1), 9, time),
-        record(1, 2, 5, 0, (1, 2), 700, time),
-        record(1, 2, 2, 0, (1, 3), 9, time),
-        record(1, 2, 5, 0, (1, 4), 700, time),
-        record(1, 2, 5, 0, (2, 1), 700, time),
-        record(1, 2, 2, 0, (2, 2), 9, time),
+        record(9, 2, 2, 0, (1, 1), 9, time),
+        record(9, 2, 5, 0, (1, 2), 700, time),
+        record(9, 2, 2, 0, (1, 3), 9, time),
+        record(9, 2, 5, 0, (1, 4), 700, time),
+        record(9, 2, 5, 0, (2, 1), 700, time),
+        record(9, 2, 2, 0, (2, 2), 9, time),
         record(2, 2, 5, 0, (2, 3), 700, time),
         record(1, 2, 2, 0, (2, 4), 9, time),
     ];
     assert_eq!(records, expected);
     assert_eq!(bench.read(2), Ok((set(&two), 9, time)));
-    assert_eq!(bench.read(5), Ok((set(&five), 700, time)));
+    assert_eq!(bench.read(5), Err(16));
 }
 
 // Each bit of a tag counts, whatever MS; and each bit of the set.
@@ -118,7 +118,7 @@ fn every_bit_of_a_tag_and_of_its_set() {
                 };
                 let (number, records) = bench.clone().send(&chain, 2, 2, &spec);
                 assert_eq!(
-                    (number, &outcomes(&records)[..2]),
+                    (number, &found(&records)[..2]),
                     (0, &wrong[..]),
                     "MS {} bit {bit}",
                     ms.1
@@ -148,7 +148,7 @@ fn the_549_bits() {
                 bench
                     .clone()
                     .send(&chain, prn, at, &[Spec::new(prn, 0, &set(&five))]);
-            assert_eq!((number, records[0][0]), (0, 1));
+            assert_eq!((number, records[0][0]), (0, 9));
         }
     }
 }
@@ -196,7 +196,7 @@ fn outcome_3() {
         bench.receiver.word(2, chain.at(3), &two[missing]);
         assert_eq!(
             outcome(&bench),
-            1,
+            9,
             "word {} of the sub-frame before",
             missing + 1
         );
@@ -218,7 +218,7 @@ fn outcome_3() {
     // Word 5 is not tied to an issue; words of years ago are usable.
     let mut bench = bench;
     bench.words(2, gst(0, 0), &two);
-    assert_eq!(outcome(&bench), 1);
+    assert_eq!(outcome(&bench), 9);
     bench.receiver.word(2, chain.at(3), &words(2, 10, 7)[4]);
     assert_eq!(outcome(&bench), 2);
 }
@@ -240,14 +240,14 @@ fn outcome_4() {
         let flexible: &[usize] = if mark == 255 { &[2] } else { &[] };
         let section = chain.section(sent(2, 2), &fields, flexible);
         let (number, records) = bench.section(2, chain.at(2), HEADER, &section);
-        assert_eq!((number, &outcomes(&records)[..2]), (0, &[1, 1][..]));
+        assert_eq!((number, &found(&records)[..2]), (0, &[1, 1][..]));
         if records[2][0] == 4 {
             assert_eq!(records[2], record(4, 2, prn, adkd, (1, 3), 0, chain.at(2)));
         }
         records[2][0]
     };
     for adkd in 0..16 {
-        let taken = [(0, 1), (11, 5), (12, 5)]
+        let taken = [(0, 9), (11, 5), (12, 5)]
             .iter()
             .find(|t| t.0 == adkd)
             .map_or(4, |t| t.1);
@@ -286,7 +286,7 @@ fn outcome_6() {
         }
         let (number, records) = bench.clone().section(2, chain.at(2), HEADER, &section);
         assert_eq!(number, 0);
-        outcomes(&records)
+        found(&records)
     };
     let all = vec![good.clone(); 8];
     assert_eq!(run(&all, &[1, 3, 6], None), [1; 8]);
@@ -339,7 +339,7 @@ fn macseq_without_flexible_fields() {
         let (_, records) = bench
             .clone()
             .section(2, chain.at(2), HEADER, &with_bit(&section, bit));
-        assert_eq!(outcomes(&records), [1; 8]);
+        assert_eq!(found(&records), [1; 8]);
     }
 }
 
@@ -364,16 +364,19 @@ fn the_list_by_the_second_of_the_minute() {
                     .section(2, chain.at(subframe as i64), HEADER, &section);
             assert_eq!(
                 outcomes(&records)[..2],
-                [1, outcome],
+                [9, outcome],
                 "sub-frame {subframe} ADKD {adkd}"
             );
         }
     }
 }
 
-/// Everyone's words at sub-frame 0, all fields flexible.
+/// The usual chain, everyone's words at sub-frame 0, all fields flexible.
 fn flexible_bench() -> (Bench, TestChain) {
-    let chain = TestChain::usual();
+    flexible_bench_of(TestChain::usual())
+}
+
+fn flexible_bench_of(chain: TestChain) -> (Bench, TestChain) {
     let mut bench = Bench::in_force(&all_flexible(), &chain);
     for prn in 1..=36 {
         bench.words(prn, chain.at(0), &words(prn, 9, 0));
@@ -400,13 +403,13 @@ fn header_of(status: u8) -> u8 {
 #[test]
 fn slow_tags_fall_due() {
     for (adkd, delay) in [(11, 1), (12, 10)] {
-        for place in [1, 3, 4, 7] {
-            let (mut bench, chain) = flexible_bench();
+        for place in [1, 2, 3] {
+            let (mut bench, chain) = flexible_bench_of(TestChain::wide());
             let two = set(&words(2, 9, 0));
-            let mut fields = vec![Spec::new(0, 0, &[]); 8];
+            let mut fields = vec![Spec::new(0, 0, &[]); 4];
             fields[place] = Spec::new(2, adkd, &two);
             let records = lend(&mut bench, &chain, sent(3, 5), &fields);
-            let (block, position) = (place as u8 / 4 + 1, place as u8 % 4 + 1);
+            let (block, position) = (place as u8 / 2 + 1, place as u8 % 2 + 1);
             let waits = record(5, 3, 2, adkd, (block, position), 9, chain.at(5));
             assert_eq!(records[place], waits);
             assert_eq!(bench.receiver.waiting_tags().len(), 1);
@@ -414,7 +417,7 @@ fn slow_tags_fall_due() {
             let before = 5 + delay - 1;
             if delay > 1 {
                 let records = lend(&mut bench, &chain, sent(4, before), &[]);
-                assert_eq!((records.len(), bench.receiver.waiting_tags().len()), (8, 1));
+                assert_eq!((records.len(), bench.receiver.waiting_tags().len()), (4, 1));
             }
             // A refused section judges nothing.
             let mut refused = bench.clone();
@@ -431,7 +434,7 @@ fn slow_tags_fall_due() {
             );
             // PRN 1 sends the lowest slot of each block: for block 2 the held slot is just reached.
             let records = lend(&mut bench, &chain, sent(1, 5 + delay), &[]);
-            assert_eq!(records.len(), 9);
+            assert_eq!(records.len(), 5);
             assert_eq!(
                 records[0],
                 record(1, 3, 2, adkd, (block, position), 9, chain.at(5))
@@ -445,7 +448,7 @@ fn slow_tags_fall_due() {
 // While a slow tag waits, the satellite's words are replaced: its own copy is judged and marked.
 #[test]
 fn a_data_change_while_a_slow_tag_waits() {
-    let (mut bench, chain) = flexible_bench();
+    let (mut bench, chain) = flexible_bench_of(TestChain::wide());
     let (old, new) = (words(2, 9, 0), words(2, 44, 1));
     let fields = [Spec::new(0, 0, &[]), Spec::new(2, 12, &set(&old))];
     lend(&mut bench, &chain, sent(3, 5), &fields);
@@ -454,7 +457,7 @@ fn a_data_change_while_a_slow_tag_waits() {
     assert_eq!(records[0], record(1, 3, 2, 12, (1, 2), 9, chain.at(5)));
     assert_eq!(bench.read(2), Ok((set(&old), 9, chain.at(5))));
     // A slow tag over the new set that came before the new set was usable is wrong.
-    let (mut bench, chain) = flexible_bench();
+    let (mut bench, chain) = flexible_bench_of(TestChain::wide());
     lend(
         &mut bench,
         &chain,
@@ -473,7 +476,7 @@ fn a_data_change_while_a_slow_tag_waits() {
 fn a_newer_authentic_set_stays() {
     let (old, new) = (words(2, 9, 0), words(2, 44, 1));
     let slow = [Spec::new(0, 0, &[]), Spec::new(2, 12, &set(&old))];
-    let (mut bench, chain) = flexible_bench();
+    let (mut bench, chain) = flexible_bench_of(TestChain::wide());
     lend(&mut bench, &chain, sent(3, 5), &slow);
     bench.words(2, chain.at(5), &new);
     lend(
@@ -492,7 +495,7 @@ fn a_newer_authentic_set_stays() {
     );
     // The same GST_SF: PRN 3's section comes with the old words, then words of an earlier
     // sub-frame, then PRN 2's.
-    let (mut bench, chain) = flexible_bench();
+    let (mut bench, chain) = flexible_bench_of(TestChain::wide());
     lend(&mut bench, &chain, sent(3, 5), &slow);
     bench.words(2, chain.at(4), &new);
     lend(
@@ -547,7 +550,7 @@ fn a_waiting_tag_keeps_its_status() {
             },
             &[],
         );
-        assert_eq!(records[0][0], 1, "{came} then {judged}");
+        assert_eq!(records[0][0], 9, "{came} then {judged}");
     }
     // A tag made for another status is wrong.
     let (mut bench, chain) = flexible_bench();
@@ -593,15 +596,15 @@ fn order_of_records() {
     );
     let told: Vec<(u8, u8, u8)> = records.iter().map(|r| (r[0], r[1], r[2])).collect();
     let due = [
-        (1, 3, 7),
-        (1, 3, 8),
-        (1, 2, 9),
-        (1, 1, 10),
-        (1, 1, 12),
+        (9, 3, 7),
+        (9, 3, 8),
+        (9, 2, 9),
+        (9, 1, 10),
+        (9, 1, 12),
         (2, 2, 13),
     ];
     assert_eq!(told[..6], due);
-    assert_eq!(told[6..9], [(1, 4, 4), (1, 4, 14), (5, 4, 15)]);
+    assert_eq!(told[6..9], [(9, 4, 4), (9, 4, 14), (5, 4, 15)]);
     assert_eq!(records.len(), 6 + 8);
     let left: Vec<u8> = bench
         .receiver
@@ -643,11 +646,11 @@ fn places() {
     // A quick tag needs no place.
     let quick = Spec::new(21, 0, &set(&words(21, 9, 0)));
     let records = lend(&mut bench, &chain, sent(21, 5), &[quick, slow(21)]);
-    assert_eq!(outcomes(&records)[..2], [1, 7]);
+    assert_eq!(outcomes(&records)[..2], [9, 7]);
     // All 256 fall due at once, and the section's own find places.
     let records = lend(&mut bench, &chain, sent(22, 15), &full(22));
     assert_eq!(records.len(), 270);
-    assert_eq!(outcomes(&records)[..256], [1; 256]);
+    assert_eq!(found(&records)[..256], [1; 256]);
     assert_eq!(outcomes(&records)[257..], [5; 13]);
     assert_eq!(bench.receiver.waiting_tags().len(), 13);
 }
@@ -679,7 +682,7 @@ fn every_layout() {
                     let (number, records) = bench.send(&chain, 2, subframe, &all);
                     let expected = vec![1; fields * usize::from(nmack)];
                     assert_eq!(
-                        (number, outcomes(&records)),
+                        (number, found(&records)),
                         (0, expected),
                         "{nmack} {key} {tag}"
                     );
@@ -718,7 +721,7 @@ fn every_ns() {
             // Tag 0 is of the sender's own data.
             let own = if prn == 2 { 1 } else { 3 };
             assert_eq!(
-                (number, &outcomes(&records)[..]),
+                (number, &found(&records)[..]),
                 (0, &[own, 1, 1, 1, 1, 1, 1, 1][..])
             );
         }
@@ -752,13 +755,13 @@ fn over_a_change_of_week() {
         ];
         assert_eq!(
             outcomes(&lend(&mut bench, &chain, sent(2, 115), &fields))[..2],
-            [1, 5]
+            [9, 5]
         );
         assert_eq!(chain.at(125), gst(week + 1, 150));
         let records = lend(&mut bench, &chain, sent(1, 125), &[]);
         assert_eq!(
             records[0],
-            record(1, 2, 2, 12, (1, 2), 9, gst(week, 604_650))
+            record(9, 2, 2, 12, (1, 2), 9, gst(week, 604_650))
         );
     }
     // A tag whose key would lie past the last week waits on.
@@ -782,7 +785,7 @@ fn over_a_change_of_week() {
     ];
     assert_eq!(
         outcomes(&lend(&mut bench, &chain, sent(2, 119), &fields))[..2],
-        [1, 5]
+        [9, 5]
     );
     assert_eq!(bench.receiver.waiting_tags().len(), 1);
 }
@@ -820,6 +823,6 @@ fn many_due_tags_after_a_far_gap() {
     assert_eq!(waiting, PLACES);
     let before = std::time::Instant::now();
     let records = lend(&mut bench, &chain, sent(1, 9_200), &[]);
-    assert_eq!(outcomes(&records)[..256], [1; 256]);
+    assert_eq!(found(&records)[..256], [1; 256]);
     assert!(before.elapsed().as_secs() < 60, "{:?}", before.elapsed());
 }

@@ -4,26 +4,6 @@ mod common;
 
 use common::*;
 
-/// Lends a DSM-KROOT of `chain` under `header` and key `key_id` at `first`, and a good verdict on
-/// it.
-fn vouch(bench: &mut Bench, chain: &TestChain, header: u8, key_id: u8, first: u32) -> u8 {
-    let signature = [first as u8; 64];
-    assert_eq!(
-        bench.dsm(35, first, header, 5, &chain.dsm(key_id, &signature)),
-        0
-    );
-    let number = bench.good(key_id, &chain.message(header), &signature);
-    assert!(
-        bench.receiver.waiting_message().is_none(),
-        "the wait has ended"
-    );
-    number
-}
-
-fn header(status: u8, cid: u8) -> u8 {
-    status << 6 | cid << 4 | 2
-}
-
 /// A tag that waits at sub-frame 3, second 30 of the minute, its key ten sub-frames later.
 fn with_waiting_tags() -> (Bench, TestChain) {
     let (mut bench, chain) = Bench::usual();
@@ -35,7 +15,7 @@ fn with_waiting_tags() -> (Bench, TestChain) {
         Spec::new(2, 12, &set(&two)),
     ];
     let (number, records) = bench.send(&chain, 2, 3, &fields);
-    assert_eq!((number, &outcomes(&records)[..3]), (0, &[1, 5, 5][..]));
+    assert_eq!((number, &outcomes(&records)[..3]), (0, &[9, 5, 5][..]));
     assert_eq!(bench.receiver.waiting_tags().len(), 2);
     (bench, chain)
 }
@@ -387,7 +367,7 @@ fn waiting_tags_stay_with_an_unchanged_chain() {
 // A key's sub-frame that is the root's sub-frame 0 is not before it.
 #[test]
 fn a_tag_whose_key_is_of_sub_frame_0_stays() {
-    let chain = TestChain::with(1, 2, (4, 128), (1, 12)).keyed(400);
+    let chain = TestChain::with(1, 1, (4, 128), (9, 40)).keyed(400);
     let start = Start {
         ns: 1,
         marks_0: Start::default().marks_30,
@@ -405,10 +385,10 @@ fn a_tag_whose_key_is_of_sub_frame_0_stays() {
         let section = chain.section(
             sent,
             &[Spec::new(2, 0, &[]), Spec::new(2, adkd, &set(&two))],
-            &[1, 2, 3, 4, 5, 6, 7],
+            &[1, 2, 3, 4, 5],
         );
         let (number, records) = bench.section(1, chain.at(subframe as i64), HEADER, &section);
-        let last = records.iter().rev().nth(6).unwrap();
+        let last = records.iter().rev().nth(4).unwrap();
         assert_eq!((number, last[0]), (0, 5), "sub-frame {subframe}");
     }
     let floated = chain.floated(1);

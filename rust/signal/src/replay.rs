@@ -188,14 +188,11 @@ impl Run {
             }
         }
         for (place, outcomes) in &self.expects.outcomes {
-            match given.get(place - 1) {
-                Some(g) if &g.outcomes == outcomes => {}
-                g => {
-                    let given = g.map(|g| &g.outcomes);
-                    wrong.push(format!(
-                        "record {place}: outcomes {outcomes:?} wanted, {given:?} given"
-                    ));
-                }
+            let given = given.get(place - 1).map(|g| &g.outcomes);
+            if given != Some(outcomes) {
+                wrong.push(format!(
+                    "record {place}: outcomes {outcomes:?} wanted, {given:?} given"
+                ));
             }
         }
         let seen = |outcome: &u8| given.iter().any(|g| g.outcomes.contains(outcome));
@@ -304,6 +301,19 @@ mod tests {
                 None
             )
             .is_err());
+        // Outcome 1 is not 9, and neither is 2.
+        let with = |outcome: u8| {
+            format!("1 0 0 0\n2 2 0 0\n3 5 5 1\n{outcome:02}0101010101010101010101\n")
+        };
+        for stated in [1, 2, 9] {
+            let mut run = run.clone();
+            run.expects.outcomes.clear();
+            run.outcomes(&[stated]);
+            for given in [1, 2, 9] {
+                let right = run.check(&with(given), None).is_ok();
+                assert_eq!(right, given == stated, "{stated} {given}");
+            }
+        }
         run.expects.reads.push((3, Read::None));
         assert_eq!(
             run.check("1 0 0 0\n2 2 0 0\n3 5 5 0\n", Some("A 3 16\n")),

@@ -14,18 +14,18 @@ use Rattle.due_tags.proofs.sweep.Tie as tie
 use Rattle.rules.specs.State.{arrivalsLength, waitingLength, setsLength, areaLength}
 
 abbrev Inv-loop : tie.InvT-loop
-Inv-loop outcomes waiting₀ n sets₀ times₀ area₀ kept₀ k₀ waiting sets arrivals area kept k =
+Inv-loop ms outcomes waiting₀ n sets₀ times₀ area₀ kept₀ k₀ waiting sets arrivals area kept k =
     ((k ≤ n) × ((length waiting ≡ waitingLength) × ((length sets ≡ setsLength) × ((length arrivals ≡ arrivalsLength) × (length area ≡ areaLength)))))
-    × (Leaves (swept outcomes waiting₀ k (start 0 sets₀ times₀)) 0 0 waiting₀ area₀ waiting sets arrivals area kept
-    × Counts (swept outcomes waiting₀ k (start 0 sets₀ times₀)) k kept)
+    × (Leaves (swept ms outcomes waiting₀ k (start 0 sets₀ times₀)) 0 0 waiting₀ area₀ waiting sets arrivals area kept
+    × Counts (swept ms outcomes waiting₀ k (start 0 sets₀ times₀)) k kept)
 
 abbrev μ-loop : tie.MeasureT-loop
-μ-loop outcomes waiting₀ n sets₀ times₀ area₀ kept₀ k₀ waiting sets arrivals area kept k = n - k
+μ-loop ms outcomes waiting₀ n sets₀ times₀ area₀ kept₀ k₀ waiting sets arrivals area kept k = n - k
 
 loop-holds : tie.Need-loop-holds Inv-loop μ-loop
 loop-holds c =
     let g = c .before .before .before .before .before .args in
-    ((search needs), none-swept (now (g .outcomes)) (now (g .waiting)) (now (g .sets)) (now (g .arrivals)) (now (g .area)))
+    ((search needs), none-swept (g .ms) (now (g .outcomes)) (now (g .waiting)) (now (g .sets)) (now (g .arrivals)) (now (g .area)))
 
 shared-slice-read-outcome : tie.Need-shared-slice-read-outcome Inv-loop μ-loop
 shared-slice-read-outcome c = search needs
@@ -33,7 +33,7 @@ shared-slice-read-outcome c = search needs
 sweep-one-requires : tie.Need-sweep-one-requires Inv-loop μ-loop
 sweep-one-requires c κs =
     let few = c .before .before .before .before .before .before .loop .inv .1 .1 .few in
-    (search needs, (few, search needs))
+    (search needs, ((few, search needs), search needs))
 
 loop-again : tie.Need-loop-again Inv-loop μ-loop
 loop-again c =
@@ -43,8 +43,8 @@ loop-again c =
     let g = a .args in
     let p = s .«sweep-one» in (
       search needs,
-      one-swept (now (g .outcomes)) (now (g .waiting)) (now (g .area)) (l .waiting) (l .sets) (l .arrivals) (l .area)
-          (p .last .1 .0) (p .last .1 .1 .1 .1 .0) (p .last .1 .1 .1 .1 .1 .0) (p .last .1 .1 .1 .1 .1 .1 .0)
+      one-swept (g .ms) (now (g .outcomes)) (now (g .waiting)) (now (g .area)) (l .waiting) (l .sets) (l .arrivals) (l .area)
+          (p .last .1 .1 .0) (p .last .1 .1 .1 .1 .1 .0) (p .last .1 .1 .1 .1 .1 .1 .0) (p .last .1 .1 .1 .1 .1 .1 .1 .0)
           (l .k) (l .kept) (p .result) (start 0 (now (g .sets)) (now (g .arrivals)))
           (omega (arith, a .pre)) (omega (arith, a .pre)) (omega (arith, a .pre)) (l .inv .1 .0) (l .inv .1 .1) (p .ensures),
     )

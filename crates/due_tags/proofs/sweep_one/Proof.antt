@@ -12,7 +12,7 @@ returns : tie.Need-returns
 returns c =
     let m = c .before .before in
     let g = m .before .before .before .before .before .before .before .args in
-    stays-leaves (g .outcome) (g .k - g .kept) (g .kept) (entryAt (now (g .waiting)) (g .k)) (now (g .waiting)) (now (g .sets)) (now (g .arrivals)) (now (g .area)) (m .move-entry .last .0)
+    stays-leaves (g .ms) (g .outcome) (g .k - g .kept) (g .kept) (entryAt (now (g .waiting)) (g .k)) (now (g .waiting)) (now (g .sets)) (now (g .arrivals)) (now (g .area)) (m .move-entry .last .0)
     (m .before .before .if1 .taken) (m .move-entry .ensures)
 
 returns-2 : tie.Need-returns-2
@@ -20,8 +20,8 @@ returns-2 c =
     let t = c .before .before .before .before .before .before in
     let b = t .before .before .before .before .before in
     let g = b .before .before .before .before .before .args in
-    due-leaves (g .outcome) (g .k - g .kept) (g .kept) (entryAt (now (g .waiting)) (g .k)) (now (g .waiting)) (now (g .sets)) (now (g .arrivals)) (now (g .area))
-    (t .tell-entry .last .1 .1 .1 .0) (t .tell-entry .last .1 .1 .1 .1 .0) (t .tell-entry .last .1 .1 .1 .1 .1 .0) (b .if1 .left) (t .tell-entry .ensures)
+    due-leaves (g .ms) (g .outcome) (g .k - g .kept) (g .kept) (entryAt (now (g .waiting)) (g .k)) (now (g .waiting)) (now (g .sets)) (now (g .arrivals)) (now (g .area))
+    (t .tell-entry .last .1 .1 .1 .1 .0) (t .tell-entry .last .1 .1 .1 .1 .1 .0) (t .tell-entry .last .1 .1 .1 .1 .1 .1 .0) (b .if1 .left) (t .tell-entry .ensures)
 
 pub sweep-one-spec : {M : Type 1} → statement M
 sweep-one-spec =

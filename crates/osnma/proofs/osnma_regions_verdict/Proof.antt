@@ -23,10 +23,10 @@ verdict c =
 -- the state with the lent regions
 abbrev lent : tie.Start → State → State
 lent c s =
-    verdictLent s (now (c .args .config)) (now (c .args .pubkeys)) (now (c .args .offer)) (now (c .args .chain)) (now (c .args .numbers)) (now (c .args .heldkey)) (now (c .args .waiting))
+    verdictLent s (now (c .args .config)) (now (c .args .pubkeys)) (now (c .args .offer)) (now (c .args .chain)) (now (c .args .numbers)) (now (c .args .heldkey)) (now (c .args .waiting)) (now (c .args .arrivals))
 
 abbrev start : tie.After-verdict-shaped → tie.Start
-start c = c .before .before .before .before .before .before .before .before .before .before .before .before .before .before .before .before
+start c = c .before .before .before .before .before .before .before .before .before .before .before .before .before .before .before .before .before .before
 
 shaped-is : (c : tie.After-verdict-shaped) (s : State) → verdictShaped (lent (start c) s) ≡ c .verdict-shaped .result
 shaped-is c s = sym (c .verdict-shaped .ensures s)
@@ -42,15 +42,15 @@ returns c =
 
 judge-verdict-requires : tie.Need-judge-verdict-requires
 judge-verdict-requires c κs =
-    let i = c .before .before .before .before .before .before in
+    let i = c .before .before .before .before .before .before .before in
     let g = start (i .before) in
     let s = lent g blankCore in
     let l = long-two (verdictShaped s) (now (g .args .message)) (now (g .args .signature)) 45 132 (fits i blankCore) in
     let z = verdict-sized s (l .0) in
-    (((z .config, z .pubkeys), (z .offer, z .chain)), ((z .numbers, z .heldkey), (z .waiting, l .1)))
+    ((((z .config, z .pubkeys), (z .offer, z .chain)), ((z .numbers, z .heldkey), (z .waiting, l .1))), z .arrivals)
 
-abbrev judged : tie.After-slice-known12 → tie.After-judge-verdict
-judged c = c .before .before .before .before .before .before .before .before .before .before .before .before
+abbrev judged : tie.After-slice-known14 → tie.After-judge-verdict
+judged c = c .before .before .before .before .before .before .before .before .before .before .before .before .before .before
 
 returns-2 : tie.Need-returns-2
 returns-2 c = (judged c) .judge-verdict .ensures
@@ -58,7 +58,7 @@ returns-2 c = (judged c) .judge-verdict .ensures
 pub osnma-regions-verdict-spec : {M : Type 1} → statement M
 osnma-regions-verdict-spec =
     tie.close
-    (tie.spec (λ c κs. search needs) (λ c. refl) (λ c. refl) (λ c. refl) (λ c. refl) (λ c. refl) (λ c. refl)
+    (tie.spec (λ c κs. search needs) (λ c. refl) (λ c. refl) (λ c. refl) (λ c. refl) (λ c. refl) (λ c. refl) (λ c. refl)
     returns
     judge-verdict-requires
     (λ c. (judged c) .judge-verdict .kept .1 .0)
@@ -67,4 +67,5 @@ osnma-regions-verdict-spec =
     (λ c. (judged c) .judge-verdict .kept .1 .1 .1 .1 .0)
     (λ c. (judged c) .judge-verdict .kept .1 .1 .1 .1 .1 .0)
     (λ c. (judged c) .judge-verdict .kept .1 .1 .1 .1 .1 .1 .0)
+    (λ c. (judged c) .judge-verdict .kept .1 .1 .1 .1 .1 .1 .1 .0)
     returns-2)

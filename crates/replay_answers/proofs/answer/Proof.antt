@@ -40,7 +40,7 @@ returns-5 : tie.Need-returns-5
 unfolding kindOf
 returns-5 c =
     rw (c .single4 .ensures)
-    (c .before .verdict .ensures (whole (c .before .before .before .before .before .before .before .before .before .before .before .before .before .before .before .before .before .before)) _ ∙ verdict-kind _ _ (c .before .before .before .before .before .before .before .before .before .before .before .before .before .before .before .before .if1 .left) (c .before .before .before .before .before .before .before .before .before .before .if5 .taken))
+    (c .before .verdict .ensures (whole (c .before .before .before .before .before .before .before .before .before .before .before .before .before .before .before .before .before .before .before)) _ ∙ verdict-kind _ _ (c .before .before .before .before .before .before .before .before .before .before .before .before .before .before .before .before .before .if1 .left) (c .before .before .before .before .before .before .before .before .before .before .before .if5 .taken))
 
 returns-6 : tie.Need-returns-6
 unfolding kindOf

@@ -12,7 +12,7 @@ returns c = λ s area. verdict-unstarted _ area _ _ (c .if1 .taken)
 
 returns-2 : tie.Need-returns-2
 unfolding verdictOf part
-returns-2 c = λ s area. verdict-answered _ _ area _ _ _ (c .before .before .before .before .before .before .before .before .before .before .before .before .if1 .left) (c .judge-verdict .ensures s)
+returns-2 c = λ s area. verdict-answered _ _ area _ _ _ (c .before .before .before .before .before .before .before .before .before .before .before .before .before .if1 .left) (c .judge-verdict .ensures s)
 
 pub verdict-spec : {M : Type 1} → statement M
 verdict-spec =

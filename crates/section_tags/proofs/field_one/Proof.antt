@@ -19,7 +19,7 @@ settle-requires : tie.Need-settle-requires
 settle-requires c κs =
     let o = c .before .before .before .before .before in
     let a = begun (o .before .before .before) in
-    (a .pre .1 .0, ((search needs, a .pre .1 .1 .1 .1), (a .pre .1 .1 .1 .0, λ e. absurd (omega (arith, e, o .outcome-number .ensures)))))
+    (a .pre .1 .0, (((search needs, a .pre .1 .1 .1 .1), (a .pre .1 .1 .1 .0, λ e. absurd (omega (arith, e, o .outcome-number .ensures)))), a .pre .1 .1 .0 .0 .0 .fit .ms-high))
 
 returns : tie.Need-returns
 returns c h k f m =

@@ -29,7 +29,7 @@ settle-requires c κs =
     let o = c .before .before .before .before .before in
     let s = o .before .before in
     let a = s .before .before .before .before .before .before .before .before .before .before .before in
-    (a .pre .1 .0, ((set-long s, a .pre .1 .1 .1 .1), (a .pre .1 .1 .1 .0, o .outcome-of .ensures .0)))
+    (a .pre .1 .0, (((set-long s, a .pre .1 .1 .1 .1), (a .pre .1 .1 .1 .0, o .outcome-of .ensures .0)), a .pre .1 .1 .0 .0 .fit .ms-high))
 
 returns : tie.Need-returns
 returns c h k f =

@@ -11,7 +11,7 @@ put-entry-requires : tie.Need-put-entry-requires
 put-entry-requires c κs =
     let i = c .before in
     let a = i .before .before .before .before .before .before .before .before .before .before .before .before .before .before .before .before in
-    (omega (arith, a .pre .1 .1 .1 (i .if1 .taken), a .pre .0 .1 .0), search needs)
+    (omega (arith, a .pre .1 .0 .1 .1 (i .if1 .taken), a .pre .0 .1 .0), search needs)
 
 returns : tie.Need-returns
 returns c =
@@ -20,16 +20,16 @@ returns c =
     let t = i .before .before .before .before .before .before .before in
     let a = t .before .before .before .before .before .before .before .before .before in
     let g = a .args in
-    waits-leaves (g .outcome) (g .count) (g .at) (g .t) (now (g .set)) (now (g .waiting)) (now (g .sets)) (now (g .arrivals)) (now (g .area))
-    (p .put-entry .last .0) (t .tell .last .1 .1 .1 .0) (t .tell .last .1 .1 .1 .1 .0) (t .tell .last .1 .1 .1 .1 .1 .0) (i .if1 .taken) (t .tell .ensures) (p .put-entry .ensures)
+    waits-leaves (g .ms) (g .outcome) (g .count) (g .at) (g .t) (now (g .set)) (now (g .waiting)) (now (g .sets)) (now (g .arrivals)) (now (g .area))
+    (p .put-entry .last .0) (t .tell .last .1 .1 .1 .1 .0) (t .tell .last .1 .1 .1 .1 .1 .0) (t .tell .last .1 .1 .1 .1 .1 .1 .0) (i .if1 .taken) (t .tell .ensures) (p .put-entry .ensures)
 
 returns-2 : tie.Need-returns-2
 returns-2 c =
     let t = c .before .before .before .before .before .before .before in
     let a = t .before .before .before .before .before .before .before .before .before in
     let g = a .args in
-    told-leaves (g .outcome) (g .count) (g .at) (g .t) (now (g .set)) (now (g .waiting)) (now (g .sets)) (now (g .arrivals)) (now (g .area))
-    (t .tell .last .1 .1 .1 .0) (t .tell .last .1 .1 .1 .1 .0) (t .tell .last .1 .1 .1 .1 .1 .0) (c .if1 .left) (t .tell .ensures)
+    told-leaves (g .ms) (g .outcome) (g .count) (g .at) (g .t) (now (g .set)) (now (g .waiting)) (now (g .sets)) (now (g .arrivals)) (now (g .area))
+    (t .tell .last .1 .1 .1 .1 .0) (t .tell .last .1 .1 .1 .1 .1 .0) (t .tell .last .1 .1 .1 .1 .1 .1 .0) (c .if1 .left) (t .tell .ensures)
 
 pub settle-spec : {M : Type 1} → statement M
 settle-spec =

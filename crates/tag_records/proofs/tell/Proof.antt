@@ -1,6 +1,8 @@
--- `tag_records::tell` meets its contract: the record and the set are the definition's own.
+-- `tag_records::tell` meets its contract: the record is that of the outcome, and the outcome and the sets are the definition's own.
 -- Assumes nothing.
 use denote.Ref.{now}
+use Rattle.rules.specs.Tags.{told}
+use Rattle.tag_records.specs.Told.{start}
 use Rattle.tag_records.proofs.Told.{told-leaves}
 use borrow.Author.Needs.{needs}
 use Rattle.tag_records.proofs.tell.Statement.{statement}
@@ -8,13 +10,13 @@ use Rattle.tag_records.proofs.tell.Tie as tie
 
 returns : tie.Need-returns
 returns c =
-    let e = c .before .before .before .before in
-    let p = e .before .before .before .before .before in
+    let p = c .before .before in
     let i = p .before .before in
-    let g = i .before .before .before .before .before .args in
-    told-leaves (g .outcome) (g .at) (i .record-issue .result) (g .t) (now (g .set)) (now (g .sets)) (now (g .arrivals)) (now (g .area))
-    (e .enter .last .1 .1 .1 .0) (e .enter .last .1 .1 .1 .1 .0) (p .put-record .last .0)
-    (i .record-issue .ensures) (p .put-record .ensures) (e .enter .ensures .0) (e .enter .ensures .1)
+    let o = i .before .before .before .before .before in
+    let g = o .before .before .before .before .before .before .before .args in
+    told-leaves (told (g .ms) (g .found) (g .t) (now (g .set)) (start 0 (now (g .sets)) (now (g .arrivals)))) (g .t) (now (g .set)) (now (g .area))
+    (o .outcome-of .last .1 .1 .1 .1 .0) (o .outcome-of .last .1 .1 .1 .1 .1 .0) (p .put-record .last .0) (o .outcome-of .result) (g .at) (i .record-issue .result)
+    (o .outcome-of .ensures) (i .record-issue .ensures) (p .put-record .ensures)
 
 pub tell-spec : {M : Type 1} → statement M
 tell-spec =

@@ -8,11 +8,14 @@ use jobsheet::history::History;
 use jobsheet::recording::RECORD_LEN;
 use jobsheet::sheet::{RunSheet, Sheet};
 use jobsheet::{html, text};
-use second_receiver::replay::replay;
+use second_receiver::navdata::SET_LEN;
+use second_receiver::receiver::RECORDS_LEN;
+use second_receiver::replay::{answer, replay};
+use second_receiver::sets::Candidate;
 use second_receiver::Receiver;
 use signal::scenario::{self, SEED};
 use std::collections::BTreeMap;
-use std::sync::OnceLock;
+use std::sync::{Arc, OnceLock};
 
 /// Chains of a million slots and more, which other tests walk.
 const LONG: [&str; 4] = ["sections", "gaps", "held_key", "gap_full"];
@@ -28,6 +31,8 @@ fn built() -> Vec<(String, Vec<u8>)> {
         .chain([
             ("few heard".to_string(), few_heard()),
             ("spoiled word".to_string(), spoiled_word()),
+            ("short".to_string(), short_of_a_mark()),
+            ("newer data short".to_string(), newer_data_short()),
         ])
         .map(|(name, mut bytes)| {
             bytes.truncate(bytes.len() / RECORD_LEN * RECORD_LEN);
@@ -62,6 +67,26 @@ pub fn spoiled_word() -> Vec<u8> {
     bytes
 }
 
+/// The records up to the first after which the second receiver holds such sets.
+fn cut(name: &str, such: impl Fn(&Held) -> bool) -> Vec<u8> {
+    let mut bytes = recording(name);
+    let held = Held::after_each(&bytes);
+    let place = held.iter().position(|held| such(held)).unwrap();
+    bytes.truncate((place + 1) * RECORD_LEN);
+    bytes
+}
+
+/// The fitter's half hour, cut off after the first section whose tags agree with data: none is marked yet.
+pub fn short_of_a_mark() -> Vec<u8> {
+    cut("fitter", |held| !held.candidates.is_empty())
+}
+
+/// Cut off while the newer data of satellite 18 is a candidate and the older one marked.
+pub fn newer_data_short() -> Vec<u8> {
+    let is = |held: &Held| held.sets.contains_key(&18) && held.candidates.contains_key(&18);
+    cut("nominal", is)
+}
+
 /// Them all, built once.
 pub fn recordings() -> &'static [(String, Vec<u8>)] {
     static ALL: OnceLock<Vec<(String, Vec<u8>)>> = OnceLock::new();
@@ -91,6 +116,47 @@ pub struct Line {
     pub first: u32,
     pub second: u32,
     pub tags: Vec<[u8; 12]>,
+    /// The sets that the second receiver holds after it.
+    pub after: Arc<Held>,
+}
+
+/// By satellite.
+#[derive(Clone, Debug, Default)]
+pub struct Held {
+    /// What a read gives: IODnav and the time of the tag.
+    pub sets: BTreeMap<u8, (u16, u32)>,
+    /// What no read gives.
+    pub candidates: BTreeMap<u8, Candidate>,
+}
+
+impl Held {
+    fn of(receiver: &Receiver) -> Held {
+        let read = |prn: u8| {
+            let read = receiver.read_set(prn, &mut [0; SET_LEN]);
+            (read.number == 0).then_some((prn, (read.iodnav, read.time)))
+        };
+        let candidate = |prn| Some((prn, receiver.candidate(prn)?.clone()));
+        Held {
+            sets: (1..=36).filter_map(read).collect(),
+            candidates: (1..=36).filter_map(candidate).collect(),
+        }
+    }
+
+    /// After each whole record.
+    fn after_each(recording: &[u8]) -> Vec<Arc<Held>> {
+        let (mut receiver, mut area) = (Receiver::new(), [0; RECORDS_LEN]);
+        let mut held = Arc::new(Held::default());
+        let records = recording.chunks_exact(RECORD_LEN);
+        let after = |record: &[u8]| {
+            answer(&mut receiver, record.try_into().unwrap(), &mut area);
+            // A word leaves the sets as they are.
+            if record[0] != 2 {
+                held = Arc::new(Held::of(&receiver));
+            }
+            held.clone()
+        };
+        records.map(after).collect()
+    }
 }
 
 /// The second receiver's replay: its text, its lines taken apart, and the receiver after them.
@@ -98,6 +164,7 @@ pub fn second(recording: &[u8]) -> Replayed {
     let mut text = Vec::new();
     let receiver = replay(recording, &mut text).unwrap();
     let text = String::from_utf8(text).unwrap();
+    let mut after = Held::after_each(recording).into_iter();
     let mut lines: Vec<Line> = Vec::new();
     for line in text.lines() {
         let numbers: Vec<u64> = line.split(' ').flat_map(str::parse).collect();
@@ -107,6 +174,7 @@ pub fn second(recording: &[u8]) -> Replayed {
                 first: *first as u32,
                 second: *second as u32,
                 tags: Vec::new(),
+                after: after.next().unwrap(),
             });
         } else {
             let digit = |n: usize| u8::from_str_radix(&line[2 * n..2 * n + 2], 16).unwrap();

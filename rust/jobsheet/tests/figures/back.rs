@@ -284,10 +284,18 @@ fn bits(word: u128) -> u128 {
 
 /// The words of a satellite as they are heard, and what tags said of them.
 #[derive(Default)]
-struct Heard {
+pub struct Heard {
     words: [Option<u128>; 5],
-    /// Between changes: the first half minute and the last, and whether a tag matched.
-    stretches: Vec<(Gst, Gst, bool)>,
+    /// Between changes: the first half minute and the last, and the best that a tag said.
+    pub stretches: Vec<(Gst, Gst, Best)>,
+}
+
+/// The best that a tag said of data.
+#[derive(Clone, Copy, Debug, PartialEq, Eq, PartialOrd, Ord)]
+pub enum Best {
+    Nothing,
+    Agrees,
+    Authentic,
 }
 
 impl Heard {
@@ -303,30 +311,31 @@ impl Heard {
     }
 
     /// Whether the word changes what is held.
-    fn word(&mut self, at: Gst, word: &[u8; 16]) -> bool {
+    pub fn word(&mut self, at: Gst, word: &[u8; 16]) -> bool {
         let word = u128::from_be_bytes(*word);
         let old = self.words[(word >> 122) as usize - 1].replace(word);
         let changed = old.is_some_and(|old| bits(old) != bits(word));
         match self.stretches.last_mut() {
             Some(now) if !changed || now.0 == at => now.1 = at,
-            _ => self.stretches.push((at, at, false)),
+            _ => self.stretches.push((at, at, Best::Nothing)),
         }
         changed
     }
 
-    /// The first half minute of data that no tag matched, the last, and the longest time of such data.
-    fn unproved(&self) -> Option<(Gst, Gst, u64)> {
-        let unproved = || self.stretches.iter().filter(|stretch| !stretch.2);
-        let length = |part: &[(Gst, Gst, bool)]| {
+    /// The first half minute of data of which tags said this at the best, and the last.
+    fn span(&self, best: Best) -> Option<(Gst, Gst)> {
+        let of = || self.stretches.iter().filter(|stretch| stretch.2 == best);
+        Some((of().next()?.0, of().next_back()?.1))
+    }
+
+    /// The longest time of data that was not marked.
+    fn longest(&self) -> u64 {
+        let length = |part: &[(Gst, Gst, Best)]| {
             let (first, last) = (part.first()?, part.last()?);
             Some(time::seconds(last.1) - time::seconds(first.0))
         };
-        let longest = self
-            .stretches
-            .split(|stretch| stretch.2)
-            .filter_map(length)
-            .max();
-        Some((unproved().next()?.0, unproved().next_back()?.1, longest?))
+        let parts = self.stretches.split(|stretch| stretch.2 == Best::Authentic);
+        parts.filter_map(length).max().unwrap_or(0)
     }
 }
 
@@ -365,8 +374,14 @@ fn heard(lines: &[Line], run: &[u8]) -> AllHeard {
             tags.insert(name, (t[2], t[0], u16::from_be_bytes([t[6], t[7]])));
             let heard = satellites.entry(t[2]).or_default();
             let stretch = *came.entry(name).or_insert(heard.stretches.len());
-            if let (1, Some(now)) = (t[0], stretch.checked_sub(1)) {
-                heard.stretches[now].2 = true;
+            let best = match t[0] {
+                1 => Best::Authentic,
+                9 => Best::Agrees,
+                _ => Best::Nothing,
+            };
+            if let Some(now) = stretch.checked_sub(1) {
+                let said = &mut heard.stretches[now].2;
+                *said = best.max(*said);
             }
         }
         match Record::of(record.try_into().unwrap()) {
@@ -416,13 +431,18 @@ fn rows(all: &AllHeard, clock: Clock) -> Vec<[String; 3]> {
         };
         let named = |what: &str, outcome| match of(outcome).count() {
             0 => None,
-            n => Some(format!("{n} {what} (IODnav {})", issues(outcome))),
+            n => Some(format!("{n} {what} ({})", issues(outcome))),
         };
         let waits = match of(5).count() {
             0 => None,
             n => Some(format!("{n} still waiting")),
         };
-        let parts = [named("authentic", 1), named("wrong", 2), waits];
+        let parts = [
+            named("authentic", 1),
+            named("agree", 9),
+            named("wrong", 2),
+            waits,
+        ];
         Vec::from_iter(parts.into_iter().flatten()).join(", ")
     };
     let row = |(prn, of): (&u8, &BTreeMap<Gst, Changed>)| {
@@ -460,7 +480,8 @@ fn changes_under_waiting_tags() {
     assert!(seen > 5, "{seen}");
 }
 
-// Data that no tag matched: where there is none, and only there, the box says that all was authentic.
+// Data that was not marked: where there is none, and only there, the box says that all was authentic. Data
+// that tags agree with is told apart from data without a tag.
 #[test]
 fn data_without_proof() {
     let mut boxes: BTreeMap<&str, usize> = BTreeMap::new();
@@ -468,14 +489,17 @@ fn data_without_proof() {
         let (name, shown) = (run.name, &run.sheet);
         let (title, text) = (&shown.finding.title, shown.finding.text.join(" "));
         let heard = heard(run.lines, run.records).satellites;
-        let unproved = heard.values().filter_map(Heard::unproved);
-        let spans: BTreeSet<(Gst, Gst)> = unproved
-            .clone()
-            .map(|(first, last, _)| (first, last))
-            .collect();
+        let spans = |best| -> BTreeSet<(Gst, Gst)> {
+            heard
+                .values()
+                .filter_map(|heard| heard.span(best))
+                .collect()
+        };
+        let (without, short) = (spans(Best::Nothing), spans(Best::Agrees));
         let kind = [
             "All data heard",
             "All data that was judged",
+            "All data that enough tags judged",
             "NOT ALL DATA WAS PROVED",
         ]
         .into_iter()
@@ -484,14 +508,22 @@ fn data_without_proof() {
             continue;
         };
         *boxes.entry(kind).or_default() += 1;
-        let long = unproved.filter(|(_, _, longest)| *longest > 300).count();
+        let long = heard.values().filter(|heard| heard.longest() > 300).count();
+        let none = without.is_empty() && short.is_empty();
         match kind {
-            "All data heard" => assert_eq!(spans.len(), 0, "{name}: {title}"),
-            "All data that was judged" => {
-                assert!(!spans.is_empty() && long == 0, "{name}: {title}");
-                for (first, last) in spans.iter().rev().take(3) {
-                    let span = shown.clock.span(*first, *last);
-                    assert!(text.contains(&span), "{name}: {span} in {text}");
+            "All data heard" => assert!(none, "{name}: {title}"),
+            "All data that was judged" | "All data that enough tags judged" => {
+                assert!(!none && long == 0, "{name}: {title}");
+                assert_eq!(short.is_empty(), kind.ends_with("was judged"), "{name}");
+                let (begin, end) = match text.split_once("Tags agree with data that came for ") {
+                    Some((begin, end)) => (begin, end),
+                    None => (&text[..], ""),
+                };
+                for (spans, told) in [(&without, begin), (&short, end)] {
+                    for (first, last) in spans.iter().rev().take(3) {
+                        let span = shown.clock.span(*first, *last);
+                        assert!(told.contains(&span), "{name}: {span} in {told}");
+                    }
                 }
             }
             _ => {
@@ -499,15 +531,13 @@ fn data_without_proof() {
                     .iter()
                     .filter(|(_, heard)| !heard.stretches.is_empty());
                 let without = with_data.filter(|(_, heard)| {
-                    heard
-                        .unproved()
-                        .is_some_and(|(_, _, longest)| longest > 300)
-                        || heard.stretches.iter().all(|stretch| !stretch.2)
+                    let is_marked = |of: &(Gst, Gst, Best)| of.2 == Best::Authentic;
+                    heard.longest() > 300 || !heard.stretches.iter().any(is_marked)
                 });
                 let told = format!("for {} of {} satellite", without.count(), shown.heard);
                 assert!(title.contains(&told), "{name}: {title}, {told}");
             }
         }
     }
-    assert_eq!(boxes.len(), 3, "{boxes:?}");
+    assert_eq!(boxes.len(), 4, "{boxes:?}");
 }

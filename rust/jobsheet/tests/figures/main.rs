@@ -6,6 +6,7 @@ mod back;
 mod common;
 mod marks;
 
+use back::Heard;
 use common::{
     between, history, lines, lines_of_run, of_run, recording, recordings, replayed, rows, run_page,
     second, sets, sheet_of, shown, subframe_time, Line,
@@ -55,13 +56,31 @@ fn answers_are_the_replays() {
 #[test]
 fn csv_has_every_tag_record() {
     let mut records = 0;
+    let mut sums: BTreeMap<&str, usize> = BTreeMap::new();
     for (name, bytes, _) in shown() {
         let text = rows(bytes);
         let mut rows = text.lines();
         assert_eq!(rows.next(), Some(csv::HEAD));
         for line in lines(name) {
-            for tag in &line.tags {
+            for (n, tag) in line.tags.iter().enumerate() {
                 let row: Vec<&str> = rows.next().unwrap().split(',').collect();
+                assert_eq!(row.len(), csv::HEAD.split(',').count());
+                // The bits that agree: after the last such tag of its satellite here, those of the second
+                // receiver's candidate, if it is still that tag's.
+                let bits = row[15].parse::<usize>().ok();
+                assert!(bits.is_none_or(|bits| tag[0] == 9 && bits < 40), "{name}");
+                let is_last = |later: &[u8; 12]| ![1, 9].contains(&later[0]) || later[2] != tag[2];
+                let candidate = line.after.candidates.get(&tag[2]);
+                if let (9, true, Some(held)) =
+                    (tag[0], line.tags[n + 1..].iter().all(is_last), candidate)
+                {
+                    let counted = bits == Some(held.total());
+                    let older = bits.is_none()
+                        && held.latest().0.to_be_bytes() > tag[8..12].try_into().unwrap();
+                    assert!(counted || older, "{name}: {row:?}, {held:?}");
+                    let what = if counted { "counted" } else { "counts nowhere" };
+                    *sums.entry(what).or_default() += 1;
+                }
                 let n = |at: usize| row[at].parse::<u32>().unwrap();
                 let [i, t] = [n(9), n(10) << 20 | n(11)];
                 let mut told: Vec<u8> = [2, 4, 5, 6, 7, 8].map(|at| n(at) as u8).to_vec();
@@ -74,6 +93,45 @@ fn csv_has_every_tag_record() {
         assert_eq!(rows.next(), None, "{name}");
     }
     assert!(records > 10_000);
+    assert!(sums["counted"] > 100, "{sums:?}");
+}
+
+// After every record the sheet has counted the candidates that the second receiver holds: bits, tags and
+// their sum.
+#[test]
+fn candidates_are_the_second_receivers() {
+    let (mut held, mut gone) = (0, 0);
+    for (name, bytes, _) in shown() {
+        let mut lines = lines(name).iter();
+        let mut before = 0;
+        let each = |all: &History| {
+            let right = &lines.next().unwrap().after.candidates;
+            let Some(run) = all.runs.last() else {
+                return;
+            };
+            let mine = run.candidates.iter();
+            let mine = mine.filter_map(|(prn, of)| Some((*prn, of.now()?)));
+            let mine: BTreeMap<_, _> = mine
+                .map(|(prn, now)| {
+                    let times = now.tags.iter().map(|tag| tag.record.time.bits());
+                    (prn, (now.bytes, now.bits as usize, Vec::from_iter(times)))
+                })
+                .collect();
+            let right: BTreeMap<_, _> = right
+                .iter()
+                .map(|(prn, of)| {
+                    let times = of.tags.iter().map(|tag| tag.time.0);
+                    (*prn, (of.set.0, of.total(), Vec::from_iter(times)))
+                })
+                .collect();
+            assert_eq!(mine, right, "{name}, record {}", all.records);
+            held += usize::from(mine.len() > before);
+            gone += usize::from(mine.len() < before);
+            before = mine.len();
+        };
+        jobsheet::replay(bytes, each).unwrap();
+    }
+    assert!(held > 100 && gone > 100, "{held}, {gone}");
 }
 
 // The marked bytes of the page are what the second receiver reads at the end of each run.
@@ -177,12 +235,19 @@ fn what_a_mark_rests_on() {
     ] {
         let bytes = recording(name);
         let (_, lines, receiver) = second(&bytes);
-        let (page, _) = run_page(name, &history(&bytes), 0);
+        let all = history(&bytes);
+        let (page, _) = run_page(name, &all, 0);
+        let clock_of_page = sheet_of(name, &all, 0).runs[0].clock;
         let records: Vec<&[u8]> = bytes.chunks_exact(RECORD_LEN).collect();
         for (e, _, _, _, shown) in sets(&page, "set") {
             let prn: u8 = e[1..].parse().unwrap();
-            let time = receiver.read_set(prn, &mut [0; SET_LEN]).time.to_be_bytes();
-            let is = |tag: &&[u8; 12]| tag[0] == 1 && tag[2] == prn && tag[8..] == time;
+            let read = receiver.read_set(prn, &mut [0; SET_LEN]);
+            let (iodnav, time) = (read.iodnav.to_be_bytes(), read.time.to_be_bytes());
+            // One that agreed before may be the latest.
+            let is = |tag: &&[u8; 12]| {
+                let of_set = tag[2] == prn && tag[6..8] == iodnav && tag[8..] == time;
+                [1, 9].contains(&tag[0]) && of_set
+            };
             let found = |line: &Line| line.tags.iter().rfind(is).map(|tag| (line.place, *tag));
             let (place, tag) = lines.iter().rev().find_map(found).unwrap();
             let [_, sender, _, adkd, block, position, ..] = tag;
@@ -229,6 +294,24 @@ fn what_a_mark_rests_on() {
                 root.second_of_week()
             );
             assert!(shown[3].starts_with(&told), "{name}: {shown:?}, {told}");
+            // The tags that were summed: all agreed, the last brought the fortieth bit.
+            let (sum, summed) = shown[4].split_once(": ").unwrap();
+            let summed: Vec<&str> = summed.split(", ").collect();
+            let (n, size) = (summed.len(), chain.parameters.tag_bits().unwrap());
+            let s = if n == 1 { "" } else { "s" };
+            assert_eq!(sum, format!("{} bits of {n} tag{s}", n * size), "{name}");
+            assert!(n * size >= 40 && (n - 1) * size < 40, "{name}: {sum}");
+            for (k, told) in summed.into_iter().enumerate() {
+                let outcome = if k + 1 == n { 1 } else { 9 };
+                let is = |t: &[u8; 12]| {
+                    let time = u32::from_be_bytes([t[8], t[9], t[10], t[11]]);
+                    let when = clock_of_page.say(Gst::from_bits(time));
+                    let of_set = t[0] == outcome && t[2] == prn && t[6..8] == iodnav;
+                    of_set && told == format!("E{:02} {when}", t[1])
+                };
+                let found = lines.iter().any(|line| line.tags.iter().any(is));
+                assert!(found, "{name}, {e}: {told}");
+            }
         }
     }
 }
@@ -344,6 +427,7 @@ fn expected(outcomes: &[u8], refused: bool) -> &'static str {
     let order = [
         (2, "wrong"),
         (1, "authentic"),
+        (9, "agrees"),
         (5, "waits"),
         (7, "noplace"),
         (4, "nottaken"),
@@ -376,15 +460,10 @@ struct Expected {
 impl Expected {
     fn of(lines: &[Line], run: &[u8]) -> Expected {
         let mut all = Expected::default();
-        let mut marked: BTreeMap<u8, u32> = BTreeMap::new();
         for (line, bytes) in lines.iter().zip(run.chunks_exact(RECORD_LEN)) {
             for t in &line.tags {
                 let time = u32::from_be_bytes([t[8], t[9], t[10], t[11]]);
                 all.tags.insert((time, t[1], t[4], t[5]), (t[2], t[0]));
-                if t[0] == 1 {
-                    let last = marked.entry(t[2]).or_default();
-                    *last = time.max(*last);
-                }
             }
             match Record::of(bytes.try_into().unwrap()) {
                 Record::Subframe { prn, time, .. } if ![2, 3, 4].contains(&line.first) => {
@@ -393,7 +472,9 @@ impl Expected {
                     if ![0, 4].contains(&line.second) {
                         all.refused.insert((prn, time.bits()));
                     }
-                    all.marked.insert(time.bits(), marked.clone());
+                    let sets = line.after.sets.iter();
+                    let marked = sets.map(|(prn, set)| (*prn, set.1)).collect();
+                    all.marked.insert(time.bits(), marked);
                 }
                 Record::Word { prn, time, .. } if line.first == 0 => {
                     all.times.insert(time.bits());
@@ -462,6 +543,7 @@ impl Expected {
 fn letter(sign: &str) -> char {
     let letters = [
         ("authentic", '#'),
+        ("agrees", '='),
         ("wrong", 'X'),
         ("waits", 'w'),
         ("noset", '-'),
@@ -513,7 +595,7 @@ fn strips_are_the_replays_outcomes() {
             }
         }
     }
-    assert_eq!(seen.len(), 9, "{seen:?}");
+    assert_eq!(seen.len(), 10, "{seen:?}");
     assert!(overviews > 0);
 }
 
@@ -738,33 +820,37 @@ impl Story {
 /// Wrong data, and data out of date, from the second receiver's lines.
 fn stories(lines: &[Line], run: &[u8]) -> (Story, Story) {
     let (mut wrong, mut old) = (Story::default(), Story::default());
-    let mut marked: BTreeMap<u8, Set> = BTreeMap::new();
-    // Of each tag when it came: its satellite's set, and whether no word came in the half minute before.
-    let mut then: ByTag<(Option<Set>, bool)> = BTreeMap::new();
+    // The sets before each record.
+    let mut marked: &BTreeMap<u8, Set> = &BTreeMap::new();
+    // Of each tag when it came: its satellite's set, whether no word came in the half minute before, and how
+    // often the satellite's data had changed.
+    let mut then: ByTag<(Option<Set>, bool, usize)> = BTreeMap::new();
     let mut last_word: BTreeMap<u8, Gst> = BTreeMap::new();
-    let mut right: BTreeSet<(u8, u16)> = BTreeSet::new();
+    let mut heard: BTreeMap<u8, Heard> = BTreeMap::new();
+    // Data that a tag agreed with.
+    let mut right: BTreeSet<(u8, usize)> = BTreeSet::new();
     for (line, record) in lines.iter().zip(run.chunks_exact(RECORD_LEN)) {
         if let Record::Word { prn, time, word } = Record::of(record.try_into().unwrap()) {
             if line.first == 0 && (1..=5).contains(&(word[0] >> 2)) {
                 last_word.insert(prn, time);
+                heard.entry(prn).or_default().word(time, &word);
             }
         }
-        let before = marked.clone();
+        let before = std::mem::replace(&mut marked, &line.after.sets);
         for t in &line.tags {
             let time = u32::from_be_bytes([t[8], t[9], t[10], t[11]]);
             let iodnav = u16::from_be_bytes([t[6], t[7]]);
             let age = |last: &Gst| time::seconds(Gst::from_bits(time)) - time::seconds(*last);
             let is_old = last_word.get(&t[2]).is_some_and(|last| age(last) > 30);
-            let known = (before.get(&t[2]).copied(), is_old);
-            let (set, is_old) = *then.entry((time, t[1], t[4], t[5])).or_insert(known);
-            if t[0] == 1 {
-                right.insert((t[2], iodnav));
-                if marked.get(&t[2]).is_none_or(|set| set.1 <= time) {
-                    marked.insert(t[2], (iodnav, time));
-                }
+            let stretch = heard.get(&t[2]).map_or(0, |heard| heard.stretches.len());
+            let known = (before.get(&t[2]).copied(), is_old, stretch);
+            let name = (time, t[1], t[4], t[5]);
+            let (set, is_old, stretch) = *then.entry(name).or_insert(known);
+            if [1, 9].contains(&t[0]) {
+                right.insert((t[2], stretch));
             }
             if t[0] == 2 {
-                let story = match is_old && right.contains(&(t[2], iodnav)) {
+                let story = match is_old && right.contains(&(t[2], stretch)) {
                     true => &mut old,
                     false => &mut wrong,
                 };
@@ -774,7 +860,7 @@ fn stories(lines: &[Line], run: &[u8]) -> (Story, Story) {
         }
     }
     wrong.at_end = marked.clone();
-    old.at_end = marked;
+    old.at_end = marked.clone();
     (wrong, old)
 }
 
@@ -927,10 +1013,11 @@ fn counts_are_the_replays() {
             let right = Expected::of_run(name, bytes, all, n);
             let (page, _) = run_page(name, all, n);
             let count = |outcome: u8| right.tags.values().filter(|tag| tag.1 == outcome).count();
-            let (authentic, wrong) = (count(1), count(2));
-            let rest = right.tags.len() - authentic - wrong - run.waiting();
+            let (authentic, agree, wrong) = (count(1), count(9), count(2));
+            let rest = right.tags.len() - authentic - agree - wrong - run.waiting();
             let told = format!(
-                "{authentic} authentic, {wrong} wrong, {} wait still, {rest} without judgement",
+                "{authentic} authentic, {agree} agree, {wrong} wrong, {} wait still, {rest} without \
+                 judgement",
                 run.waiting()
             );
             assert!(page.contains(&told), "{name}: {told}");

@@ -8,25 +8,53 @@ use jobsheet::phone::check_value;
 use jobsheet::recording::RECORD_LEN;
 use osnma::Gst;
 use second_receiver::navdata::SET_LEN;
+use second_receiver::sets::Candidate;
 use std::collections::{BTreeMap, BTreeSet};
 
-/// By satellite: when a read first gave data of another IODnav, and which.
-fn marks(lines: &[Line], run: &[u8]) -> BTreeMap<u8, Vec<(Gst, u16)>> {
-    let mut all: BTreeMap<u8, Vec<(Gst, u16)>> = BTreeMap::new();
-    let mut marked: BTreeMap<u8, (u32, u16)> = BTreeMap::new();
+/// A satellite's set, as reads gave it first.
+#[derive(Clone)]
+struct Mark {
+    at: Gst,
+    iodnav: u16,
+    /// The satellite's candidate before that record, and since when it was.
+    candidate: Option<(Candidate, Gst)>,
+}
+
+/// By satellite: when a read first gave data of another IODnav.
+fn marks(lines: &[Line], run: &[u8]) -> BTreeMap<u8, Vec<Mark>> {
+    let mut all: BTreeMap<u8, Vec<Mark>> = BTreeMap::new();
+    let mut candidates: BTreeMap<u8, (Candidate, Gst)> = BTreeMap::new();
     for (line, record) in lines.iter().zip(run.chunks_exact(RECORD_LEN)) {
-        for t in line.tags.iter().filter(|t| t[0] == 1) {
-            let time = u32::from_be_bytes([t[8], t[9], t[10], t[11]]);
-            if marked.get(&t[2]).is_none_or(|old| old.0 <= time) {
-                marked.insert(t[2], (time, u16::from_be_bytes([t[6], t[7]])));
-            }
-        }
-        for (prn, (_, iodnav)) in &marked {
+        let at = Gst::from_bits(subframe_time(record));
+        for (prn, (iodnav, _)) in &line.after.sets {
             let sets = all.entry(*prn).or_default();
-            if sets.last().is_none_or(|set| set.1 != *iodnav) {
-                sets.push((Gst::from_bits(subframe_time(record)), *iodnav));
+            if sets.last().is_none_or(|set| set.iodnav != *iodnav) {
+                // A tag that agrees after one that is authentic begins another candidate.
+                let of_set = |t: &&[u8; 12]| t[2] == *prn && t[6..8] == iodnav.to_be_bytes();
+                let tags = line.tags.iter().filter(of_set);
+                let anew = tags.skip_while(|t| t[0] != 1).any(|t| t[0] == 9);
+                sets.push(Mark {
+                    at,
+                    iodnav: *iodnav,
+                    candidate: candidates.get(prn).filter(|_| !anew).cloned(),
+                });
             }
         }
+        let now = line.after.candidates.iter();
+        // One that is gone and begins anew has other tags, or other bits were the candidate between.
+        let since = |(prn, of): (&u8, &Candidate)| {
+            let goes_on = |before: &&(Candidate, Gst)| {
+                let others = line.tags.iter().any(|t| {
+                    let time = u32::from_be_bytes([t[8], t[9], t[10], t[11]]);
+                    let other = t[6..8] != of.set.iodnav().to_be_bytes();
+                    t[0] == 9 && t[2] == *prn && other && time >= before.0.latest().0
+                });
+                before.0.set == of.set && of.tags.starts_with(&before.0.tags) && !others
+            };
+            let before = candidates.get(prn).filter(goes_on);
+            (*prn, (of.clone(), before.map_or(at, |before| before.1)))
+        };
+        candidates = now.map(since).collect();
     }
     all
 }
@@ -41,20 +69,30 @@ fn texts<'a>(drawing: &'a str, class: &str) -> Vec<&'a str> {
 // From when to when each set was marked, those before the last too.
 #[test]
 fn periods() {
-    let mut earlier = 0;
+    let (mut earlier, mut from_candidates) = (0, 0);
     for run in runs() {
         let (name, clock) = (run.name, run.sheet.clock);
         let mut articles = run.page.split("<article class=\"set").skip(1);
         for (prn, sets) in &marks(run.lines, run.records) {
-            for (n, (at, iodnav)) in sets.iter().enumerate().rev() {
+            for (n, mark) in sets.iter().enumerate().rev() {
+                let (at, iodnav) = (&mark.at, mark.iodnav);
                 let article = articles.next().unwrap();
                 let from = clock.say(*at);
+                let digits = between(article, "<pre>", "</pre>").unwrap().0;
+                let bytes = unhex(&digits.replace([' ', '\n'], ""));
+                let candidate = match &mark.candidate {
+                    Some((before, since)) if before.set.0[..] == bytes && since < at => {
+                        from_candidates += 1;
+                        format!("; candidate from {}", clock.say(*since))
+                    }
+                    _ => String::new(),
+                };
                 let told = match sets.get(n + 1) {
-                    None => format!("<p>authentic from {from} to the end</p>"),
-                    Some((until, _)) => {
+                    None => format!("<p>authentic from {from} to the end{candidate}</p>"),
+                    Some(Mark { at: until, .. }) => {
                         earlier += 1;
                         format!(
-                            "<p>was authentic from {from} until {}</p>",
+                            "<p>was authentic from {from} until {}{candidate}</p>",
                             clock.say(*until)
                         )
                     }
@@ -71,6 +109,7 @@ fn periods() {
         assert_eq!(articles.next(), None, "{name}");
     }
     assert!(earlier > 10, "{earlier}");
+    assert!(from_candidates > 10, "{from_candidates}");
 }
 
 // The bytes of every set, those before the last too, are what the second receiver reads after the
@@ -138,8 +177,8 @@ fn head_and_strips() {
 
             let sets = right.get(&strip.prn).cloned().unwrap_or_default();
             let of = |times: &Vec<u32>| {
-                let mut here = sets.iter().filter(|set| times.contains(&set.0.bits()));
-                here.next_back().map(|set| set.1)
+                let mut here = sets.iter().filter(|set| times.contains(&set.at.bits()));
+                here.next_back().map(|set| set.iodnav)
             };
             let begins: Vec<Option<u16>> = cells.iter().map(of).collect();
             let marked: Vec<Option<u16>> = strip.cells.iter().map(|cell| cell.marked).collect();

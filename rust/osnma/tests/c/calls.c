@@ -276,6 +276,22 @@ static void tag_waits(unsigned place, unsigned adkd, uint32_t time)
     memcpy(want.waiting, core.waiting, sizeof want.waiting);
 }
 
+/* What only tags do: every satellite has an authentic set and a candidate. */
+static void hold_sets(void)
+{
+    unsigned i;
+    for (i = 0; i < OSNMA_SETS_COUNT; i++)
+        core.sets[i] = want.sets[i] = (uint8_t)(i * 7 + i / 69);
+    for (i = 0; i < OSNMA_ARRIVALS_COUNT; i++)
+        core.arrivals[i] = want.arrivals[i] = osnma_gst(947, 30 * (i + 1)) + 1;
+}
+
+/* The candidates' stamps and totals go, their bytes and the authentic sets stay. */
+static void want_no_candidates(void)
+{
+    memset(want.arrivals + OSNMA_SATELLITES, 0, 2 * OSNMA_SATELLITES * sizeof want.arrivals[0]);
+}
+
 static void want_no_offer(void)
 {
     memset(want.offer, 0, sizeof want.offer);
@@ -367,13 +383,19 @@ static void test_verdicts(void)
         want_no_offer();
         ANSWERS(verdict(1, 3), OSNMA_NOT_IN_FORCE);
     }
-    /* The first root, and the lower key goes. */
+    /* The first root, and the lower key goes. No chain was in force, so candidates go. */
+    hold_sets();
     make_message(1, 0, 0, 947, 120);
     wait_for(3);
+    want_no_offer();
+    ANSWERS(verdict(0, 3), OSNMA_VERDICT_BAD);
+    wait_for(3);
     want_in_force();
+    want_no_candidates();
     memset(want.pubkeys, 0, 68 * 3);
     ANSWERS(verdict(1, 3), OSNMA_DONE);
     /* The same contents again change nothing but the public keys. */
+    hold_sets();
     core.numbers[0] = want.numbers[0] = 5000000000u;
     core.numbers[1] = want.numbers[1] = 3;
     core.pubkeys[68 * 1] = want.pubkeys[68 * 1] = 1;
@@ -399,20 +421,22 @@ static void test_verdicts(void)
     wait_for(3);
     want_no_offer();
     ANSWERS(verdict(1, 3), OSNMA_NOT_NEWER);
-    /* A later root of the same chain, at second 435600: the tags stay whose keys do not lie before
-     * it, and close up. */
+    /* A later root of the same chain, at second 435600: candidates stay, and the tags whose keys do not lie
+     * before it, which close up. */
     make_message(1, 0, 0, 947, 121);
     wait_for(3);
     want_in_force();
     memmove(want.waiting, want.waiting + 84, 84 * 2);
     want.numbers[1] = 2;
     ANSWERS(verdict(1, 3), OSNMA_DONE);
-    /* Another chain: no tag stays, but the bytes past the count do. */
+    /* Another chain: no tag and no candidate stays, but the bytes past the count do. */
     make_message(2, 1, 1, 947, 122);
     wait_for(3);
     want_in_force();
+    want_no_candidates();
     ANSWERS(verdict(1, 3), OSNMA_DONE);
     /* Status 3: another CID, then the one in force. */
+    hold_sets();
     make_message(3, 0, 0, 947, 123);
     wait_for(3);
     want_no_offer();
@@ -423,6 +447,7 @@ static void test_verdicts(void)
     make_message(3, 1, 2, 947, 1);
     wait_for(3);
     want_no_offer();
+    want_no_candidates();
     want.chain[0] = 2;
     ANSWERS(verdict(1, 3), OSNMA_DONE);
     /* After a drop only a later root counts. */
@@ -444,10 +469,14 @@ static void test_read_set(void)
     uint8_t set[OSNMA_SET], right[OSNMA_SET];
     uint16_t iodnav = 7;
     uint32_t time = 7;
-    unsigned prn, i;
+    unsigned prn;
     memset(set, 0x5A, sizeof set);
     memset(right, 0x5A, sizeof right);
     start();
+    /* Candidates alone: no read gives one. */
+    hold_sets();
+    memset(core.arrivals, 0, OSNMA_SATELLITES * sizeof core.arrivals[0]);
+    memset(want.arrivals, 0, OSNMA_SATELLITES * sizeof want.arrivals[0]);
     for (prn = 0; prn < 256; prn++) {
         iodnav = 7;
         time = 7;
@@ -455,11 +484,7 @@ static void test_read_set(void)
                 prn >= 1 && prn <= OSNMA_SATELLITES ? OSNMA_NO_SET : OSNMA_OUT_OF_RANGE);
         CHECK(memcmp(set, right, sizeof set) == 0 && iodnav == 0 && time == 0);
     }
-    /* What only a tag does. */
-    for (i = 0; i < OSNMA_SETS_COUNT; i++)
-        core.sets[i] = want.sets[i] = (uint8_t)(i * 7 + i / 69);
-    for (prn = 1; prn <= OSNMA_SATELLITES; prn++)
-        core.arrivals[prn - 1] = want.arrivals[prn - 1] = osnma_gst(947, 30 * prn) + 1;
+    hold_sets();
     for (prn = 1; prn <= OSNMA_SATELLITES; prn++) {
         const uint8_t *place = core.sets + 69 * (prn - 1);
         ANSWERS(osnma_read_set(&core, (uint8_t)prn, set, &iodnav, &time), OSNMA_DONE);
@@ -710,10 +735,10 @@ static void put_annex_root_in_force(void)
     ANSWERS(osnma_verdict_on(&core, &got, 1), OSNMA_DONE);
 }
 
-/* What the annex's section leaves. */
+/* What the annex's section leaves: tag0 agrees with E18's set, by 12 bits. */
 static void want_annex_section(uint32_t t)
 {
-    static const uint8_t of[8][6] = {{1, 18, 18, 0, 1, 1}, {4, 18, 255, 4, 1, 2},
+    static const uint8_t of[8][6] = {{9, 18, 18, 0, 1, 1}, {4, 18, 255, 4, 1, 2},
                                      {5, 18, 18, 11, 1, 3}, {4, 18, 0, 0, 1, 4},
                                      {4, 18, 0, 0, 2, 1},  {4, 18, 0, 0, 2, 2},
                                      {4, 18, 0, 0, 2, 3},  {4, 18, 0, 0, 2, 4}};
@@ -731,8 +756,19 @@ static void want_annex_section(uint32_t t)
     memcpy(want.heldkey, annex_section + 44, 16);
     memcpy(want.waiting, head, sizeof head);
     memcpy(want.waiting + sizeof head, annex_set, sizeof annex_set);
-    memcpy(want.sets + 69 * 17, annex_set, sizeof annex_set);
-    want.arrivals[17] = t + 1;
+    memcpy(want.sets + OSNMA_SET * (OSNMA_SATELLITES + 17), annex_set, sizeof annex_set);
+    want.arrivals[OSNMA_SATELLITES + 17] = t + 1;
+    want.arrivals[2 * OSNMA_SATELLITES + 17] = 12;
+}
+
+/* What only tags do: so many bits agree on E18's set already, the latest of them at `time`. */
+static void agree_before(unsigned bits, uint32_t time)
+{
+    memcpy(core.sets + OSNMA_SET * (OSNMA_SATELLITES + 17), annex_set, sizeof annex_set);
+    core.arrivals[OSNMA_SATELLITES + 17] = time + 1;
+    core.arrivals[2 * OSNMA_SATELLITES + 17] = bits;
+    memcpy(want.sets, core.sets, sizeof want.sets);
+    memcpy(want.arrivals, core.arrivals, sizeof want.arrivals);
 }
 
 /* The root in force, E18's words held, and its section to be sent. */
@@ -767,7 +803,7 @@ static void test_section(void)
     want_annex_section(t);
     HALVES(18, t, OSNMA_DONE, OSNMA_DONE, 8);
     record = osnma_record(records, 0);
-    CHECK(record.outcome == OSNMA_AUTHENTIC && record.sender == 18 && record.prn == 18);
+    CHECK(record.outcome == OSNMA_AGREES && record.sender == 18 && record.prn == 18);
     CHECK(record.adkd == 0 && record.block == 1 && record.position == 1);
     CHECK(record.iodnav == 0x50 && record.time == t);
     record = osnma_record(records, 2);
@@ -779,8 +815,7 @@ static void test_section(void)
     CHECK(record.outcome == records[3228] && record.sender == records[3229]);
     record = osnma_record(records, 270);
     CHECK(record.outcome == 0 && record.sender == 0 && record.time == 0);
-    ANSWERS(osnma_read_set(&core, 18, set, &iodnav, &time), OSNMA_DONE);
-    CHECK(memcmp(set, annex_set, sizeof set) == 0 && iodnav == 0x50 && time == t);
+    ANSWERS(osnma_read_set(&core, 18, set, &iodnav, &time), OSNMA_NO_SET);
     /* A spare bit, then keys of a time that is too far. */
     make_block(0x82, 0, 0, annex_dsm);
     want_block(18, t + 30);
@@ -788,6 +823,40 @@ static void test_section(void)
     want.present[0] = 0;
     want_block(18, osnma_gst(949, 0));
     HALVES(18, osnma_gst(949, 0), OSNMA_DONE, OSNMA_TOO_FAR, 0);
+}
+
+/* Tag0's 12 bits are the last of OSNMA_AUTHENTIC_BITS: E18's set is authentic, at the time of its latest
+ * tag, and its candidate gone. */
+static void test_forty_bits(void)
+{
+    const uint32_t t = osnma_gst(947, 432030);
+    uint8_t set[OSNMA_SET];
+    uint16_t iodnav;
+    uint32_t time, latest;
+    unsigned i;
+    for (i = 0; i < 2; i++) {
+        latest = i == 0 ? t : t + 30;
+        await_annex_section();
+        agree_before(OSNMA_AUTHENTIC_BITS - 12u, i == 0 ? t - 30 : latest);
+        make_block(0x82, 0, 0, annex_dsm);
+        want_block(18, t);
+        want_annex_section(t);
+        want_records[0] = OSNMA_AUTHENTIC;
+        want.arrivals[OSNMA_SATELLITES + 17] = want.arrivals[2 * OSNMA_SATELLITES + 17] = 0;
+        memcpy(want.sets + OSNMA_SET * 17, annex_set, sizeof annex_set);
+        want.arrivals[17] = latest + 1;
+        HALVES(18, t, OSNMA_DONE, OSNMA_DONE, 8);
+        ANSWERS(osnma_read_set(&core, 18, set, &iodnav, &time), OSNMA_DONE);
+        CHECK(memcmp(set, annex_set, sizeof set) == 0 && iodnav == 0x50 && time == latest);
+    }
+    /* One bit less does not do. */
+    await_annex_section();
+    agree_before(OSNMA_AUTHENTIC_BITS - 13u, t - 30);
+    make_block(0x82, 0, 0, annex_dsm);
+    want_block(18, t);
+    want_annex_section(t);
+    want.arrivals[2 * OSNMA_SATELLITES + 17] = OSNMA_AUTHENTIC_BITS - 1u;
+    HALVES(18, t, OSNMA_DONE, OSNMA_DONE, 8);
 }
 
 /* The field is lost: any bytes stand in its place. */
@@ -902,13 +971,13 @@ enum { REGIONS = 16 };
 
 /* The counts that are right, then those of the other byte strings of each call. */
 static const size_t right_counts[REGIONS + 3] = {63, 73, 2880, 180,   3328, 16, 16, 16, 1088, 179,
-                                                 45, 2,  32,   21504, 2484, 36, 0,  0,  0};
+                                                 45, 2,  32,   21504, 4968, 108, 0, 0,  0};
 
 /* The regions that a call is lent, each as a bit. */
 enum {
     ALL_REGIONS = 0xFFFF,
     WORD_REGIONS = 0x000F,    /* config, clocks, words, stamps */
-    VERDICT_REGIONS = 0x3F01, /* config, pubkeys, offer, chain, numbers, heldkey, waiting */
+    VERDICT_REGIONS = 0xBF01, /* config, pubkeys, offer, chain, numbers, heldkey, waiting, arrivals */
     SET_REGIONS = 0xC000,     /* sets, arrivals */
     MESSAGE_REGIONS = 0x0300  /* pubkeys, offer */
 };
@@ -957,7 +1026,8 @@ static enum osnma_answer counted_verdict(const size_t *n)
 {
     return (enum osnma_answer)osnma_regions_verdict(
         core.config, n[0], core.pubkeys, n[8], core.offer, n[9], core.chain, n[10], core.numbers, n[11],
-        core.heldkey, n[12], core.waiting, n[13], 0, 3, message, n[16], signature, n[17]);
+        core.heldkey, n[12], core.waiting, n[13], core.arrivals, n[15], 0, 3, message, n[16], signature,
+        n[17]);
 }
 
 static enum osnma_answer counted_read_set(const size_t *n)
@@ -1087,6 +1157,7 @@ int main(int argc, char **argv)
     for (with_marks = 1; with_marks >= 0; with_marks--) {
         test_blocks();
         test_section();
+        test_forty_bits();
         test_key_messages();
     }
     with_marks = 0;

@@ -13,6 +13,7 @@ int main(void)
     uint8_t message[OSNMA_MESSAGE] = {0};
     unsigned i;
     printf("version %s, layout %u\n", OSNMA_VERSION, (unsigned)OSNMA_LAYOUT);
+    printf("authentic at %u bits\n", (unsigned)OSNMA_AUTHENTIC_BITS);
     for (i = 0; i < 20; i++)
         printf("answer %u: %s\n", i, osnma_answer_text(i));
     for (i = 0; i < 11; i++)

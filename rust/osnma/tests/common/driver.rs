@@ -3,6 +3,7 @@
 use super::draw;
 use super::loose::{parts, refused, regions_of, WRONG};
 use super::twin::{Answer, Call, Kind, Twin};
+use second_receiver::sets::{AuthenticSet, Candidate};
 use second_receiver::Receiver;
 use signal::chain::AES_KEYS;
 use signal::dsm::Tree;
@@ -28,7 +29,7 @@ const ANSWERS: [(Kind, &[u32]); 6] = [
 const MACK: &[u32] = &[0, 1, 2, 3, 4, 5, 11, 12, 13, 17];
 
 /// What good verdicts and sub-frames did, and what calls met.
-const EVENTS: [&str; 20] = [
+const EVENTS: [&str; 30] = [
     "first root",
     "root with CMAC-AES",
     "later root with another MAC function",
@@ -49,6 +50,16 @@ const EVENTS: [&str; 20] = [
     "sub-frame with lost fields",
     "message completed by a sub-frame with marks",
     "section with lost fields judged",
+    "candidate begun",
+    "candidate goes on",
+    "candidate replaced",
+    "candidate becomes the authentic set",
+    "candidate goes, a newer authentic set stays",
+    "outcome 9 that changes no candidate",
+    "candidate untouched by outcome 1",
+    "later root, candidates stay",
+    "later root, candidates go",
+    "chain dropped, candidates go",
 ];
 
 /// How often each answer came.
@@ -69,10 +80,10 @@ impl Tally {
         if kind == Kind::Subframe {
             *self.mack.entry(answer.mack).or_default() += 1;
         }
-        for &outcome in &answer.outcomes {
+        for &(_, outcome) in &answer.tags {
             *self.outcomes.entry(outcome).or_default() += 1;
         }
-        self.records = self.records.max(answer.outcomes.len());
+        self.records = self.records.max(answer.tags.len());
         self.calls += 1;
     }
 
@@ -95,7 +106,7 @@ impl Tally {
         let never = |number: &&u32| !self.mack.contains_key(*number);
         missing.extend(MACK.iter().filter(never).map(|n| format!("MACK {n}")));
         let never = |outcome: &u8| !self.outcomes.contains_key(outcome);
-        missing.extend((1..=8).filter(never).map(|n| format!("outcome {n}")));
+        missing.extend((1..=9).filter(never).map(|n| format!("outcome {n}")));
         missing
     }
 
@@ -228,8 +239,9 @@ pub fn replay(
 }
 
 /// What tells states apart that are worth beginning at.
-fn shape(receiver: &Receiver) -> [usize; 7] {
+fn shape(receiver: &Receiver) -> [usize; 8] {
     let sets = (1..=36).filter(|&prn| receiver.authentic_set(prn).is_some());
+    let candidates = (1..=36).filter(|&prn| receiver.candidate(prn).is_some());
     let tags = receiver.waiting_tags().len();
     [
         usize::from(receiver.is_stopped()),
@@ -238,6 +250,7 @@ fn shape(receiver: &Receiver) -> [usize; 7] {
         tags.div_ceil(64) + tags / 256,
         receiver.public_keys().len(),
         sets.count().div_ceil(12),
+        candidates.count().min(3),
         (0..16)
             .filter(|&id| receiver.dsm(id).is_some_and(|store| store.present() != 0))
             .count()
@@ -246,7 +259,11 @@ fn shape(receiver: &Receiver) -> [usize; 7] {
 }
 
 /// Scenarios whose states are begun at, beside random mixes.
-const SCENARIOS: [&str; 18] = [
+const SCENARIOS: [&str; 22] = [
+    "two_sets",
+    "slow_tags_between",
+    "same_time_candidates",
+    "thin_tags",
     "trees",
     "trees_1",
     "trees_3",
@@ -493,6 +510,7 @@ impl Driver {
             }
             Call::Subframe { time, marks, .. } => {
                 before.tell_subframe(&twin.receiver, *time, &mut self.tally);
+                before.tell_sets(&twin.receiver, &answer, &mut self.tally);
                 before.tell_marks(&twin.receiver, *marks, &answer, &mut self.tally);
             }
             _ => {}
@@ -526,6 +544,9 @@ struct Before {
     tags: usize,
     keys: usize,
     stopped: bool,
+    /// By PRN - 1.
+    sets: Vec<Option<AuthenticSet>>,
+    candidates: Vec<Option<Candidate>>,
 }
 
 impl Before {
@@ -537,6 +558,41 @@ impl Before {
             tags: receiver.waiting_tags().len(),
             keys: receiver.public_keys().len(),
             stopped: receiver.is_stopped(),
+            sets: (1..=36)
+                .map(|prn| receiver.authentic_set(prn).cloned())
+                .collect(),
+            candidates: (1..=36)
+                .map(|prn| receiver.candidate(prn).cloned())
+                .collect(),
+        }
+    }
+
+    fn has_candidates(&self) -> bool {
+        self.candidates.iter().any(Option::is_some)
+    }
+
+    /// Tallies what the tags of a section did to the sets of each satellite.
+    fn tell_sets(&self, receiver: &Receiver, answer: &Answer, tally: &mut Tally) {
+        let now = Before::of(receiver);
+        for prn in 1..=36 {
+            let told = |outcome| answer.tags.contains(&(prn, outcome));
+            let at = usize::from(prn) - 1;
+            let same_set = self.sets[at] == now.sets[at];
+            tally.event(match (&self.candidates[at], &now.candidates[at]) {
+                (None, Some(_)) => "candidate begun",
+                (Some(old), Some(new)) if old == new && told(1) => {
+                    "candidate untouched by outcome 1"
+                }
+                (Some(old), Some(new)) if old == new && told(9) => {
+                    "outcome 9 that changes no candidate"
+                }
+                (Some(old), Some(new)) if old == new => continue,
+                (Some(old), Some(new)) if old.set == new.set => "candidate goes on",
+                (Some(_), Some(_)) => "candidate replaced",
+                (Some(_), None) if same_set => "candidate goes, a newer authentic set stays",
+                (Some(_), None) => "candidate becomes the authentic set",
+                (None, None) => continue,
+            });
         }
     }
 
@@ -553,6 +609,13 @@ impl Before {
             _ if now.tags == self.tags => "later root, all tags stay",
             _ => "later root, some tags stay",
         });
+        if self.has_candidates() && self.contents != now.contents {
+            tally.event(match (&now.contents, now.has_candidates()) {
+                (None, _) => "chain dropped, candidates go",
+                (_, true) => "later root, candidates stay",
+                (_, false) => "later root, candidates go",
+            });
+        }
         // MF stands in the last two bits of the contents' first byte.
         let function = |contents: &Option<Vec<u8>>| contents.as_ref().map(|c| c[0] & 3);
         let (old, new) = (function(&self.contents), function(&now.contents));
@@ -585,7 +648,7 @@ impl Before {
             ("message completed by a sub-frame with marks", completed),
             (
                 "section with lost fields judged",
-                lost && !answer.outcomes.is_empty(),
+                lost && !answer.tags.is_empty(),
             ),
         ] {
             if came {

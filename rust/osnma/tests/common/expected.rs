@@ -1,10 +1,11 @@
 //! The regions that a state of the second receiver stands for (crates/rules/specs/State.antt).
 //!
 //! The second receiver does not keep what no rule reads again. These parts are held to be as they
-//! were before the call: the bytes of a word, block or authentic set that is not there, the header
-//! and first time of a DSM ID without a block, what lies past the count of waiting tags, and after
-//! a drop the chain's contents but for its root's time, the held key and its slot. An accepted
-//! start leaves zeros in all of them.
+//! were before the call: the bytes of a word, block, authentic set or candidate that is not there,
+//! the header and first time of a DSM ID without a block, what lies past the count of waiting tags,
+//! and after a drop the chain's contents but for its root's time, the held key and its slot. An
+//! accepted start leaves zeros in all of them. Of a block that completes a message and of a candidate
+//! that goes in the section in which it came, the bytes are written though they are not there then.
 
 use osnma::regions::Regions;
 use second_receiver::gather::Hkroot;
@@ -65,6 +66,21 @@ impl Block {
     }
 }
 
+/// The place of a satellite's candidate: behind the authentic sets of all.
+fn candidate_of(prn: u8, regions: &mut Regions) -> &mut [u8] {
+    &mut regions.sets[69 * (35 + usize::from(prn))..][..69]
+}
+
+/// Writes what stood as candidates while a section's tags were judged; those that are gone leave their
+/// bytes. The section was answered 0.
+pub fn write_candidates_that_stood(receiver: &Receiver, regions: &mut Regions) {
+    for prn in 1..=36 {
+        if let Some(set) = receiver.stood_as_candidate(prn) {
+            candidate_of(prn, regions).copy_from_slice(&set.0);
+        }
+    }
+}
+
 /// Writes all that the receiver knows; the rest of `regions` stays. The receiver is started.
 pub fn write_known(receiver: &Receiver, regions: &mut Regions) {
     write_settings(receiver, regions);
@@ -90,7 +106,7 @@ fn write_settings(receiver: &Receiver, regions: &mut Regions) {
     regions.config[62] = u8::from(receiver.is_stopped());
 }
 
-/// Clocks, words and authentic set.
+/// Clocks, words, authentic set and candidate.
 fn write_satellite(receiver: &Receiver, prn: u8, regions: &mut Regions) {
     let (at, held) = (usize::from(prn), receiver.words(prn).expect("PRN 1 to 36"));
     regions.clocks[0] = stamp(receiver.last_subframe());
@@ -107,6 +123,12 @@ fn write_satellite(receiver: &Receiver, prn: u8, regions: &mut Regions) {
     regions.arrivals[at - 1] = stamp(authentic.map(|set| set.time));
     if let Some(authentic) = authentic {
         regions.sets[69 * (at - 1)..69 * at].copy_from_slice(&authentic.set.0);
+    }
+    let candidate = receiver.candidate(prn);
+    regions.arrivals[35 + at] = stamp(candidate.map(|candidate| candidate.latest()));
+    regions.arrivals[71 + at] = candidate.map_or(0, |candidate| candidate.total() as u32);
+    if let Some(candidate) = candidate {
+        candidate_of(prn, regions).copy_from_slice(&candidate.set.0);
     }
 }
 

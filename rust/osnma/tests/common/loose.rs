@@ -85,7 +85,7 @@ pub fn regions_of(call: &Call) -> &'static [&'static str] {
         Call::Start(_) | Call::Subframe { .. } => REGIONS,
         Call::Word { .. } => &["config", "clocks", "words", "stamps"],
         Call::Verdict { .. } => &[
-            "config", "pubkeys", "offer", "chain", "numbers", "heldkey", "waiting",
+            "config", "pubkeys", "offer", "chain", "numbers", "heldkey", "waiting", "arrivals",
         ],
         Call::ReadSet(_) => &["sets", "arrivals"],
         Call::ReadMessage => &["pubkeys", "offer"],

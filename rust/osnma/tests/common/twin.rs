@@ -1,6 +1,6 @@
 //! The same call into the core and into the second receiver.
 
-use super::expected::{difference, write_known, Block};
+use super::expected::{difference, write_candidates_that_stood, write_known, Block};
 use osnma::regions::Regions;
 use osnma::{Core, Gst, Marks, Records, Settings, TagRecord};
 use second_receiver::received::Received;
@@ -64,13 +64,13 @@ impl Call {
     }
 }
 
-/// What both answered: the number, for a sub-frame the HKROOT half's; the MACK half's, else 0; and the
-/// outcomes of the tags judged.
+/// What both answered: the number, for a sub-frame the HKROOT half's; the MACK half's, else 0; and of
+/// each tag judged the PRN authenticated and the outcome.
 #[derive(Clone, Debug, Default, PartialEq, Eq)]
 pub struct Answer {
     pub number: u32,
     pub mack: u32,
-    pub outcomes: Vec<u8>,
+    pub tags: Vec<(u8, u8)>,
 }
 
 impl From<u32> for Answer {
@@ -247,10 +247,13 @@ impl Twin {
         if !matches!(hkroot, 1..=5 | 17) {
             block.write(&mut self.want);
         }
+        if mack == 0 {
+            write_candidates_that_stood(&self.receiver, &mut self.want);
+        }
         Ok(Answer {
             number: hkroot,
             mack,
-            outcomes: records.map(|record| record[0]).collect(),
+            tags: records.map(|record| (record[2], record[0])).collect(),
         })
     }
 

@@ -34,14 +34,19 @@ pub fn first_difference(got: &str, want: &str) -> Option<String> {
     None
 }
 
-/// Where the definitions and the second receiver part on an input: lines, or reads after it.
+/// Where the definitions and the second receiver part on an input: lines, reads after it, or candidates.
 #[allow(dead_code)]
 pub fn beside_second(rules: &Rules, input: &[u8]) -> Option<String> {
-    let (lines, reads) = replay(rules, input);
-    let (mut want_lines, mut want_reads) = (Vec::new(), Vec::new());
-    let receiver = second::replay(input, &mut want_lines).unwrap();
-    second::write_reads(&receiver, &mut want_reads).unwrap();
-    let pairs = [("lines", lines, want_lines), ("reads", reads, want_reads)];
+    let got = replay(rules, input);
+    let (mut lines, mut reads, mut candidates) = (Vec::new(), Vec::new(), Vec::new());
+    let receiver = second::replay(input, &mut lines).unwrap();
+    second::write_reads(&receiver, &mut reads).unwrap();
+    second::write_candidates(&receiver, &mut candidates).unwrap();
+    let pairs = [
+        ("lines", got.lines, lines),
+        ("reads", got.reads, reads),
+        ("candidates", got.candidates, candidates),
+    ];
     pairs.into_iter().find_map(|(what, got, want)| {
         let difference = first_difference(&got, &String::from_utf8(want).unwrap())?;
         Some(format!("{what}, {difference}"))

@@ -118,6 +118,11 @@ impl TestChain {
         TestChain::with(4, 2, (4, 128), (1, 12)).keyed(320)
     }
 
+    /// The same with MS 40, two fields a block: one tag that matches is enough for its set.
+    pub fn wide() -> TestChain {
+        TestChain::with(4, 2, (4, 128), (9, 40)).keyed(320)
+    }
+
     pub fn with(ns: u8, nmack: u8, ks: (u8, usize), ms: (u8, usize)) -> TestChain {
         TestChain {
             ns,
@@ -410,6 +415,12 @@ impl Bench {
         (Bench::in_force(&Start::default(), &chain), chain)
     }
 
+    /// The usual start and the wide chain in force.
+    pub fn wide() -> (Bench, TestChain) {
+        let chain = TestChain::wide();
+        (Bench::in_force(&Start::default(), &chain), chain)
+    }
+
     /// Lends a sub-frame; its numbers and its tag records. Checks that the bytes past the records
     /// stay.
     pub fn subframe(
@@ -530,7 +541,41 @@ impl Bench {
     }
 }
 
+/// The NMA header of this status and CID.
+pub fn header(status: u8, cid: u8) -> u8 {
+    status << 6 | cid << 4 | 2
+}
+
+/// Lends a DSM-KROOT of `chain` under `header` and key `key_id` at `first`, and a good verdict on
+/// it.
+pub fn vouch(bench: &mut Bench, chain: &TestChain, header: u8, key_id: u8, first: u32) -> u8 {
+    let signature = [first as u8; 64];
+    assert_eq!(
+        bench.dsm(35, first, header, 5, &chain.dsm(key_id, &signature)),
+        0
+    );
+    let number = bench.good(key_id, &chain.message(header), &signature);
+    assert!(
+        bench.receiver.waiting_message().is_none(),
+        "the wait has ended"
+    );
+    number
+}
+
 /// The first byte of each record: the outcomes.
 pub fn outcomes(records: &[Vec<u8>]) -> Vec<u8> {
     records.iter().map(|record| record[0]).collect()
+}
+
+/// The records with 1 for 9, where the bits of all tags that agree are not the point.
+pub fn agreeing_as_1(mut records: Vec<Vec<u8>>) -> Vec<Vec<u8>> {
+    for record in records.iter_mut().filter(|record| record[0] == 9) {
+        record[0] = 1;
+    }
+    records
+}
+
+/// The outcomes of those records.
+pub fn found(records: &[Vec<u8>]) -> Vec<u8> {
+    outcomes(&agreeing_as_1(records.to_vec()))
 }

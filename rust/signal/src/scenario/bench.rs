@@ -25,6 +25,9 @@ pub const START_KEY: u8 = 4;
 /// The MACLT number of the starts and chains.
 pub const MACLT: u8 = 11;
 
+/// Bits of tags at which a set is authentic (02, P4).
+pub const ENOUGH: usize = 40;
+
 /// Lists of 14 marks with the given ones first and ADKD 0 for the rest.
 pub fn marks(first: &[u8]) -> Marks {
     let mut out = [0; 14];
@@ -59,6 +62,8 @@ pub struct Bench {
     /// Satellites whose data is authenticated by others.
     pub seen: Vec<u8>,
     pub now: Gst,
+    /// Bits of the tags that [`Bench::agrees`] counted since the start, by PRN - 1.
+    agreed: [usize; 36],
 }
 
 impl Bench {
@@ -93,6 +98,7 @@ impl Bench {
             sets,
             seen: (1..=8).collect(),
             now: Gst::new(947, 431_970),
+            agreed: [0; 36],
         }
     }
 
@@ -106,6 +112,7 @@ impl Bench {
     /// A good start. The receiver then has no chain.
     pub fn start(&mut self) {
         self.force = None;
+        self.agreed = [0; 36];
         self.run.push(replay::start(&self.start));
         self.run.gives(0, 0);
     }
@@ -271,6 +278,25 @@ impl Bench {
         self.subframe(prn, self.now, &hkroot, &mack);
         self.run.gives(0, 0);
         self.run.outcomes(outcomes);
+    }
+
+    /// The outcome of one more tag of the chain in force that agrees with a satellite's set: 9 until the bits of these
+    /// tags are enough, 1 from then on (02, P4). For a satellite with one set since the start, of which each tag that
+    /// agrees is told here in the order of judging.
+    pub fn agrees(&mut self, prn: u8) -> u8 {
+        let chain = self.force.as_ref().expect("a chain is in force");
+        let total = &mut self.agreed[usize::from(prn) - 1];
+        *total += chain.params.tag_bits();
+        if *total < ENOUGH {
+            9
+        } else {
+            1
+        }
+    }
+
+    /// The outcomes of such tags over the sets of these satellites.
+    pub fn agree(&mut self, prns: impl IntoIterator<Item = u8>) -> Vec<u8> {
+        prns.into_iter().map(|prn| self.agrees(prn)).collect()
     }
 
     /// Sends all blocks of a message at the present time, one a satellite from PRN 1 on, then goes to the next

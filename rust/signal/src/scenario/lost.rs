@@ -55,6 +55,17 @@ fn send(
     b.run.outcomes(&all);
 }
 
+/// What the tags of a section have that all agree, as far as they are not lost.
+fn agreeing(b: &mut Bench, infos: &[Info], marks: Received) -> Vec<u8> {
+    if !came(marks, 0) {
+        return Vec::new();
+    }
+    let lost = lost(&b.layout(), b.marks_at(b.now), marks);
+    let each = infos.iter().zip(lost);
+    each.map(|(info, lost)| if lost { 8 } else { b.agrees(info.prn) })
+        .collect()
+}
+
 /// The first list fixed to ADKD 0, the second flexible but for its first.
 fn both_lists(b: &mut Bench) {
     let mut flexible = [FLEXIBLE; 14];
@@ -76,7 +87,8 @@ fn walk(b: &mut Bench, chain: &Rc<Chain>) {
         for _ in 0..2 {
             let mack = b.section_of(1, b.now, &infos);
             let any = b.rng.below(2) as Received;
-            send(b, 1, &mack, marks | any, 0, &[], &vec![1; fields]);
+            let told = agreeing(b, &infos, marks);
+            send(b, 1, &mack, marks | any, 0, &[], &told);
             b.step();
         }
     }

@@ -4,6 +4,7 @@
 //! the same bytes. What a run intends stands in [`Run::expects`].
 
 mod bench;
+mod candidates;
 mod cmac;
 mod gathering;
 mod lost;
@@ -368,6 +369,36 @@ const ALL: &[Scenario] = &[
         "lost_blocks",
         "messages whose blocks lose bytes, and zeros where fields are lost",
         lost::blocks,
+    ),
+    scenario(
+        "tag_sizes",
+        "every MS and number of blocks: how many tags make a set authentic",
+        candidates::tag_sizes,
+    ),
+    scenario(
+        "two_sets",
+        "a satellite that goes from one set to another and back, with every MS",
+        candidates::two_sets,
+    ),
+    scenario(
+        "slow_tags_between",
+        "slow tags of an older set beside candidates and authentic sets",
+        candidates::slow_tags_between,
+    ),
+    scenario(
+        "same_time_candidates",
+        "tags of one time on two sets of a satellite",
+        candidates::same_time,
+    ),
+    scenario(
+        "candidates_over_roots",
+        "candidates over later roots, other chains, refused verdicts and a drop",
+        candidates::over_roots,
+    ),
+    scenario(
+        "thin_tags",
+        "half an hour, tags of 10 bits, data that changes often and goes back",
+        candidates::thin_tags,
     ),
 ];
 

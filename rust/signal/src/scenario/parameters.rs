@@ -49,25 +49,24 @@ pub(super) fn exercise(b: &mut Bench, chain: &Rc<Chain>, sender: u8) {
         .map(|n| Info::new(prn(n), adkd(n), n as u8))
         .collect();
     let fast: Vec<Info> = (0..fields).map(|n| Info::new(prn(n), 0, 0)).collect();
-    let count = |wanted: u8| (0..fields).filter(|&n| adkd(n) == wanted).count();
-    // Tag0 of another satellite than 1 and 2 finds no set.
-    let mut first = vec![1; fields];
-    first[0] = if sender <= 2 { 1 } else { 3 };
-    let mut waits: Vec<u8> = (0..fields)
-        .map(|n| if adkd(n) == 0 { 1 } else { 5 })
+    // The outcome of a field's right tag. Tag0 of another satellite than 1 and 2 finds no set.
+    let right = |b: &mut Bench, n: usize| match if n == 0 { sender } else { prn(n) } {
+        prn @ 1..=2 => b.agrees(prn),
+        _ => 3,
+    };
+    let waits: Vec<u8> = (0..fields)
+        .map(|n| if adkd(n) == 0 { right(b, n) } else { 5 })
         .collect();
-    waits[0] = first[0];
+    // The slow tags of one ADKD fall due, then come right ones with no delay.
+    let after_due = |b: &mut Bench, slow: u8| -> Vec<u8> {
+        let due = (0..fields).filter(|&n| adkd(n) == slow);
+        due.chain(0..fields).map(|n| right(b, n)).collect()
+    };
     let mut wrong = vec![2; fields];
     wrong[0] = if sender <= 2 { 2 } else { 3 };
     send_turned(b, sender, &slow, &[], 0, &waits);
-    send_turned(
-        b,
-        sender,
-        &fast,
-        &[],
-        0,
-        &[&vec![1; count(11)][..], &first].concat(),
-    );
+    let told = after_due(b, 11);
+    send_turned(b, sender, &fast, &[], 0, &told);
     // The last bit and the first bit of every tag.
     let last: Vec<usize> = (0..fields).map(|n| layout.tag(n).end - 1).collect();
     send_turned(b, sender, &fast, &last, 0, &wrong);
@@ -96,14 +95,8 @@ pub(super) fn exercise(b: &mut Bench, chain: &Rc<Chain>, sender: u8) {
         }
     }
     b.now = chain.start().plus(10);
-    send_turned(
-        b,
-        sender,
-        &fast,
-        &[],
-        0,
-        &[&vec![1; count(12)][..], &first].concat(),
-    );
+    let told = after_due(b, 12);
+    send_turned(b, sender, &fast, &[], 0, &told);
 }
 
 fn sizes(name: &str, about: &str, seed: u64, nmack: u8) -> Run {
@@ -246,21 +239,20 @@ pub fn gap_full(name: &str, about: &str, seed: u64) -> Run {
     let infos: Vec<Info> = (0..14)
         .map(|n| Info::new(n % 2 + 1, if n % 3 == 0 { 11 } else { 12 }, 0))
         .collect();
+    // 19 sections of 13 slow tags and nine of the next take all places. Of the first tags two find a set.
     for prn in 1..=20 {
-        let mack = b.section_of(prn, b.now, &infos);
-        let hkroot = b.idle();
-        b.subframe(prn, b.now, &hkroot, &mack);
-        b.run.gives(0, 0);
+        let first = if prn <= 2 { b.agrees(prn) } else { 3 };
+        let waits = if prn < 20 { 13 } else { 9 };
+        let told = [&[first][..], &vec![5; waits], &vec![7; 13 - waits]].concat();
+        b.send_fields(prn, &infos, &told);
     }
     // The held slot is 20. Slot 1,000,020 is satellite 12's.
     b.now = chain.start().plus(27_778);
     assert_eq!(chain.slot(12, b.now, 1), 1_000_020);
     reach(&mut b, 13, 13);
-    let mack = b.section_of(12, b.now, &[Info::new(1, 0, 0); 14]);
-    let hkroot = b.idle();
-    b.subframe(12, b.now, &hkroot, &mack);
-    b.run.gives(0, 0);
-    b.run.outcomes(&[&[1; 256][..], &[3], &[1; 13]].concat());
+    let due = b.agree((0..256).map(|n| infos[n % 13 + 1].prn));
+    let told = [due, vec![3], b.agree([1; 13])].concat();
+    b.send_fields(12, &[Info::new(1, 0, 0); 14], &told);
     b.run
 }
 

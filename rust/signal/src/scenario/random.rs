@@ -49,6 +49,10 @@ struct Mix {
     pages: Pages,
     /// One in so many calls is damaged; 0 for none.
     damage: u64,
+    /// Few tags of few bits for a satellite, whose data goes to and fro: sets stay candidates for some time.
+    thin: bool,
+    /// Other data of each satellite, by PRN - 1.
+    others: Vec<[NavSet; 3]>,
     /// The leaf of the tree whose key signs the roots.
     leaf: u8,
     /// Start of the last root put in force since the start, and whether a drop came after it.
@@ -68,6 +72,10 @@ pub fn random_with(seed: u64, functions: MacFunctions, pages: Pages) -> Run {
     let damage = [0, 40, 12, 4][(seed % 4) as usize];
     let leaf = b.rng.below(12) as u8;
     let mut mix = Mix {
+        thin: b.rng.once_in(2),
+        others: (1..=36)
+            .map(|prn| [500, 600, 700].map(|iodnav| NavSet::random(&mut b.rng, prn, iodnav)))
+            .collect(),
         b,
         functions,
         pages,
@@ -76,7 +84,7 @@ pub fn random_with(seed: u64, functions: MacFunctions, pages: Pages) -> Run {
         last: None,
         stopped: false,
     };
-    let count = mix.b.rng.range(1, 12);
+    let count = mix.b.rng.range(1, if mix.thin { 3 } else { 12 });
     mix.b.seen = (0..count).map(|_| mix.b.rng.range(1, 36) as u8).collect();
     mix.b.seen.sort_unstable();
     mix.b.seen.dedup();
@@ -204,7 +212,7 @@ impl Mix {
             let (nmack, ks, ms) = (
                 rng.range(1, 3) as u8,
                 rng.below(9) as u8,
-                rng.below(10) as u8,
+                rng.below(if self.thin { 4 } else { 10 }) as u8,
             );
             let alpha = rng.array();
             let params = Params::new(cid, nmack, ks, ms, self.b.start.maclt, alpha);
@@ -288,6 +296,9 @@ impl Mix {
         let senders = self.b.seen.clone();
         for n in 0..count {
             if n > 0 && n % senders.len() == 0 {
+                if self.thin {
+                    self.turn();
+                }
                 self.b.step();
             }
             if self.hit(self.damage * 8) {
@@ -310,7 +321,7 @@ impl Mix {
             FLEXIBLE => *rng.pick(&[0, 0, 11, 12, 12, 4]),
             fixed => fixed,
         };
-        let prn = match rng.below(12) {
+        let prn = match rng.below(if self.thin { 36 } else { 12 }) {
             0..=3 => sender,
             4..=10 => *rng.pick(&self.b.seen),
             _ => rng.below(40) as u8,
@@ -388,11 +399,22 @@ impl Mix {
             let extra = self.b.rng.range(1, 36) as u8;
             senders.push(extra);
         }
-        for prn in senders {
-            if !self.b.rng.once_in(10) {
+        let turns = self.b.rng.once_in(if self.thin { 2 } else { 6 });
+        let often = if self.thin { 2 } else { 10 };
+        for (at, prn) in senders.into_iter().enumerate() {
+            if !self.b.rng.once_in(often) {
                 let hkroot = self.b.idle();
                 self.subframe(prn, &hkroot);
             }
+            // Words of the half minute before, between two sections of one time.
+            if turns && at == 0 {
+                self.b.now = self.b.now.plus(-1);
+                self.turn();
+                self.b.step();
+            }
+        }
+        if self.b.rng.once_in(if self.thin { 2 } else { 4 }) {
+            self.turn();
         }
         for prn in self.b.seen.clone() {
             if self.b.rng.once_in(3) {
@@ -415,6 +437,15 @@ impl Mix {
             }
             self.b.run.push(replay::word(prn, gst, &word));
         }
+    }
+
+    /// A satellite goes to other data that it may have had before.
+    fn turn(&mut self) {
+        let prn = *self.b.rng.pick(&self.b.seen);
+        let (at, other) = (usize::from(prn) - 1, self.b.rng.below(3) as usize);
+        std::mem::swap(&mut self.b.sets[at], &mut self.others[at][other]);
+        let set = self.b.sets[at];
+        self.words(prn, &set);
     }
 
     /// New data, or a repeater's words.

@@ -285,7 +285,8 @@ fn slow_fields(own: u8, slow: u8) -> [Info; 7] {
     ]
 }
 
-/// Two satellites, seven tags a section: 0 12 0 11 0 0 0, under a MAC function.
+/// Two satellites, seven tags a section: 0 12 0 11 0 0 0, under a MAC function. Their 32 bits are short of a set, those
+/// of two are not.
 fn slow_bench(b: &mut Bench, mf: u8) {
     b.start.marks = [marks(&[0, 12, 0, 11]); 2];
     b.seen = vec![1, 2];
@@ -313,7 +314,7 @@ pub(super) fn data_change_with(name: &str, about: &str, seed: u64, mf: u8) -> Ru
     let mut b = Bench::new(name, about, seed);
     slow_bench(&mut b, mf);
     let arrival = b.now;
-    b.send_fields(1, &slow_fields(1, 2), &[1, 5, 1, 5, 1, 1, 1]);
+    b.send_fields(1, &slow_fields(1, 2), &[9, 5, 9, 5, 1, 1, 1]);
     let good = b.sets[1];
     // A repeater's words replace satellite 2's set while its slow tags wait. The system goes on to authenticate the
     // good set.
@@ -344,13 +345,13 @@ pub(super) fn data_change_with(name: &str, about: &str, seed: u64, mf: u8) -> Ru
 pub fn newer_set_stays(name: &str, about: &str, seed: u64) -> Run {
     let mut b = Bench::new(name, about, seed);
     slow_bench(&mut b, 0);
-    // A slow tag of old data comes due after newer data was marked by a fast tag: it is judged authentic, and the
-    // newer set stays.
-    b.send_fields(1, &slow_fields(1, 2), &[1, 5, 1, 5, 1, 1, 1]);
+    // A slow tag of old data comes due after newer data was marked: it agrees, and the newer set stays. The old set was
+    // authentic with its second tag; its third is then one of neither set.
+    b.send_fields(1, &slow_fields(1, 2), &[9, 5, 9, 5, 1, 1, 1]);
     b.change(2);
     b.words(2);
     b.step();
-    b.send_fields(1, &slow_fields(1, 2), &[1, 1, 5, 1, 5, 1, 1, 1]);
+    b.send_fields(1, &slow_fields(1, 2), &[1, 1, 5, 9, 5, 1, 1, 1]);
     let newest = b.now;
     // Only satellite 1 is authenticated from here on. The second section's ADKD 11 tag is due before the first one's
     // ADKD 12 tag, so that the old set's tag is the last to be judged.
@@ -358,7 +359,7 @@ pub fn newer_set_stays(name: &str, about: &str, seed: u64) -> Run {
     b.step();
     b.send_fields(1, &quiet, &[1, 1, 4, 1, 4, 1, 1, 1]);
     b.now = newest.plus(9);
-    b.send_fields(1, &quiet, &[1, 1, 4, 1, 4, 1, 1, 1]);
+    b.send_fields(1, &quiet, &[9, 1, 4, 1, 4, 1, 1, 1]);
     let read = b.set_read(2, newest);
     b.reads(2, read);
     b.run
@@ -592,37 +593,37 @@ pub fn places_full(name: &str, about: &str, seed: u64) -> Run {
     all[0] = 0;
     b.start.marks = [all; 2];
     b.seen = (1..=20).collect();
-    b.start();
-    let params = Params {
+    let chain = running_with(&mut b, 60, |params| Params {
         nmack: 1,
         ks: 0,
         ms: 0,
-        ..b.params(0)
-    };
-    let chain = b.chain(params, 60);
-    b.adopt(&chain);
-    b.now = chain.start().plus(-1);
-    b.all_words();
-    b.step();
+        ..params
+    });
     let slow: Vec<Info> = (0..14).map(|n| Info::new(n + 1, 12, 0)).collect();
     // 19 sections of 13 slow tags take 247 places, the next takes nine and has none for the other four.
-    let waits = |n: usize| [&[1][..], &vec![5; n], &vec![7; 13 - n]].concat();
+    let send_slow = |b: &mut Bench, prn: u8, due: &[u8], waits: usize| {
+        let (waits, none) = (vec![5; waits], vec![7; 13 - waits]);
+        let told = [due, &b.agree([prn]), &waits, &none].concat();
+        b.send_fields(prn, &slow, &told);
+    };
     for prn in 1..=19 {
-        b.send_fields(prn, &slow, &waits(13));
+        send_slow(&mut b, prn, &[], 13);
     }
-    b.send_fields(20, &slow, &waits(9));
+    send_slow(&mut b, 20, &[], 9);
     b.step();
-    b.send_fields(1, &slow, &waits(0));
+    send_slow(&mut b, 1, &[], 0);
     // Tags with no delay need no place, and those of ADKD 11 find none.
     let mixed: Vec<Info> = (0..14)
         .map(|n| Info::new(n + 1, if n % 2 == 0 { 0 } else { 11 }, 0))
         .collect();
-    b.send_fields(2, &mixed, &[1, 7, 1, 7, 1, 7, 1, 7, 1, 7, 1, 7, 1, 7]);
+    let told = [2, 3, 5, 7, 9, 11, 13].map(|prn| [b.agrees(prn), 7]);
+    b.send_fields(2, &mixed, told.as_flattened());
     b.now = chain.start().plus(9);
-    b.send_fields(1, &slow, &waits(0));
+    send_slow(&mut b, 1, &[], 0);
     b.step();
     // All 256 fall due in one section and free their places before its own tags: 270 records.
-    b.send_fields(3, &slow, &[&vec![1; 256][..], &waits(13)].concat());
-    b.send_fields(4, &slow, &waits(13));
+    let due = b.agree((0..256).map(|n| slow[n % 13 + 1].prn));
+    send_slow(&mut b, 3, &due, 13);
+    send_slow(&mut b, 4, &[], 13);
     b.run
 }

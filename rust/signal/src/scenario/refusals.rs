@@ -42,7 +42,7 @@ fn number<T>(choice: &[Condition<T>]) -> u8 {
     choice.first().map_or(0, |c| c.0)
 }
 
-/// Two fields a block of 32 bits over ADKD 0, and 16 spare bits.
+/// Two fields a block of 32 bits over ADKD 0, and 16 spare bits. Two tags make a set authentic.
 fn plain_chain(b: &mut Bench, subframes: u64) -> Rc<Chain> {
     b.start.marks = [[0; 14]; 2];
     let params = Params {
@@ -103,11 +103,12 @@ pub fn words(name: &str, about: &str, seed: u64) -> Run {
         if !call.stopped {
             // The word counts only if it was taken.
             b.step();
-            b.send_fields(
-                PRN,
-                &[Info::new(PRN, 0, 0); 4],
-                &[if choice.is_empty() { 2 } else { 1 }; 4],
-            );
+            let told = if choice.is_empty() {
+                vec![2; 4]
+            } else {
+                b.agree([PRN; 4])
+            };
+            b.send_fields(PRN, &[Info::new(PRN, 0, 0); 4], &told);
         }
     }
     other_words(&mut b, &chain);
@@ -135,7 +136,8 @@ fn other_words(b: &mut Bench, chain: &Rc<Chain>) {
     b.run.push(replay::word(PRN, b.now, &word));
     b.run.gives(0, 0);
     b.step();
-    b.send_fields(PRN, &[Info::new(PRN, 0, 0); 4], &[1; 4]);
+    let told = b.agree([PRN; 4]);
+    b.send_fields(PRN, &[Info::new(PRN, 0, 0); 4], &told);
     // Every week is taken, and the last second of a week.
     for week in [0, 1, 2047, 4095] {
         for second in [0, 30, 604_770] {
@@ -220,6 +222,7 @@ pub fn subframes(name: &str, about: &str, seed: u64) -> Run {
         }
         b.step();
         if !call.stopped {
+            // The satellite's first section brought a tag already.
             b.send_fields(PRN, &[Info::new(PRN, 0, 0); 4], &[1; 4]);
         }
     }
@@ -779,7 +782,8 @@ pub fn starts(name: &str, about: &str, seed: u64) -> Run {
         // All stays as it was: the section is judged by the words, the chain and the marks from before.
         b.run.push(replay::start(s));
         b.run.gives(2, 0);
-        b.send_fields(PRN, &[Info::new(PRN, 0, 0); 4], &[1; 4]);
+        let told = b.agree([PRN; 4]);
+        b.send_fields(PRN, &[Info::new(PRN, 0, 0); 4], &told);
         b.step();
     }
     // Good starts next to the refused ones; a start forgets everything.
@@ -838,7 +842,7 @@ pub fn records(name: &str, about: &str, seed: u64) -> Run {
     let field = crate::subframe::join(&b.idle(), &b.section(1, b.now));
     let record = replay::subframe(1, b.now, &field);
     noisy(&mut b, record, 81, (0, 0));
-    b.run.outcomes(&[1, 3, 3, 3]);
+    b.run.outcomes(&[9, 3, 3, 3]);
     b.step();
     let field = crate::subframe::join(&b.idle(), &b.section(1, b.now));
     let record = replay::subframe_marked(1, b.now, crate::subframe::ALL_CAME, &field);

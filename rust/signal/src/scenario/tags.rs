@@ -9,7 +9,7 @@ use crate::navdata::NavSet;
 use crate::replay::{self, Read, Run};
 use std::rc::Rc;
 
-/// One block of KS 96 and MS 40: six fields. Satellites 1 to 4 have their words.
+/// One block of KS 96 and MS 40: six fields, each tag enough for its set. Satellites 1 to 4 have their words.
 fn six_fields(b: &mut Bench, first: [u8; 6], second: [u8; 6]) -> Rc<Chain> {
     b.start.marks = [marks(&first), marks(&second)];
     let params = Params {
@@ -195,6 +195,36 @@ pub fn no_flexible(name: &str, about: &str, seed: u64) -> Run {
     b.run
 }
 
+/// The flexible fields of a section enter MACSEQ. These marks come first in both lists.
+fn flexible_among(b: &mut Bench, first: &[u8], params: Params) {
+    b.start.marks = [marks(first), marks(first)];
+    let chain = b.chain(params, 30);
+    let layout = Layout::new(&params).expect("it fits");
+    fresh(b, &chain);
+    let infos: Vec<Info> = (0..layout.fields())
+        .map(|n| Info::new(n as u8 % 4 + 1, 0, n as u8))
+        .collect();
+    let told = b.agree(infos.iter().map(|info| info.prn));
+    b.send_fields(1, &infos, &told);
+    // The IOD of the last flexible field is changed: all flexible fields are 6.
+    let flexible = |n: &usize| first.get(*n) == Some(&FLEXIBLE);
+    if let Some(last) = (0..layout.fields()).rev().find(flexible) {
+        b.step();
+        let mut mack = b.section_of(1, b.now, &infos);
+        bits::flip(&mut mack, layout.iod(last).end - 1);
+        let hkroot = b.idle();
+        b.subframe(1, b.now, &hkroot, &mack);
+        b.run.gives(0, 0);
+        let outcomes: Vec<u8> = (0..layout.fields())
+            .map(|n| match flexible(&n) {
+                true => 6,
+                false => b.agrees(infos[n].prn),
+            })
+            .collect();
+        b.run.outcomes(&outcomes);
+    }
+}
+
 /// Flexible fields in every block enter MACSEQ, in order.
 pub fn flexible_blocks(name: &str, about: &str, seed: u64) -> Run {
     let mut b = Bench::new(name, about, seed);
@@ -204,34 +234,13 @@ pub fn flexible_blocks(name: &str, about: &str, seed: u64) -> Run {
             [0, 0, 0, 255, 0, 255],
             [0, 0, 255, 0, 0, 0],
         ] {
-            b.start.marks = [marks(&first), marks(&first)];
             let params = Params {
                 nmack,
                 ks,
                 ms: 2,
                 ..b.params(0)
             };
-            let chain = b.chain(params, 30);
-            let layout = Layout::new(&params).expect("it fits");
-            fresh(&mut b, &chain);
-            let infos: Vec<Info> = (0..layout.fields())
-                .map(|n| Info::new(n as u8 % 4 + 1, 0, n as u8))
-                .collect();
-            b.send_fields(1, &infos, &vec![1; layout.fields()]);
-            // The IOD of the last flexible field is changed: all flexible fields are 6.
-            let flexible = |n: &usize| first.get(*n) == Some(&FLEXIBLE);
-            if let Some(last) = (0..layout.fields()).rev().find(flexible) {
-                b.step();
-                let mut mack = b.section_of(1, b.now, &infos);
-                bits::flip(&mut mack, layout.iod(last).end - 1);
-                let hkroot = b.idle();
-                b.subframe(1, b.now, &hkroot, &mack);
-                b.run.gives(0, 0);
-                let outcomes: Vec<u8> = (0..layout.fields())
-                    .map(|n| if flexible(&n) { 6 } else { 1 })
-                    .collect();
-                b.run.outcomes(&outcomes);
-            }
+            flexible_among(&mut b, &first, params);
         }
     }
     b.run
@@ -369,14 +378,15 @@ pub(super) fn turn_field_bits(b: &mut Bench, chain: &Rc<Chain>) {
                     let flexible_moved = layout.prn(1).start <= bit && bit < layout.iod(1).end;
                     let macseq = layout.macseq().contains(&bit) || flexible_moved;
                     match (n, moved.prn) {
-                        (0, _) => 1 + u8::from(layout.tag(0).contains(&bit)),
+                        (0, _) if layout.tag(0).contains(&bit) => 2,
+                        (0, _) => b.agrees(1),
                         _ if layout.adkd(n).contains(&bit) && n != 1 => 4,
                         _ if layout.adkd(1).contains(&bit) && n == 1 => 4,
                         (_, 0 | 37..) => 4,
                         (1, _) if macseq => 6,
                         (_, 5..) => 3,
                         _ if moved != infos[n] || layout.tag(n).contains(&bit) => 2,
-                        _ => 1,
+                        _ => b.agrees(infos[n].prn),
                     }
                 })
                 .collect();

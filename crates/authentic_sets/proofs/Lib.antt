@@ -1,0 +1,2 @@
+-- Laws of authentic sets and candidates.
+pub mod Agreed
