@@ -7,8 +7,9 @@
  * (rust/signal/src/air.rs): starts and verdicts as in a recording (docs/RECORDING.md), and pages or
  * their words and fields. A verdict is the chip's answer; on the bench it comes with the file. For each
  * start and verdict a line is printed with its number; for each sub-frame one with its satellite and
- * time, its two numbers and the count of its tag records, then these; at the end whether the core is
- * stopped and has a chain in force, and each authentic set.
+ * time, its two numbers and the count of its tag records, then these; after each half minute whether
+ * four satellites have authentic data that is at most 10 and 20 sub-frames old; at the end whether the
+ * core is stopped and has a chain in force, and each authentic set.
  */
 #include <osnma_collector.h>
 
@@ -52,10 +53,18 @@ static void told(void *user, uint8_t prn, uint32_t time, struct osnma_halves ans
     }
 }
 
-/* A refused word is a stopped core, which its sub-frames tell. */
+/* What a valve may be opened by; a stopped core's answer is not used. Who opens one also watches a clock
+ * that the signal cannot set, which a file does not have: osnma.h says how. */
+static int may_open(uint32_t limit)
+{
+    return !osnma_is_stopped(&core) && osnma_four(&core, limit);
+}
+
+/* The half minute is over. A refused word is a stopped core, which its sub-frames tell. */
 static void lend(void)
 {
     (void)osnma_collector_lend(&collector, &core, records, told, NULL);
+    printf("four within 10: %d, within 20: %d\n", may_open(10), may_open(20));
 }
 
 static enum osnma_answer start(const uint8_t r[256])

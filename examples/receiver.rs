@@ -7,7 +7,8 @@
 //! PAGES are records of 256 bytes, as `signal air NAME` of the bench signal writes them (`rust/signal/src/air.rs`):
 //! starts and verdicts as in a recording (docs/RECORDING.md), and pages or their words and fields. A verdict is the chip's answer; on the bench it
 //! comes with the file. For each start and verdict a line is printed with its number; for each sub-frame one with its
-//! satellite and time, its two numbers and the count of its tag records, then these; at the end whether the core is
+//! satellite and time, its two numbers and the count of its tag records, then these; after each half minute whether
+//! four satellites have authentic data that is at most 10 and 20 sub-frames old; at the end whether the core is
 //! stopped and has a chain in force, and each authentic set.
 
 use osnma::collector::{Collector, NotTaken};
@@ -177,6 +178,13 @@ impl<W: Write> Receiver<'_, W> {
         Ok(())
     }
 
+    /// What a valve may be opened by; a stopped core's answer is not used. Who opens one also watches a clock that the
+    /// signal cannot set, which a file does not have: `Core::four` says how.
+    fn may_open(&self, limit: u32) -> bool {
+        !self.core.is_stopped() && self.core.four(limit)
+    }
+
+    /// The half minute is over.
     fn lend(&mut self) -> io::Result<()> {
         let (output, mut printed) = (&mut *self.output, Ok(()));
         let told = |prn, time, answer: SubframeAnswer<'_>| {
@@ -186,7 +194,9 @@ impl<W: Write> Receiver<'_, W> {
         };
         // A refused word is a stopped core, which its sub-frames tell.
         let _ = self.collector.lend(&mut self.core, &mut self.records, told);
-        printed
+        printed?;
+        let [few, more] = [10, 20].map(|limit| u8::from(self.may_open(limit)));
+        writeln!(self.output, "four within 10: {few}, within 20: {more}")
     }
 
     fn end(&mut self) -> io::Result<()> {

@@ -18,6 +18,7 @@
  *     osnma_read_message(&core, &message)       what waits for the signature chip, if something does
  *     osnma_verdict_on(&core, &message, good)   the chip's answer on it
  *     osnma_read_set(&core, prn, set, ..)       a satellite's authentic navigation data
+ *     osnma_four(&core, limit)                  whether four have such data, not older than `limit`
  *
  * THE ORDER OF A HALF MINUTE: the fields of ALL satellites are lent before the words of ANY. A word
  * that is lent before a section of its own half minute takes its satellite's set out of use for that
@@ -31,6 +32,9 @@
  *   - Lend only pages whose CRC is right, and mark the others as lost.
  *   - Guard against repeaters that delay the signal by less: tags say who made data, not when it came.
  *   - Use the bytes that osnma_read_set gives, not the words that were lent, and look at their age.
+ *   - Watch by that clock how long ago a sub-frame was last noted (lent, and not refused with 1 to 4 in
+ *     both halves). osnma_four counts ages in the signal's own time: where none is noted any more, a yes
+ *     stays a yes.
  *
  * Duties of the caller, for every call:
  *   - No pointer is null. Each is aligned for its type and good for the whole of what it points to.
@@ -72,12 +76,14 @@ extern "C" {
 /* ---- version and layout */
 
 /** The version of this header and of the calls (CHANGELOG.md). */
-#define OSNMA_VERSION "0.2.0"
+#define OSNMA_VERSION "0.3.0"
 
 /**
  * The number of the layout: it rises whenever a region of struct osnma_core, in size or in meaning, or
  * the parameters of an exported function change. The archive exports a function whose name ends in it,
  * and osnma_start calls that function, so that a header and an archive of different layouts do not link.
+ * A new export alone does not raise it: a program that uses the new call does not link with an archive
+ * that lacks it, and every other program goes on as before.
  */
 #define OSNMA_LAYOUT 2
 #define OSNMA_JOIN_EXPANDED(a, b) a##b
@@ -339,7 +345,7 @@ typedef char osnma_core_has_its_size
 
 /**
  * Whether an emergency message stopped the core. It then answers OSNMA_STOPPED to all but a new start
- * and the reads, and what the reads give is no longer to be used.
+ * and the reads, osnma_four among them, and what these give is no longer to be used.
  */
 static inline int osnma_is_stopped(const struct osnma_core *core)
 {
@@ -582,6 +588,36 @@ static inline enum osnma_answer osnma_read_set(const struct osnma_core *core, ui
                                                uint32_t *time);
 
 /**
+ * Whether at least four satellites have an authentic set that is not too old: 1 for yes, 0 for no. It
+ * changes nothing, and every `limit` has an answer.
+ *
+ * Lent: the core, which is read.
+ *
+ * A satellite counts where it has an authentic set whose age is at most `limit` sub-frames of 30 seconds;
+ * an age equal to `limit` counts. The age is the time from the set's tag, as osnma_read_set gives it, to
+ * the last sub-frame that was noted, whichever satellite sent it; over the end of a week too. A tag that
+ * came later than that, which no start leads to, has age 0.
+ *   - A sub-frame is noted unless it is refused in both halves with OSNMA_WRONG_LENGTH,
+ *     OSNMA_OUT_OF_RANGE, OSNMA_OUT_OF_ORDER or OSNMA_STOPPED: one is noted that is answered
+ *     OSNMA_ALL_ZERO, OSNMA_FIELDS_MISSING or OSNMA_NOT_IN_FORCE, or whose section is refused, and so is
+ *     the one that stops the core. A word is not.
+ *   - Candidates never count.
+ *   - Before the first sub-frame is noted the answer is no, and so it is after an accepted start.
+ *   - A stopped core answers too, and its answer is no longer to be used: ask osnma_is_stopped first.
+ *
+ * Ask once a half minute, when the fields of ALL its satellites are lent: the first of them moves the
+ * clock on, the tags of the others come after it.
+ *
+ * NO TIME PASSES BUT BY SUB-FRAMES THAT ARE NOTED. Under a roof, with the antenna's cable off or the
+ * receiver hung up, no sub-frame comes; where an old buffer is lent again, each is refused with
+ * OSNMA_OUT_OF_ORDER. The ages then stay as they are, and a yes stays a yes for hours. Who opens a valve by
+ * this answer also watches a clock that the signal cannot set: he asks with the limit less the half minutes
+ * since a sub-frame was last noted (lent, and not refused with 1 to 4 in both halves), and takes the answer
+ * as no where those are more than the limit.
+ */
+static inline int osnma_four(const struct osnma_core *core, uint32_t limit);
+
+/**
  * The message that waits for a verdict, with the public key to verify it under. It goes on waiting. A
  * stopped core answers too.
  *
@@ -601,10 +637,11 @@ static inline enum osnma_answer osnma_read_message(const struct osnma_core *core
  * or writes, in the order of struct osnma_core, each a pointer and a count of elements; those that are
  * not const are written, and the other regions have no part in the call. Each returns its
  * answer, but for a sub-frame, which returns the count of records and writes the numbers of both
- * halves. Where a count is wrong the answer is OSNMA_WRONG_LENGTH, in both halves, and all that is
- * lent stays, but for IODnav and time, or key ID and key type, of a read, which are 0. The duties are
- * those above: each pointer is aligned for its type and good for its count, and what is not const
- * overlaps nothing else that is lent.
+ * halves. osnma_regions_four answers OSNMA_DONE and writes what osnma_four gives to `yes`. Where a count
+ * is wrong the answer is OSNMA_WRONG_LENGTH, in both halves, and all that is lent stays, but for IODnav
+ * and time, key ID and key type, or `yes`, of a read, which are 0. The duties are those above: each
+ * pointer is aligned for its type and good for its count, and what is not const overlaps nothing else
+ * that is lent.
  */
 uint32_t osnma_regions_start(
     uint8_t *config, size_t config_count,
@@ -677,6 +714,12 @@ uint32_t osnma_regions_read_set(
     uint8_t prn,
     uint8_t *out, size_t out_count,
     uint16_t *issue, uint32_t *time);
+
+uint32_t osnma_regions_four(
+    const uint32_t *clocks, size_t clocks_count,
+    const uint32_t *arrivals, size_t arrivals_count,
+    uint32_t limit,
+    uint8_t *yes);
 
 uint32_t osnma_regions_read_message(
     const uint8_t *pubkeys, size_t pubkeys_count,
@@ -771,6 +814,14 @@ static inline enum osnma_answer osnma_read_set(const struct osnma_core *core, ui
     return (enum osnma_answer)osnma_regions_read_set(core->sets, OSNMA_SETS_COUNT, core->arrivals,
                                                      OSNMA_ARRIVALS_COUNT, prn, set, OSNMA_SET,
                                                      iodnav, time);
+}
+
+static inline int osnma_four(const struct osnma_core *core, uint32_t limit)
+{
+    uint8_t yes;
+    osnma_regions_four(core->clocks, OSNMA_CLOCKS_COUNT, core->arrivals, OSNMA_ARRIVALS_COUNT, limit,
+                       &yes);
+    return yes;
 }
 
 static inline enum osnma_answer osnma_read_message(const struct osnma_core *core,

@@ -10,9 +10,9 @@ use denote.Triple.Clauses.{AtExit}
 use denote.Ref.{now}
 use Rattle.regions.specs.Told.{told}
 use Rattle.regions.specs.Told.{subframeTold, subframe}
-use Rattle.call_reads.specs.Reads.{setTold, offerTold}
-use Rattle.rules.specs.Calls.{startCall, wordCall, subframeCall, verdictCall, setRead, offerRead}
-use Rattle.rules.specs.State.{State, state, setLent, offerLent}
+use Rattle.call_reads.specs.Reads.{setTold, offerTold, fourTold}
+use Rattle.rules.specs.Calls.{startCall, wordCall, subframeCall, verdictCall, setRead, offerRead, fourRead}
+use Rattle.rules.specs.State.{State, state, setLent, offerLent, fourLent}
 use Rattle.osnma.proofs.osnma_regions_start.Reads as start-reads
 use Rattle.osnma.proofs.osnma_regions_start.Kinds as start-kinds
 use Rattle.osnma.proofs.osnma_regions_word.Reads as word-reads
@@ -25,6 +25,8 @@ use Rattle.osnma.proofs.osnma_regions_read_set.Reads as read-set-reads
 use Rattle.osnma.proofs.osnma_regions_read_set.Kinds as read-set-kinds
 use Rattle.osnma.proofs.osnma_regions_read_message.Reads as read-message-reads
 use Rattle.osnma.proofs.osnma_regions_read_message.Kinds as read-message-kinds
+use Rattle.osnma.proofs.osnma_regions_four.Reads as four-reads
+use Rattle.osnma.proofs.osnma_regions_four.Kinds as four-kinds
 use Rattle.assurance.specs.Run.{wordBefore, wordGiven, wordAfter, verdictBefore, verdictGiven, verdictAfter}
 
 -- ---- start: its number, and all sixteen regions at exit
@@ -114,3 +116,17 @@ read-message-is κs args r last d = d
 
 pub read-message-only : (κs : Lfts 7) (args : Dens κs read-message-kinds.ps) (r : ℕ) (last : AtExit (endedOf 7 read-message-kinds.ps read-message-kinds.r) κs) → read-message-rule κs args r last → read-message-reads.Learnt κs args r last
 read-message-only κs args r last d = d
+
+-- ---- the question for four satellites: its number, and its yes or no at exit
+
+pub four-asks-nothing : (κs : Lfts 3) (args : Dens κs four-kinds.ps) → four-reads.Asked κs args
+four-asks-nothing κs args = tt
+
+abbrev four-rule : (κs : Lfts 3) (args : Dens κs four-kinds.ps) (r : ℕ) (last : AtExit (endedOf 3 four-kinds.ps four-kinds.r) κs) → Type 0
+four-rule κs (clocks, (arrivals, (limit, _))) r (_, (_, (_, (yes′, _)))) = (s : State) → fourTold r (now yes′) ≡ fourRead (fourLent s (now clocks) (now arrivals)) limit
+
+pub four-is : (κs : Lfts 3) (args : Dens κs four-kinds.ps) (r : ℕ) (last : AtExit (endedOf 3 four-kinds.ps four-kinds.r) κs) → four-reads.Learnt κs args r last → four-rule κs args r last
+four-is κs args r last d = d
+
+pub four-only : (κs : Lfts 3) (args : Dens κs four-kinds.ps) (r : ℕ) (last : AtExit (endedOf 3 four-kinds.ps four-kinds.r) κs) → four-rule κs args r last → four-reads.Learnt κs args r last
+four-only κs args r last d = d

@@ -1,20 +1,19 @@
 -- Each exported call's contract is the rule that `step` uses; so a run of exported calls is a run of the rules, by one induction, and the claim of
 -- demand 3 holds of it. Assumes nothing.
-use Prim.Native.Nat.{ℕ, _*_}
+use Prim.Native.Nat.{ℕ}
 use mathlib.Core.Path.{_≡_, refl, sym, _∙_, ap}
 use mathlib.Core.List.{List, [], _∷_}
 use contract.Lifetimes.{Lfts}
 use borrow.Fn.Kinds.{PK, RK, Dens, endedOf}
 use denote.Triple.Clauses.{AtExit}
-use Rattle.rules.specs.Calls.{Start, Told, SubframeTold, SetRead, OfferRead, startCall}
+use Rattle.rules.specs.Calls.{Start, Told, SubframeTold, SetRead, OfferRead, FourRead, startCall}
 use Rattle.rules.specs.Claim.{FairHistory}
-use Rattle.rules.specs.Log.{Call, start, Reply, plain, nothing, Stepped, History, advanced, step, asked, ran, ranFrom}
+use Rattle.rules.specs.Log.{Call, start, Reply, plain, subframeReply, setReply, offerReply, fourReply, Stepped, History, advanced, step, asked, ran, ranFrom}
 use Rattle.rules.specs.State.{State}
-use Rattle.rules.proofs.Sound.{claim}
+use Rattle.rules.proofs.Sound.{claim, four-satellites}
 use Rattle.rules.proofs.Sizes.{tag-sizes}
 use Rattle.rules.proofs.Whole.{lost-fields}
-use Rattle.assurance.specs.Run.{Made, StartDid, WordDid, SubframeDid, VerdictDid, ReadSetDid, ReadOfferDid, Did, started, worded, subframed, judged, set-read, offer-read, Done, Run, historyOf, ExportedClaim, readSetBefore, readOfferBefore}
-use Rattle.laws.specs.Lists.{part}
+use Rattle.assurance.specs.Run.{Made, StartDid, WordDid, SubframeDid, VerdictDid, ReadSetDid, ReadOfferDid, FourDid, Did, started, worded, subframed, judged, set-read, offer-read, four-asked, Done, Run, historyOf, ExportedClaim, readSetBefore, readOfferBefore, fourBefore}
 
 abbrev Steps : State → Call → Reply → State → Type 0
 Steps s c r s' = step s c ≡ record { reply = r; state = s' }
@@ -44,7 +43,7 @@ word-steps = made-steps _ _ _ _ _ _ _ _ (λ κs args r last s d. ap (λ (t : Tol
 
 subframe-steps : (s s' : State) (c : Call) (r : Reply) → SubframeDid s c r s' → Steps s c r s'
 unfolding step
-subframe-steps = made-steps _ _ _ _ _ _ _ _ (λ κs args r last s d. ap (λ (t : SubframeTold). record { reply = record { code = t .hkroot; mack = t .mack; records = part (t .area) 0 (12 * t .count); out = []; issue = 0; time = 0; handed = nothing }; state = t .state }) (sym d))
+subframe-steps = made-steps _ _ _ _ _ _ _ _ (λ κs args r last s d. ap (λ (t : SubframeTold). record { reply = subframeReply (t .hkroot) (t .mack) (t .count) (t .area); state = t .state }) (sym d))
 
 verdict-steps : (s s' : State) (c : Call) (r : Reply) → VerdictDid s c r s' → Steps s c r s'
 unfolding step
@@ -52,11 +51,15 @@ verdict-steps = made-steps _ _ _ _ _ _ _ _ (λ κs args r last s d. ap (λ (t : 
 
 read-set-steps : (s s' : State) (c : Call) (r : Reply) → ReadSetDid s c r s' → Steps s c r s'
 unfolding step asked
-read-set-steps = made-steps _ _ _ _ _ _ _ _ (λ κs args r last s d. ap (λ (t : SetRead). record { reply = record { code = t .code; mack = 0; records = []; out = t .out; issue = t .issue; time = t .time; handed = nothing }; state = readSetBefore κs args s }) (sym (d s)))
+read-set-steps = made-steps _ _ _ _ _ _ _ _ (λ κs args r last s d. ap (λ (t : SetRead). record { reply = setReply t; state = readSetBefore κs args s }) (sym (d s)))
 
 read-message-steps : (s s' : State) (c : Call) (r : Reply) → ReadOfferDid s c r s' → Steps s c r s'
 unfolding step asked
-read-message-steps = made-steps _ _ _ _ _ _ _ _ (λ κs args r last s d. ap (λ (t : OfferRead). record { reply = record { code = t .code; mack = 0; records = []; out = []; issue = 0; time = 0; handed = record { message = t .message; signature = t .signature; key = t .key; id = t .id; type = t .type } }; state = readOfferBefore κs args s }) (sym (d s)))
+read-message-steps = made-steps _ _ _ _ _ _ _ _ (λ κs args r last s d. ap (λ (t : OfferRead). record { reply = offerReply t; state = readOfferBefore κs args s }) (sym (d s)))
+
+four-steps : (s s' : State) (c : Call) (r : Reply) → FourDid s c r s' → Steps s c r s'
+unfolding step asked
+four-steps = made-steps _ _ _ _ _ _ _ _ (λ κs args r last s d. ap (λ (t : FourRead). record { reply = fourReply t; state = fourBefore κs args s }) (sym (d s)))
 
 pub steps : (s s' : State) (c : Call) (r : Reply) → Did s c r s' → Steps s c r s'
 steps s s' c r (started d) = start-steps s s' c r d
@@ -65,6 +68,7 @@ steps s s' c r (subframed d) = subframe-steps s s' c r d
 steps s s' c r (judged d) = verdict-steps s s' c r d
 steps s s' c r (set-read d) = read-set-steps s s' c r d
 steps s s' c r (offer-read d) = read-message-steps s s' c r d
+steps s s' c r (four-asked d) = four-steps s s' c r d
 
 -- ---- a run of exported calls is a run of the rules
 
@@ -102,4 +106,4 @@ begins s s' left left' x d d' =
     sym (a .1) ∙ claim .begins s s' x (a .0) (b .0) ∙ b .1
 
 pub exported-claim : ExportedClaim
-exported-claim = record { steps = steps; fair = fair; begins = begins; refused = claim .refused; lost-fields = lost-fields; tag-sizes = tag-sizes }
+exported-claim = record { steps = steps; fair = fair; begins = begins; refused = claim .refused; lost-fields = lost-fields; tag-sizes = tag-sizes; four-satellites = four-satellites }

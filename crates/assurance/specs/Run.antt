@@ -2,19 +2,20 @@
 -- them. `Learnt` is what the checker makes of a function's `ensures`: all that a caller learns.
 -- For each call, from its parameters at entry and at exit (a parameter after the other, in the function's order; ′ at exit): the state with what it was
 -- lent in its places, what else it was given, the state that it left, and its reply.
-use Prim.Native.Nat.{ℕ, _*_}
+use Prim.Native.Nat.{ℕ}
 use mathlib.Core.Path.{_≡_}
 use mathlib.Core.List.{List, [], _∷_}
 use contract.Lifetimes.{Lfts}
 use borrow.Fn.Kinds.{PK, RK, Dens, endedOf}
 use denote.Triple.Clauses.{AtExit}
 use denote.Ref.{now}
-use Rattle.laws.specs.Lists.{part}
+use Rattle.call_reads.specs.Reads.{setTold, offerTold, fourTold}
 use Rattle.rules.specs.Calls.{Start, Word, Subframe}
 use Rattle.rules.specs.Claim.{FairHistory, Refused}
-use Rattle.rules.specs.Log.{Call, start, word, subframe, verdict, ask, Question, Reply, plain, nothing, History, advanced, step}
+use Rattle.rules.specs.FourLaws.{FourSatellites}
+use Rattle.rules.specs.Log.{Call, start, word, subframe, verdict, ask, Question, Reply, plain, subframeReply, setReply, offerReply, fourReply, History, advanced, step}
 use Rattle.rules.specs.Log as L
-use Rattle.rules.specs.State.{State, state, wordLent, verdictLent, setLent, offerLent}
+use Rattle.rules.specs.State.{State, state, wordLent, verdictLent, setLent, offerLent, fourLent}
 use Rattle.rules.specs.Verdict.{Verdict}
 use Rattle.rules.specs.Sizes.{TagSizes}
 use Rattle.rules.specs.Whole.{LostFields}
@@ -30,6 +31,8 @@ use Rattle.osnma.proofs.osnma_regions_read_set.Reads as read-set-reads
 use Rattle.osnma.proofs.osnma_regions_read_set.Kinds as read-set-kinds
 use Rattle.osnma.proofs.osnma_regions_read_message.Reads as read-message-reads
 use Rattle.osnma.proofs.osnma_regions_read_message.Kinds as read-message-kinds
+use Rattle.osnma.proofs.osnma_regions_four.Reads as four-reads
+use Rattle.osnma.proofs.osnma_regions_four.Kinds as four-kinds
 
 -- ---- a call that was made
 
@@ -96,13 +99,13 @@ subframeGiven κs (_, (_, (_, (_, (_, (_, (_, (_, (_, (_, (_, (_, (_, (_, (_, (_
 abbrev pub subframeAfter : (κs : Lfts 20) → Dens κs subframe-kinds.ps → AtExit (endedOf 20 subframe-kinds.ps subframe-kinds.r) κs → State → State
 subframeAfter κs (_, (_, (words, (stamps, (_, (_, (_, (_, (_, (_, (chain, _))))))))))) (config′, (clocks′, (_, (_, (blocks′, (headers′, (present′, (since′, (pubkeys′, (offer′, (_, (numbers′, (heldkey′, (waiting′, (sets′, (arrivals′, _)))))))))))))))) s = state (now config′) (now clocks′) (now words) (now stamps) (now blocks′) (now headers′) (now present′) (now since′) (now pubkeys′) (now offer′) (now chain) (now numbers′) (now heldkey′) (now waiting′) (now sets′) (now arrivals′)
 
-abbrev pub subframeReply : (κs : Lfts 20) → ℕ → AtExit (endedOf 20 subframe-kinds.ps subframe-kinds.r) κs → Reply
-subframeReply κs r (_, (_, (_, (_, (_, (_, (_, (_, (_, (_, (_, (_, (_, (_, (_, (_, (area′, (_, (_, (_, (_, (hkroot′, (mack′, _))))))))))))))))))))))) = record { code = now hkroot′; mack = now mack′; records = part (now area′) 0 (12 * r); out = []; issue = 0; time = 0; handed = nothing }
+abbrev pub subframeTells : (κs : Lfts 20) → ℕ → AtExit (endedOf 20 subframe-kinds.ps subframe-kinds.r) κs → Reply
+subframeTells κs r (_, (_, (_, (_, (_, (_, (_, (_, (_, (_, (_, (_, (_, (_, (_, (_, (area′, (_, (_, (_, (_, (hkroot′, (mack′, _))))))))))))))))))))))) = subframeReply (now hkroot′) (now mack′) r (now area′)
 
 abbrev pub SubframeDid : State → Call → Reply → State → Type 0
 SubframeDid =
     Made 20 subframe-kinds.ps subframe-kinds.r subframe-reads.Learnt subframeBefore (λ κs args. subframe (subframeGiven κs args .0) (subframeGiven κs args .1))
-    subframeAfter subframeReply
+    subframeAfter subframeTells
 
 -- ---- verdict: of its eight regions all but the settings are written
 
@@ -128,13 +131,13 @@ readSetBefore κs (sets, (arrivals, _)) s = setLent s (now sets) (now arrivals)
 abbrev pub readSetGiven : (κs : Lfts 5) → Dens κs read-set-kinds.ps → Question
 readSetGiven κs (_, (_, (prn, (out, _)))) = L.set prn (now out)
 
-abbrev pub readSetReply : (κs : Lfts 5) → ℕ → AtExit (endedOf 5 read-set-kinds.ps read-set-kinds.r) κs → Reply
-readSetReply κs r (_, (_, (_, (out′, (issue′, (time′, _)))))) = record { code = r; mack = 0; records = []; out = now out′; issue = now issue′; time = now time′; handed = nothing }
+abbrev pub readSetTells : (κs : Lfts 5) → ℕ → AtExit (endedOf 5 read-set-kinds.ps read-set-kinds.r) κs → Reply
+readSetTells κs r (_, (_, (_, (out′, (issue′, (time′, _)))))) = setReply (setTold r (now out′) (now issue′) (now time′))
 
 abbrev pub ReadSetDid : State → Call → Reply → State → Type 0
 ReadSetDid =
     Made 5 read-set-kinds.ps read-set-kinds.r read-set-reads.Learnt readSetBefore (λ κs args. ask (readSetGiven κs args))
-    (λ κs args last. readSetBefore κs args) readSetReply
+    (λ κs args last. readSetBefore κs args) readSetTells
 
 -- ---- the read of what waits writes no region
 
@@ -144,13 +147,29 @@ readOfferBefore κs (pubkeys, (offer, _)) s = offerLent s (now pubkeys) (now off
 abbrev pub readOfferGiven : (κs : Lfts 7) → Dens κs read-message-kinds.ps → Question
 readOfferGiven κs (_, (_, (message, (signature, (key, _))))) = L.offer (now message) (now signature) (now key)
 
-abbrev pub readOfferReply : (κs : Lfts 7) → ℕ → AtExit (endedOf 7 read-message-kinds.ps read-message-kinds.r) κs → Reply
-readOfferReply κs r (_, (_, (message′, (signature′, (key′, (id′, (kind′, _))))))) = record { code = r; mack = 0; records = []; out = []; issue = 0; time = 0; handed = record { message = now message′; signature = now signature′; key = now key′; id = now id′; type = now kind′ } }
+abbrev pub readOfferTells : (κs : Lfts 7) → ℕ → AtExit (endedOf 7 read-message-kinds.ps read-message-kinds.r) κs → Reply
+readOfferTells κs r (_, (_, (message′, (signature′, (key′, (id′, (kind′, _))))))) = offerReply (offerTold r (now message′) (now signature′) (now key′) (now id′) (now kind′))
 
 abbrev pub ReadOfferDid : State → Call → Reply → State → Type 0
 ReadOfferDid =
     Made 7 read-message-kinds.ps read-message-kinds.r read-message-reads.Learnt readOfferBefore (λ κs args. ask (readOfferGiven κs args))
-    (λ κs args last. readOfferBefore κs args) readOfferReply
+    (λ κs args last. readOfferBefore κs args) readOfferTells
+
+-- ---- the question for four satellites writes no region
+
+abbrev pub fourBefore : (κs : Lfts 3) → Dens κs four-kinds.ps → State → State
+fourBefore κs (clocks, (arrivals, _)) s = fourLent s (now clocks) (now arrivals)
+
+abbrev pub fourGiven : (κs : Lfts 3) → Dens κs four-kinds.ps → Question
+fourGiven κs (_, (_, (limit, _))) = L.four limit
+
+abbrev pub fourTells : (κs : Lfts 3) → ℕ → AtExit (endedOf 3 four-kinds.ps four-kinds.r) κs → Reply
+fourTells κs r (_, (_, (_, (yes′, _)))) = fourReply (fourTold r (now yes′))
+
+abbrev pub FourDid : State → Call → Reply → State → Type 0
+FourDid =
+    Made 3 four-kinds.ps four-kinds.r four-reads.Learnt fourBefore (λ κs args. ask (fourGiven κs args))
+    (λ κs args last. fourBefore κs args) fourTells
 
 -- ---- a run
 
@@ -162,6 +181,7 @@ pub data Did (s : State) (c : Call) (reply : Reply) (s' : State) : Type 0 where
   judged : VerdictDid s c reply s' → Did s c reply s'
   set-read : ReadSetDid s c reply s' → Did s c reply s'
   offer-read : ReadOfferDid s c reply s' → Did s c reply s'
+  four-asked : FourDid s c reply s' → Did s c reply s'
 
 -- a call, its reply, and the state that it left
 pub record Done : Type 0 where
@@ -195,3 +215,5 @@ pub record ExportedClaim : Type 0 where
   -- 02, P4: with tags of 40 bits the tags of a section leave what they left before, and what holds of tags of every size; of the exported calls by
   -- `steps`
   pub tag-sizes : TagSizes
+  -- 02, P5: what holds of the answer beside its rule; what a yes means stands in `fair`
+  pub four-satellites : FourSatellites

@@ -1,2 +1,3 @@
 -- Laws of the reads.
 mod Answers
+mod Scan

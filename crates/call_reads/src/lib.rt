@@ -1,11 +1,15 @@
-// The two reads (01, "Verdicts", "MACK"), over the lent regions that they read; they write none of them. The caller has seen that every length is right, and
-// hands in numbers that are 0: where a read is refused, the lent bytes and the numbers stay.
+// The calls that only ask (01, "Verdicts", "MACK"; 02, P5), over the lent regions that they read; they write none of them. The caller has seen that every
+// length is right, and hands in numbers that are 0: where a read is refused, the lent bytes and the numbers stay.
 //   read_set        a PRN's authentic set, its IODnav and its tag's GST_SF
 //   read_message    the message that waits for a verdict, its signature, and its key with ID and type
+//   four_met        whether four satellites have an authentic set whose tag is recent
 ghost use mathlib.Core.Path.{_≡_};
+ghost use Prim.Native.Nat.{ℕ, _-_};
 ghost use lib.ListN.{length};
 ghost use Rattle.rules.specs.Calls.{setRead, offerRead};
-ghost use Rattle.rules.specs.State.{State, setLent, offerLent, pubkeysLength, offerLength, setsLength, arrivalsLength};
+ghost use Rattle.rules.specs.Four as S;
+ghost use Rattle.rules.specs.State.{State, setLent, offerLent, fourLent, clocksLength, pubkeysLength, offerLength, setsLength, arrivalsLength};
+ghost use Rattle.rules.specs.Times.{secondsOf};
 ghost use Rattle.call_reads.specs.Reads.{setTold, offerTold};
 
 // A satellite's authentic set into 69 lent bytes.
@@ -65,4 +69,42 @@ pub fn read_message(
     *kind = public_keys::key_type(pubkeys, which);
     *id = which;
     0
+}
+
+// Whether there is an authentic set, by the stamp of its tag's arrival, and that tag came at most `limit` sub-frames before `last`, the seconds of the last
+// one noted.
+fn recent(last: u64, limit: u32, arrival: u32) -> bool
+    ensures { λ r. ⌜ ((clock : ℕ) → last ≡ secondsOf (clock - 1) → r ≡ S.recent clock limit arrival) ⌝ }
+{
+    if arrival == 0 {
+        false
+    } else {
+        times::subframe_at(times::seconds_of(arrival - 1), last) <= limit as u64
+    }
+}
+
+// "Answer as soon as the fourth is met" (02, P5): the scan over the 36 satellites ends there. Before any sub-frame is noted the answer is no.
+pub fn four_met(clocks: &[u32], arrivals: &[u32], limit: u32) -> bool
+    requires { ⌜ (length (now clocks) ≡ clocksLength) × (length (now arrivals) ≡ arrivalsLength) ⌝ }
+    ensures { λ r. ⌜ ((s : State) → r ≡ S.fourMet (fourLent s (now (clocks .entry)) (now (arrivals .entry))) limit) ⌝ }
+{
+    let clock = regions::last_subframe(clocks);
+    if clock == 0 {
+        return false;
+    }
+    let last = times::seconds_of(clock - 1);
+    let mut met: u32 = 0;
+    let mut i: usize = 0;
+    loop {
+        if i == 36 {
+            break false;
+        }
+        if recent(last, limit, arrivals[i]) {
+            if met == 3 {
+                break true;
+            }
+            met = met + 1;
+        }
+        i = i + 1;
+    }
 }

@@ -1,16 +1,17 @@
 -- Row 1 of each call: a lent length is wrong; and what right lengths say. Assumes nothing.
 use mathlib.Core.Path.{_≡_}
-use mathlib.Core.Bool.{Bool, true, false, _&&_}
+use mathlib.Core.Bool.{Bool, true, false, cond, _&&_}
 use mathlib.Core.List.{List}
 use Prim.Native.Nat.{ℕ}
 use lib.Dec.{eqb}
 use lib.ListN.{length}
 use borrow.Author.Tests.{eqb-true}
 use Rattle.laws.proofs.Tests.{and-left, and-right}
-use Rattle.call_reads.specs.Reads.{setTold, offerTold}
+use Rattle.call_reads.specs.Reads.{setTold, offerTold, fourTold}
 use Rattle.regions.specs.Told.{told}
-use Rattle.rules.specs.Calls.{Word, wordCall, wordChecks, verdictCall, verdictChecks, setRead, setReadChecks, offerRead, offerReadChecks}
-use Rattle.rules.specs.State.{State, wordShaped, verdictShaped, setShaped, offerShaped}
+use Rattle.rules.specs.Calls.{Word, wordCall, wordChecks, verdictCall, verdictChecks, setRead, setReadChecks, offerRead, offerReadChecks, fourRead, fourReadChecks}
+use Rattle.rules.specs.Four.{fourMet}
+use Rattle.rules.specs.State.{State, wordShaped, verdictShaped, setShaped, offerShaped, fourShaped}
 use Rattle.rules.specs.Verdict.{Verdict}
 
 -- ---- right lengths: of a test b of the regions, and of one, two or three lists that are lent beside them
@@ -49,3 +50,12 @@ module _ (s : State) where
       → offerTold 1 message signature key 0 0 ≡ offerRead s message signature key
   unfolding offerRead offerReadChecks
   message-misfit message signature key e = rw e
+
+  pub four-misfit : (limit : ℕ) → fourShaped s ≡ false → fourTold 1 0 ≡ fourRead s limit
+  unfolding fourRead fourReadChecks
+  four-misfit limit e = rw e
+
+  -- and right ones: the answer is the rule's
+  pub four-told : (limit said : ℕ) (met : Bool) → fourShaped s ≡ true → met ≡ fourMet s limit → said ≡ cond met 1 0 → fourTold 0 said ≡ fourRead s limit
+  unfolding fourRead fourReadChecks
+  four-told limit said met e m y = rw (e, ← m, y)

@@ -2,14 +2,14 @@
 // include/osnma.h and rust/osnma have the calls over one object. Nobody but these calls writes the regions between a start and the last call, and the
 // regions do not overlap.
 // No function asks anything of its caller: any lengths, bytes, numbers and times. A call is lent the regions that it reads or writes: start and
-// sub-frame all sixteen, a word four, a verdict eight, a read two; the others have no part in it, whatever they hold. Each function looks at the
+// sub-frame all sixteen, a word four, a verdict eight, a read or question two; the others have no part in it, whatever they hold. Each function looks at the
 // lengths (row 1 of 01's table) and hands on what it was lent.
 ghost use mathlib.Core.Path.{_≡_};
 ghost use Rattle.regions.specs.Told.{told};
 ghost use Rattle.regions.specs.Told.{subframeTold, subframe};
-ghost use Rattle.call_reads.specs.Reads.{setTold, offerTold};
-ghost use Rattle.rules.specs.Calls.{startCall, wordCall, subframeCall, verdictCall, setRead, offerRead};
-ghost use Rattle.rules.specs.State.{State, state, wordLent, verdictLent, setLent, offerLent};
+ghost use Rattle.call_reads.specs.Reads.{setTold, offerTold, fourTold};
+ghost use Rattle.rules.specs.Calls.{startCall, wordCall, subframeCall, verdictCall, setRead, offerRead, fourRead};
+ghost use Rattle.rules.specs.State.{State, state, wordLent, verdictLent, setLent, offerLent, fourLent};
 
 // The number of the layout of regions and exported parameters, in the name too: a caller that was written for another one does not link.
 #[no_mangle]
@@ -325,4 +325,25 @@ pub extern "C" fn osnma_regions_read_message(
         return 1;
     }
     call_reads::read_message(pubkeys, offer, message, signature, pubkey, id, kind)
+}
+
+// Asks whether at least four satellites have an authentic set whose tag came within `limit` sub-frames of the last one noted (02, P5): 1 in `yes`, or 0.
+#[no_mangle]
+pub extern "C" fn osnma_regions_four(
+    clocks: &[u32],
+    arrivals: &[u32],
+    limit: u32,
+    yes: &mut u8,
+) -> u32
+    ensures { λ r. ⌜ ((s : State) →
+        fourTold r (now (yes .exit)) ≡ fourRead (fourLent s (now (clocks .entry)) (now (arrivals .entry))) limit) ⌝ }
+{
+    *yes = 0;
+    if !regions::four_shaped(clocks, arrivals) {
+        return 1;
+    }
+    if call_reads::four_met(clocks, arrivals, limit) {
+        *yes = 1;
+    }
+    0
 }

@@ -5,20 +5,20 @@ use mathlib.Core.Path.{_≡_}
 use mathlib.Core.Logic.{_≢_, _⊎_}
 use mathlib.Core.Bool.{true, false}
 use mathlib.Core.List.{List}
-use mathlib.Core.Option.{some}
+use mathlib.Core.Option.{Option, none, some}
 use lib.ListN.{length, getD}
-use Rattle.rules.specs.Calls.{Start, chainOf, heldOf}
+use Rattle.rules.specs.Calls.{Start, Subframe, chainOf, heldOf}
 use Rattle.rules.specs.Candidates.{pairAt}
 use Rattle.rules.specs.Chain.{Held, walk}
 use Rattle.rules.specs.Claim.{PublicKey, BlockCame, KeyKnown, Vouched, Arrived, Disclosed, Agreed, Counted, tagName, NoneOf, contentsBy}
 use Rattle.rules.specs.Gather.{marked, storedBlock, totalOf}
 use Rattle.rules.specs.Kroot.{krootOf, rootSecondsOf, chainContents, inForce, offerWaits, offerId}
-use Rattle.rules.specs.Log.{Log, Once, stateAt, lastWord, chainIn, chainTurns}
+use Rattle.rules.specs.Log.{Entry, Log, Once, stateAt, sectionIn, lastWord, lastNoted, chainIn, chainTurns}
 use Rattle.rules.specs.Navdata.{wordAt, wordPlace}
 use Rattle.rules.specs.PublicKeys.{keyHeld, keyType, keyBytes}
-use Rattle.rules.specs.State.{State, Nav, Store, Auth, nsOf, treeRoot, prnValid, lastSubframeOf, waitingCount}
+use Rattle.rules.specs.State.{State, Nav, Store, Auth, nsOf, treeRoot, prnValid, lastSubframe, lastSubframeOf, waitingCount}
 use Rattle.rules.specs.Tags.{entryAt, entryTag, entrySet}
-use Rattle.rules.specs.Times.{keySeconds, stampOf}
+use Rattle.rules.specs.Times.{keySeconds, timeValid, stampOf}
 use Rattle.rules.specs.Verdict.{Verdict, chainUnchanged}
 use Rattle.rules.specs.declared.Chain.{Chain}
 use Rattle.rules.proofs.Agreements.{PairIs}
@@ -97,6 +97,22 @@ AgreedIn o b l prn navdata turn c = Once (Agreed o b prn navdata turn c) l
 -- every authentic set has its forty bits, and every candidate the bits of its total
 pub record SetsAre (o : Start) (b : State) (a : Auth) (used : List (List ℕ)) (l : Log) : Type 0 where
   pub backed : (prn : ℕ) → prnValid prn ≡ true → PairIs (AgreedIn o b l prn) used (chainTurns l) (pairAt (a .sets) (a .arrivals) prn)
+
+-- ---- the clock of sub-frames
+
+abbrev pub stampNoted : Option ℕ → ℕ
+stampNoted none = 0
+stampNoted (some t) = stampOf t
+
+-- a section of this sub-frame was answered 0
+abbrev pub SectionOf : Subframe → Entry → Log → Type 0
+SectionOf sub x older = sectionIn x ≡ some sub
+
+-- it is the last time that was noted, and no section answered 0 has a later one
+pub record ClockIs (clocks : List ℕ) (l : Log) : Type 0 where
+  pub last : lastSubframe clocks ≡ stampNoted (lastNoted l)
+  pub last-valid : (t : ℕ) → lastNoted l ≡ some t → timeValid t ≡ true
+  pub sections : (sub : Subframe) → Once (SectionOf sub) l → (timeValid (sub .time) ≡ true) × (stampOf (sub .time) ≤ lastSubframe clocks)
 
 -- ---- all
 

@@ -1,11 +1,13 @@
 -- What row 1 tests of a state: the lengths of its regions. Assumes nothing.
 use mathlib.Core.Path.{_≡_}
-use mathlib.Core.Bool.{true}
+use mathlib.Core.Bool.{true, _&&_}
+use mathlib.Core.List.{List}
+use Prim.Native.Nat.{ℕ}
 use lib.Dec.{eqb}
 use lib.ListN.{length}
 use borrow.Author.Tests.{eqb-true}
 use Rattle.laws.proofs.Tests.{both-true, and-left, and-right}
-use Rattle.rules.specs.State.{State, shaped, shapes, wordShaped, wordShapes, verdictShaped, verdictShapes, setShaped, offerShaped, configLength, clocksLength, wordsLength, stampsLength, blocksLength, dsmIds, pubkeysLength, offerLength, chainLength, numbersLength, heldkeyLength, waitingLength, setsLength, arrivalsLength}
+use Rattle.rules.specs.State.{State, shaped, shapes, wordShaped, wordShapes, verdictShaped, verdictShapes, setShaped, fourShaped, offerShaped, configLength, clocksLength, wordsLength, stampsLength, blocksLength, dsmIds, pubkeysLength, offerLength, chainLength, numbersLength, heldkeyLength, waitingLength, setsLength, arrivalsLength}
 use Rattle.rules.proofs.Choices.{each}
 
 pub record Sized (s : State) : Type 0 where
@@ -120,17 +122,18 @@ pub verdict-shaped : (s : State) → VerdictSized s → verdictShaped s ≡ true
 unfolding verdictShaped
 verdict-shaped s z = rw (z .config, z .pubkeys, z .offer, z .chain, z .numbers, z .heldkey, z .waiting, z .arrivals)
 
--- of what the reads are lent
+-- of what the calls that only ask are lent
 pub set-shaped : (s : State) → length (s .auth .sets) ≡ setsLength → length (s .auth .arrivals) ≡ arrivalsLength → setShaped s ≡ true
 unfolding setShaped
 set-shaped s e f = rw (e, f)
 
+-- two lengths
+both-sized : (a b : List ℕ) (m n : ℕ) → (eqb (length a) m && eqb (length b) n) ≡ true → (length a ≡ m) × (length b ≡ n)
+both-sized a b m n h = (eqb-true (length a) m (and-left (eqb (length a) m) (eqb (length b) n) h), eqb-true (length b) n (and-right (eqb (length a) m) (eqb (length b) n) h))
+
 pub set-sized : (s : State) → setShaped s ≡ true → (length (s .auth .sets) ≡ setsLength) × (length (s .auth .arrivals) ≡ arrivalsLength)
 unfolding setShaped
-set-sized s h = (
-  eqb-true _ setsLength (and-left (eqb (length (s .auth .sets)) setsLength) (eqb (length (s .auth .arrivals)) arrivalsLength) h),
-  eqb-true _ arrivalsLength (and-right (eqb (length (s .auth .sets)) setsLength) (eqb (length (s .auth .arrivals)) arrivalsLength) h),
-)
+set-sized s h = both-sized (s .auth .sets) (s .auth .arrivals) setsLength arrivalsLength h
 
 pub message-shaped : (s : State) → length (s .pubkeys) ≡ pubkeysLength → length (s .offer) ≡ offerLength → offerShaped s ≡ true
 unfolding offerShaped
@@ -138,10 +141,11 @@ message-shaped s e f = rw (e, f)
 
 pub message-sized : (s : State) → offerShaped s ≡ true → (length (s .pubkeys) ≡ pubkeysLength) × (length (s .offer) ≡ offerLength)
 unfolding offerShaped
-message-sized s h = (
-  eqb-true _ pubkeysLength (and-left (eqb (length (s .pubkeys)) pubkeysLength) (eqb (length (s .offer)) offerLength) h),
-  eqb-true _ offerLength (and-right (eqb (length (s .pubkeys)) pubkeysLength) (eqb (length (s .offer)) offerLength) h),
-)
+message-sized s h = both-sized (s .pubkeys) (s .offer) pubkeysLength offerLength h
+
+pub four-sized : (s : State) → fourShaped s ≡ true → (length (s .clocks) ≡ clocksLength) × (length (s .auth .arrivals) ≡ arrivalsLength)
+unfolding fourShaped
+four-sized s h = both-sized (s .clocks) (s .auth .arrivals) clocksLength arrivalsLength h
 
 -- what a read of what waits is lent has its lengths where a verdict could be given on it
 pub offer-shaped : (s : State) → verdictShaped s ≡ true → offerShaped s ≡ true

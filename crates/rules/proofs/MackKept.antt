@@ -39,7 +39,7 @@ use Rattle.rules.proofs.Later.{held-later, same-turn}
 use Rattle.rules.proofs.Names.{Undue, names-less, names-in}
 use Rattle.rules.proofs.OwnTags.{UnheardOf, fields-are}
 use Rattle.rules.proofs.Parts.{filled-back}
-use Rattle.rules.proofs.ReadsFair.{forty-bits}
+use Rattle.rules.proofs.SetsBacked.{forty-bits}
 use Rattle.rules.proofs.SectionKeys.{Proves, keys-are}
 use Rattle.rules.proofs.TagRecords.{NewAgreed, AgreedNow, AgreedBy, PlaceMarked, WorkIs, start-is}
 

@@ -1,26 +1,27 @@
--- The reads: a set that is read was marked, and what waits is handed out with a key that was given or proved.
+-- The reads: a set that is read was marked, what waits is handed out with a key that was given or proved, and behind a yes stand four satellites.
 use Prim.Native.Nat.{ℕ, zero, suc, _-_, _*_, _<_}
-use mathlib.Core.Path.{_≡_, refl, ap}
+use mathlib.Core.Path.{_≡_, refl, sym, _∙_, ap}
+use mathlib.Core.Logic.{_≢_}
 use mathlib.Core.Bool.{true}
 use mathlib.Core.List.{List, [], _∷_}
 use native.Mathlib.Omega.{arith}
-use lib.ListN.{length}
+use lib.ListN.{length, getD}
 use borrow.Author.Tests.{eqb-false, not-false}
 use Rattle.laws.specs.Refusal.{firstOf, unless}
 use Rattle.laws.proofs.Refusal.{clear}
 use Rattle.laws.proofs.Tests.{and-left}
 use Rattle.rules.specs.Calls.{Start, SetRead, OfferRead, setRead, setReadChecks, offerRead, offerReadChecks, authStamp, authSet}
-use Rattle.rules.specs.Candidates.{pairAt}
-use Rattle.rules.specs.Claim.{KeyKnown, Counted, FortyBits, SetBacked, HandedFairly, MarkBacked, Fair, wouldHand}
+use Rattle.rules.specs.Claim.{KeyKnown, SetBacked, HandedFairly, FourBacked, MarkBacked, Fair, wouldHand}
 use Rattle.rules.specs.Kroot.{offerWaits, offerId, offerMessage, offerSignature}
-use Rattle.rules.specs.Log.{Call, start, word, subframe, verdict, Question, set, offer, ask, asked, Entry, Log, step, stateAt}
+use Rattle.rules.specs.Log.{Call, start, word, subframe, verdict, Question, set, offer, four, ask, asked, Entry, Log, step, stateAt}
 use Rattle.rules.specs.Navdata.{setIssue}
 use Rattle.rules.specs.PublicKeys.{keyType, keyBytes}
-use Rattle.rules.proofs.Agreements.{Forty}
 use Rattle.rules.specs.State.{State, offerShaped, prnValid}
 use Rattle.rules.proofs.Bounds.{offer-id-bound}
-use Rattle.rules.proofs.Invariant.{Inv, heldkey, AgreedIn}
+use Rattle.rules.proofs.FourBacked.{four-backed}
+use Rattle.rules.proofs.Invariant.{Inv, ClockIs, heldkey}
 use Rattle.rules.proofs.Later.{entry, unchanged-inv, quiet-ask}
+use Rattle.rules.proofs.SetsBacked.{set-stands}
 
 -- ---- what waits
 
@@ -43,57 +44,67 @@ would-hand s h w = rw (h, w) refl
 pub offer-known : (o : Start) (b s : State) (l : Log) → Inv o b s l → offerWaits (s .offer) ≡ true → KeyKnown o (heldkey (s .pubkeys) (offerId (s .offer))) l
 offer-known o b s l v w = v .pubkeys .known (offerId (s .offer)) (offer-id-bound (s .offer)) (v .offer w)
 
--- ---- an entry that is no read and wrote no record
+-- ---- an entry by the question that it asks
 
-abbrev setOfCall : Call → ℕ
-setOfCall (ask (set prn out)) = suc prn
-setOfCall (ask (offer m g k)) = 0
-setOfCall (start x) = 0
-setOfCall (word w) = 0
-setOfCall (subframe a x) = 0
-setOfCall (verdict v) = 0
+-- which question a call asks, and 0 where it asks none; a read's PRN, and the limit of a question for four satellites
+abbrev asks : Call → ℕ
+asks (ask (set prn out)) = 1
+asks (ask (offer m g k)) = 2
+asks (ask (four limit)) = 3
+asks (start x) = 0
+asks (word w) = 0
+asks (subframe a x) = 0
+asks (verdict v) = 0
 
-abbrev offerOfCall : Call → ℕ
-offerOfCall (ask (set prn out)) = 0
-offerOfCall (ask (offer m g k)) = 1
-offerOfCall (start x) = 0
-offerOfCall (word w) = 0
-offerOfCall (subframe a x) = 0
-offerOfCall (verdict v) = 0
+abbrev prnAsked : Question → ℕ
+prnAsked (set prn out) = prn
+prnAsked (offer m g k) = 0
+prnAsked (four limit) = 0
 
-pub no-marks : (o : Start) (b : State) (x : Entry) (l : Log) → x .reply .records ≡ [] → (k : ℕ) → 12 * k < length (x .reply .records) → MarkBacked o b k x l
-no-marks o b x l e k h = let z : length (x .reply .records) ≡ 0 = ap length e in absurd (omega arith)
+abbrev limitAsked : Question → ℕ
+limitAsked (set prn out) = 0
+limitAsked (offer m g k) = 0
+limitAsked (four limit) = limit
 
-pub no-set : (o : Start) (b : State) (x : Entry) (l : Log) → setOfCall (x .call) ≡ 0 → (prn : ℕ) (out : List ℕ) → x .call ≡ ask (set prn out) → x .reply .code ≡ 0 → SetBacked o b prn (x .reply .time) (x .reply .out) l
-no-set o b x l z prn out e ok = let y : setOfCall (x .call) ≡ suc prn = ap setOfCall e in absurd (omega arith)
+abbrev asking : Question → Call → Question
+asking q (ask p) = p
+asking q (start x) = q
+asking q (word w) = q
+asking q (subframe a x) = q
+asking q (verdict v) = q
 
-pub no-hand : (o : Start) (b : State) (x : Entry) (l : Log) → offerOfCall (x .call) ≡ 0 → (m g k : List ℕ) → x .call ≡ ask (offer m g k) → x .reply .code ≡ 0 → HandedFairly o b (x .reply .handed) l
-no-hand o b x l z m g k e ok = let y : offerOfCall (x .call) ≡ 1 = ap offerOfCall e in absurd (omega arith)
+module _ (o : Start) (b : State) (x : Entry) (l : Log) where
+  pub no-marks : x .reply .records ≡ [] → (k : ℕ) → 12 * k < length (x .reply .records) → MarkBacked o b k x l
+  no-marks e k h = let z : length (x .reply .records) ≡ 0 = ap length e in absurd (omega arith)
 
--- a call that is no read, and wrote no record
-pub plain-fair : (o : Start) (b : State) (x : Entry) (l : Log) → x .reply .records ≡ [] → setOfCall (x .call) ≡ 0 → offerOfCall (x .call) ≡ 0 → Fair o b x l
-plain-fair o b x l e s h = record { marks = λ k i m. no-marks o b x l e k i; reads = no-set o b x l s; hands = no-hand o b x l h }
+  module _ (n : ℕ) (is : asks (x .call) ≡ n) where
+    no-set : n ≢ 1 → (prn : ℕ) (out : List ℕ) → x .call ≡ ask (set prn out) → x .reply .code ≡ 0 → SetBacked o b prn (x .reply .time) (x .reply .out) l
+    no-set d prn out e ok = absurd (d (sym is ∙ ap asks e))
+
+    no-hand : n ≢ 2 → (m g k : List ℕ) → x .call ≡ ask (offer m g k) → x .reply .code ≡ 0 → HandedFairly o b (x .reply .handed) l
+    no-hand d m g k e ok = absurd (d (sym is ∙ ap asks e))
+
+    no-four : n ≢ 3 → (limit : ℕ) → x .call ≡ ask (four limit) → x .reply .yes ≢ 0 → FourBacked o b limit l
+    no-four d limit e said = absurd (d (sym is ∙ ap asks e))
+
+  -- one that asks nothing
+  pub no-question : asks (x .call) ≡ 0 → ((k : ℕ) → 12 * k < length (x .reply .records) → getD (x .reply .records) (12 * k) 0 ≡ 1 → MarkBacked o b k x l) → Fair o b x l
+  no-question is m =
+      record {
+        marks = m;
+        reads = no-set 0 is (λ z. absurd (omega (arith, z)));
+        hands = no-hand 0 is (λ z. absurd (omega (arith, z)));
+        fours = no-four 0 is (λ z. absurd (omega (arith, z)));
+      }
+
+  -- and that wrote no record
+  pub plain-fair : x .reply .records ≡ [] → asks (x .call) ≡ 0 → Fair o b x l
+  plain-fair e is = no-question is (λ k i m. no-marks e k i)
 
 -- ---- a read of a set
 
--- forty bits, as the claim has them
-pub forty-bits : (A : ℕ → Counted → Type 0) (time : ℕ) → Forty A time → FortyBits A
-forty-bits A time f = record { tags = f .tags; turn = f .turn; each = f .rests .each; distinct = f .rests .distinct; enough = f .enough }
-
-backed-by : (o : Start) (b : State) (l : Log) (prn time : ℕ) (navdata : List ℕ) → Forty (AgreedIn o b l prn navdata) time → SetBacked o b prn time navdata l
-unfolding forty-bits
-backed-by o b l prn time navdata f =
-    record {
-      forty = forty-bits (AgreedIn o b l prn navdata) time f;
-      latest = f .rests .latest;
-      last = f .rests .last;
-      last-turn = f .rests .last-turn;
-      came = f .rests .came;
-      last-agreed = f .rests .agreed;
-    }
-
 set-backed : (o : Start) (b s : State) (l : Log) → Inv o b s l → (prn : ℕ) (out : List ℕ) → (setRead s prn out) .code ≡ 0 → SetBacked o b prn ((setRead s prn out) .time) ((setRead s prn out) .out) l
-unfolding setRead setReadChecks authStamp authSet pairAt
+unfolding setRead setReadChecks
 set-backed o b s l v prn out ok = go (firstOf (setReadChecks s prn out)) refl ok
   where
     res : ℕ → SetRead
@@ -110,20 +121,21 @@ set-backed o b s l v prn out ok = go (firstOf (setReadChecks s prn out)) refl ok
     go : (n : ℕ) → firstOf (setReadChecks s prn out) ≡ n → (res n) .code ≡ 0 → SetBacked o b prn ((res n) .time) ((res n) .out) l
     go zero e ok =
         let c = clear (setReadChecks s prn out) tt e in
-        backed-by o b l prn _ _ ((v .auth .backed prn (not-false (prnValid prn) (c .1 .0))) .set (eqb-false (authStamp (s .auth) prn) 0 (c .1 .1 .0)))
+        set-stands o b s l v prn (not-false (prnValid prn) (c .1 .0)) (eqb-false (authStamp (s .auth) prn) 0 (c .1 .1 .0))
     go (suc n) e ok = absurd (omega (arith, ok))
 
 set-fair : (o : Start) (b s : State) (l : Log) (prn : ℕ) (out : List ℕ) → Inv o b s l → Fair o b (entry s (ask (set prn out))) l
 unfolding step asked
 set-fair o b s l prn out v =
+    let x = entry s (ask (set prn out)) in
     record {
-      marks = λ k i m. no-marks o b (entry s (ask (set prn out))) l refl k i;
-      reads = λ p q e ok. (
-          let y : suc prn ≡ suc p = ap setOfCall e in
-          let z : prn ≡ p = omega arith in
+      marks = λ k i m. no-marks o b x l refl k i;
+      reads = λ p out' e ok. (
+          let z : prn ≡ p = ap (λ (c : Call). prnAsked (asking (set prn out) c)) e in
           rw (← z) (set-backed o b s l v prn out ok)
           );
-      hands = no-hand o b (entry s (ask (set prn out))) l refl;
+      hands = no-hand o b x l 1 refl (λ z. absurd (omega (arith, z)));
+      fours = no-four o b x l 1 refl (λ z. absurd (omega (arith, z)));
     }
 
 -- ---- a read of what waits
@@ -155,20 +167,41 @@ hand-fair o b s l v m g k ok = go (firstOf (offerReadChecks s m g k)) refl ok
 offer-fair : (o : Start) (b s : State) (l : Log) (m g k : List ℕ) → Inv o b s l → Fair o b (entry s (ask (offer m g k))) l
 unfolding step asked
 offer-fair o b s l m g k v =
+    let x = entry s (ask (offer m g k)) in
     record {
-      marks = λ j i z. no-marks o b (entry s (ask (offer m g k))) l refl j i;
-      reads = no-set o b (entry s (ask (offer m g k))) l refl;
+      marks = λ j i z. no-marks o b x l refl j i;
+      reads = no-set o b x l 2 refl (λ z. absurd (omega (arith, z)));
       hands = λ m' g' k' e ok. hand-fair o b s l v m g k ok;
+      fours = no-four o b x l 2 refl (λ z. absurd (omega (arith, z)));
     }
 
-ask-fair : (o : Start) (b s : State) (l : Log) (q : Question) → Inv o b s l → Fair o b (entry s (ask q)) l
-ask-fair o b s l (set prn out) v = set-fair o b s l prn out v
-ask-fair o b s l (offer m g k) v = offer-fair o b s l m g k v
+-- ---- the question for four satellites
+
+four-fair : (o : Start) (b s : State) (l : Log) (limit : ℕ) → Inv o b s l → ClockIs (s .clocks) l → Fair o b (entry s (ask (four limit))) l
+unfolding step asked
+four-fair o b s l limit v t =
+    let x = entry s (ask (four limit)) in
+    record {
+      marks = λ j i z. no-marks o b x l refl j i;
+      reads = no-set o b x l 3 refl (λ z. absurd (omega (arith, z)));
+      hands = no-hand o b x l 3 refl (λ z. absurd (omega (arith, z)));
+      fours = λ n e said. (
+          let z : limit ≡ n = ap (λ (c : Call). limitAsked (asking (four limit) c)) e in
+          rw (← z) (four-backed o b s l v t limit said)
+          );
+    }
+
+-- ---- asking
+
+ask-fair : (o : Start) (b s : State) (l : Log) (q : Question) → Inv o b s l → ClockIs (s .clocks) l → Fair o b (entry s (ask q)) l
+ask-fair o b s l (set prn out) v t = set-fair o b s l prn out v
+ask-fair o b s l (offer m g k) v t = offer-fair o b s l m g k v
+ask-fair o b s l (four limit) v t = four-fair o b s l limit v t
 
 -- asking changes nothing
 ask-inv : (o : Start) (b s : State) (l : Log) (q : Question) → Inv o b s l → Inv o b s (entry s (ask q) ∷ l)
 unfolding stateAt step
 ask-inv o b s l q v = unchanged-inv o b s _ l v (quiet-ask _ q refl) (v .at)
 
-pub ask-call : (o : Start) (b s : State) (l : Log) (q : Question) → Inv o b s l → Fair o b (entry s (ask q)) l × Inv o b s (entry s (ask q) ∷ l)
-ask-call o b s l q v = (ask-fair o b s l q v, ask-inv o b s l q v)
+pub ask-call : (o : Start) (b s : State) (l : Log) (q : Question) → Inv o b s l → ClockIs (s .clocks) l → Fair o b (entry s (ask q)) l × Inv o b s (entry s (ask q) ∷ l)
+ask-call o b s l q v t = (ask-fair o b s l q v t, ask-inv o b s l q v)

@@ -179,7 +179,7 @@ fresh-inv x f =
 
 -- ---- the call
 
-start-left : (s : State) (x : Start) → (startCall s x) .code ≡ 0 → (startCall s x) .state ≡ fresh x
+pub start-left : (s : State) (x : Start) → (startCall s x) .code ≡ 0 → (startCall s x) .state ≡ fresh x
 unfolding startCall
 start-left s x h = unless-accepted (firstOf (startChecks s x)) (fresh x) s h
 
@@ -194,4 +194,4 @@ begins s s' x h k = start-left s x h ∙ sym (start-left s' x k)
 pub start-refused : (o : Start) (b s : State) (l : Log) (x : Start) (n : ℕ) → Inv o b s l → (step s (start x)) .reply .code ≡ suc n
     → Fair o b (entry s (start x)) l × Inv o b ((step s (start x)) .state) (entry s (start x) ∷ l)
 unfolding step
-start-refused o b s l x n v e = (plain-fair o b (entry s (start x)) l refl refl refl, refused-inv o b s l (start x) n v e (start-kept s x (not-zero _ n e)))
+start-refused o b s l x n v e = (plain-fair o b (entry s (start x)) l refl refl, refused-inv o b s l (start x) n v e (start-kept s x (not-zero _ n e)))

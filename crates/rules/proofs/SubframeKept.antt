@@ -1,5 +1,5 @@
 -- The sub-frame: both halves, and the sub-frames that are refused before them.
-use Prim.Native.Nat.{ℕ, _*_, _/_, _<_}
+use Prim.Native.Nat.{ℕ, _*_, _/_, _≤_, _<_}
 use mathlib.Core.Path.{_≡_, refl, sym, _∙_, ap}
 use mathlib.Core.Logic.{_≢_, ⊎-elim}
 use mathlib.Core.Bool.{Bool, true, false, cond, _&&_, _||_, not}
@@ -9,7 +9,7 @@ use native.Mathlib.Omega.{arith}
 use lib.Dec.{eqb, leb, ltb}
 use lib.ListN.{length, getD, set, replicate, length-set}
 use lib.Seq.{getD-set-same, getD-set-other}
-use borrow.Author.Tests.{not-false, leb-false, eqb-true, eqb-false}
+use borrow.Author.Tests.{not-false, leb-false, ltb-false, eqb-true, eqb-false}
 use Rattle.laws.specs.Lists.{part, splice}
 use Rattle.laws.specs.Refusal.{firstOf, neb}
 use Rattle.laws.proofs.Refusal.{clear, by-test}
@@ -19,7 +19,7 @@ use Rattle.rules.specs.Bits.{same}
 use Rattle.rules.specs.Calls.{Start, Subframe, SubframeTold, HkrootDone, MackDone, subframeCall, subframeChecks, fieldsOf, halvesDone, noted, hkrootReceived, mackHalf, sectionProved, chainOf, heldOf}
 use Rattle.rules.specs.Claim.{Fair, MarkBacked}
 use Rattle.rules.specs.Gather.{hkrootOf, mackOf, headerOf}
-use Rattle.rules.specs.Log.{subframe, Reply, nothing, Entry, Log, step, stateAt}
+use Rattle.rules.specs.Log.{subframe, Entry, Log, step, stateAt, subframeReply}
 use Rattle.rules.specs.Received.{fieldsCame}
 use Rattle.rules.specs.State.{State, shaped, prnValid, stopped, lastSubframe, lastSubframeOf, waitingCount, areaLength}
 use Rattle.rules.specs.Times.{timeValid, stampOf}
@@ -31,7 +31,7 @@ use Rattle.rules.proofs.Later.{entry, stepped-at, Quiet, same-inv, unch
 use Rattle.rules.proofs.Lengths.{Sized, sized}
 use Rattle.rules.proofs.MackKept.{Own, Before, MackIs, mack-is, records-back}
 use Rattle.rules.proofs.Names.{Onward, newer-before, names-less}
-use Rattle.rules.proofs.ReadsFair.{no-marks, no-set, no-hand}
+use Rattle.rules.proofs.ReadsFair.{no-marks, no-question}
 use Rattle.rules.proofs.Refused.{mack-half-kept}
 
 -- ---- the invariant after the HKROOT half, what the MACK half finds, and the invariant after that
@@ -92,20 +92,21 @@ mack-inv o b s s' x l m v q a k w at =
 
 -- ---- what the checks say
 
-record Fit (s : State) (sub : Subframe) : Type 0 where
-  size : Sized s
-  prn : prnValid (sub .prn) ≡ true
-  time : timeValid (sub .time) ≡ true
-  -- row 3: later than its satellite's last
-  later : lastSubframeOf (s .clocks) (sub .prn) < stampOf (sub .time)
+pub record Fit (s : State) (sub : Subframe) : Type 0 where
+  pub size : Sized s
+  pub prn : prnValid (sub .prn) ≡ true
+  pub time : timeValid (sub .time) ≡ true
+  -- row 3: not earlier than the last, and later than its satellite's last
+  pub onward : lastSubframe (s .clocks) ≤ stampOf (sub .time)
+  pub later : lastSubframeOf (s .clocks) (sub .prn) < stampOf (sub .time)
 
-abbrev lengthsWrong : State → List ℕ → Subframe → Bool
+abbrev pub lengthsWrong : State → List ℕ → Subframe → Bool
 lengthsWrong s area sub = not (shaped s && (eqb (length area) areaLength && eqb (length (sub .bytes)) 75))
 
-abbrev outOfRange : Subframe → Bool
+abbrev pub outOfRange : Subframe → Bool
 outOfRange sub = not (prnValid (sub .prn)) || not (timeValid (sub .time))
 
-abbrev tooEarly : State → Subframe → Bool
+abbrev pub tooEarly : State → Subframe → Bool
 tooEarly s sub = ltb (stampOf (sub .time)) (lastSubframe (s .clocks)) || leb (stampOf (sub .time)) (lastSubframeOf (s .clocks) (sub .prn))
 
 fit-of : (s : State) (area : List ℕ) (sub : Subframe) → lengthsWrong s area sub ≡ false → outOfRange sub ≡ false → tooEarly s sub ≡ false → Fit s sub
@@ -117,10 +118,11 @@ fit-of s area sub h r e =
       size = sized s (and-left (shaped s) _ a);
       prn = not-false (prnValid (sub .prn)) (t .0);
       time = not-false (timeValid (sub .time)) (t .1);
+      onward = ltb-false (stampOf (sub .time)) (lastSubframe (s .clocks)) (d .0);
       later = leb-false (stampOf (sub .time)) (lastSubframeOf (s .clocks) (sub .prn)) (d .1);
     }
 
-fit : (s : State) (area : List ℕ) (sub : Subframe) → firstOf (subframeChecks s area sub) ≡ 0 → Fit s sub
+pub fit : (s : State) (area : List ℕ) (sub : Subframe) → firstOf (subframeChecks s area sub) ≡ 0 → Fit s sub
 unfolding subframeChecks
 fit s area sub h =
     let c = clear (subframeChecks s area sub) tt h in
@@ -134,7 +136,7 @@ before-five false false true d e h = absurd (omega (arith, h))
 before-five false false false true e h = absurd (omega (arith, h))
 before-five false false false false e h = (refl, (refl, refl))
 
-five-fit : (s : State) (area : List ℕ) (sub : Subframe) → firstOf (subframeChecks s area sub) ≡ 5 → Fit s sub
+pub five-fit : (s : State) (area : List ℕ) (sub : Subframe) → firstOf (subframeChecks s area sub) ≡ 5 → Fit s sub
 unfolding subframeChecks
 five-fit s area sub h =
     let q =
@@ -196,15 +198,12 @@ noted-is o s s' sub l a =
 
 -- ---- a sub-frame as it is logged
 
-abbrev replyOf : SubframeTold → Reply
-replyOf r = record { code = r .hkroot; mack = r .mack; records = part (r .area) 0 (12 * r .count); out = []; issue = 0; time = 0; handed = nothing }
-
-abbrev entryOf : List ℕ → Subframe → SubframeTold → Entry
-entryOf area sub r = record { call = subframe area sub; reply = replyOf r }
+abbrev pub entryOf : List ℕ → Subframe → SubframeTold → Entry
+entryOf area sub r = record { call = subframe area sub; reply = subframeReply (r .hkroot) (r .mack) (r .count) (r .area) }
 
 fair-of : (o : Start) (b : State) (area : List ℕ) (sub : Subframe) (r : SubframeTold) (l : Log)
     → ((k : ℕ) → 12 * k < length ((entryOf area sub r) .reply .records) → getD ((entryOf area sub r) .reply .records) (12 * k) 0 ≡ 1 → MarkBacked o b k (entryOf area sub r) l) → Fair o b (entryOf area sub r) l
-fair-of o b area sub r l m = record { marks = m; reads = no-set o b (entryOf area sub r) l refl; hands = no-hand o b (entryOf area sub r) l refl }
+fair-of o b area sub r l m = no-question o b (entryOf area sub r) l refl m
 
 -- one that wrote no record
 quiet-fair : (o : Start) (b : State) (area : List ℕ) (sub : Subframe) (r : SubframeTold) (l : Log) → part (r .area) 0 (12 * r .count) ≡ [] → Fair o b (entryOf area sub r) l

@@ -413,4 +413,4 @@ verdict-inv o b s l v i =
 
 pub verdict-call : (o : Start) (b s : State) (l : Log) (v : Verdict) → Inv o b s l → Fair o b (entry s (verdict v)) l × Inv o b ((step s (verdict v)) .state) (entry s (verdict v) ∷ l)
 unfolding step
-verdict-call o b s l v i = (plain-fair o b (entry s (verdict v)) l refl refl refl, verdict-inv o b s l v i)
+verdict-call o b s l v i = (plain-fair o b (entry s (verdict v)) l refl refl, verdict-inv o b s l v i)

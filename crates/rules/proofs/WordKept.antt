@@ -207,4 +207,4 @@ word-inv o b s l w v =
 
 pub word-call : (o : Start) (b s : State) (l : Log) (w : Word) → Inv o b s l → Fair o b (entry s (word w)) l × Inv o b ((step s (word w)) .state) (entry s (word w) ∷ l)
 unfolding step
-word-call o b s l w v = (plain-fair o b (entry s (word w)) l refl refl refl, word-inv o b s l w v)
+word-call o b s l w v = (plain-fair o b (entry s (word w)) l refl refl, word-inv o b s l w v)

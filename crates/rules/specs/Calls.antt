@@ -1,4 +1,4 @@
--- The calls: start, word, sub-frame, verdict and the two reads. Each has its refusals as a list of conditions and numbers in the order
+-- The calls: start, word, sub-frame, verdict and the reads. Each has its refusals as a list of conditions and numbers in the order
 -- of 01 ("Checks go ..", "its checks go .."), the first one wins, and then its effect on the whole state and on every lent byte. Row 1 is about
 -- what that call is lent.
 use Prim.Native.Nat.{ℕ, zero, suc, _+_, _-_, _*_, _/_}
@@ -10,13 +10,14 @@ use Rattle.laws.specs.Lists.{part, splice}
 use Rattle.laws.specs.Refusal.{Check, refuse, firstOf, unless, neb}
 use Rattle.rules.specs.Bits.{filled, same, anyOf, within}
 use Rattle.rules.specs.Chain.{Held, held}
+use Rattle.rules.specs.Four.{fourMet}
 use Rattle.rules.specs.Gather.{hkrootOf, mackOf, headerOf, statusOf, cidOf, dsmIdOf, gathered, Gathered}
 use Rattle.rules.specs.PublicKeys.{keyLength, keyType, keyBytes, withKey}
 use Rattle.rules.specs.Kroot.{krootJudged, noOffer, chainWith, chainContents, inForce, offerWaits, offerId, offerMessage, offerSignature}
 use Rattle.rules.specs.Mack.{Proved}
 use Rattle.rules.specs.Pkr.{pkrJudged}
 use Rattle.rules.specs.Received.{fieldCame, fieldsCame, received, keysReceived, fieldsJudged}
-use Rattle.rules.specs.State.{State, Store, Auth, shaped, wordShaped, verdictShaped, setShaped, offerShaped, nsOf, stoppedAt, treeRoot, stopped, lastSubframe, lastSubframeOf, lastWordOf, prnValid, heldSlot, waitingCount}
+use Rattle.rules.specs.State.{State, Store, Auth, shaped, wordShaped, verdictShaped, setShaped, fourShaped, offerShaped, nsOf, stoppedAt, treeRoot, stopped, lastSubframe, lastSubframeOf, lastWordOf, prnValid, heldSlot, waitingCount}
 use Rattle.rules.specs.State.{withConfig, withClocks, withNav, withStore, withPubkeys, withOffer, withTesla, withAuth}
 use Rattle.rules.specs.State.{clocksLength, wordsLength, stampsLength, blocksLength, dsmIds, pubkeysLength, chainLength, heldkeyLength, waitingLength, setsLength, arrivalsLength, copyLength, areaLength}
 use Rattle.rules.specs.Tags.{Section, Work, duesJudged}
@@ -362,3 +363,16 @@ offerRead s message signature key =
       type = keyType (s .pubkeys) id;
     })
     (record { code = code; message = message; signature = signature; key = key; id = 0; type = 0 })
+
+-- whether four satellites have an authentic set that is recent (02, P5): 1 yes, 0 no; 0 where it is refused
+pub record FourRead : Type 0 where
+  pub code : ℕ
+  pub yes : ℕ
+
+unfoldable pub fourReadChecks : State → List Check
+fourReadChecks s = refuse (not (fourShaped s)) 1 ∷ []
+
+unfoldable pub fourRead : State → ℕ → FourRead
+fourRead s limit =
+    let code = firstOf (fourReadChecks s) in
+    unless code (record { code = 0; yes = cond (fourMet s limit) 1 0 }) (record { code = code; yes = 0 })

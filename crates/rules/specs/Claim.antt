@@ -1,6 +1,6 @@
 -- Demand 3: what is claimed of every list of calls after an accepted start. Its sentences, and those of 01 and 02 that explain them, stand word for
--- word beside the fields that say them; FourThings has the four things, FortyBits what 02 (P4) asks of a mark beside them, Refused the sentence on
--- refused calls, Claim all of it.
+-- word beside the fields that say them; FourThings has the four things, FortyBits what 02 (P4) asks of a mark beside them, FourBacked what stands
+-- behind a yes to 02's question (P5), Refused the sentence on refused calls, Claim all of it.
 --
 -- How to read it. A record holds where all its fields do. `a ≡ b`: a equals b; `a ≢ b`: it does not. `P → Q`: P implies Q; `(n : ℕ) → P`: P of every
 -- number n; `P × Q`: both; `(n : P) × Q`: Q of some n of P; `P ⊎ Q`: one of them. `Once P l`: P was so of an entry of the log l and of the entries
@@ -17,11 +17,11 @@ use lib.ListN.{length, getD, take, replicate}
 use Rattle.laws.specs.Lists.{part}
 use Rattle.laws.specs.Refusal.{firstOf, unless}
 use Rattle.rules.specs.Bits.{filled, anyOf}
-use Rattle.rules.specs.Calls.{Start, Word, Subframe, OfferRead, startCall, offerRead, fieldsOf, subframeChecks, noted, hkrootReceived}
+use Rattle.rules.specs.Calls.{Start, Word, Subframe, OfferRead, startCall, offerRead, authStamp, authSet, fieldsOf, subframeChecks, noted, hkrootReceived}
 use Rattle.rules.specs.Chain.{walk, sentSlot, keySlot}
 use Rattle.rules.specs.Gather.{hkrootOf, mackOf, headerOf, statusOf, dsmIdOf, blockIdOf, blockOf, totalOf}
 use Rattle.rules.specs.Kroot.{chainWith, krootOf}
-use Rattle.rules.specs.Log.{Call, start, word, subframe, verdict, Question, set, offer, ask, Handed, Entry, Log, Once, Always, History, ranFrom, stateAt, step, hkrootIn, sectionIn, verdictIn, lastWord, chainIn, chainTurns}
+use Rattle.rules.specs.Log.{Call, start, word, subframe, verdict, Question, set, offer, four, ask, Handed, Entry, Log, Once, Always, History, ranFrom, stateAt, step, hkrootIn, sectionIn, verdictIn, lastWord, lastNoted, chainIn, chainTurns}
 use Rattle.rules.specs.Mack.{blockKey}
 use Rattle.rules.specs.Navdata.{setUsable, setBytes, setIssue}
 use Rattle.rules.specs.Pkr.{newIdOf, newTypeOf, newKeyOf, emergency, pkrSizeBad, treeProved}
@@ -29,7 +29,7 @@ use Rattle.rules.specs.PublicKeys.{keyLength, keyHeld}
 use Rattle.rules.specs.Received.{tagCame, infoCame, keyCame}
 use Rattle.rules.specs.State.{State, prnValid, heldSlot}
 use Rattle.rules.specs.Tags.{Section, ownTag, macBits, firstMessage, tagMessage, tagRecord}
-use Rattle.rules.specs.Times.{secondsOf, keySeconds}
+use Rattle.rules.specs.Times.{secondsOf, keySeconds, stampOf}
 use Rattle.rules.specs.Verdict.{Verdict, messageContents, chainUnchanged}
 use Rattle.rules.specs.declared.Chain.{Chain}
 use Rattle.rules.specs.declared.Tag.{Tag}
@@ -282,6 +282,37 @@ pub record SetBacked (origin : Start) (began : State) (prn time : ℕ) (navdata 
   pub came : last .tag .time ≡ time
   pub last-agreed : Once (Agreed origin began prn navdata last-turn last) l
 
+-- ---- four satellites (02, P5)
+
+-- this satellite's authentic set, which a read gives then, is backed as one that is read, and its tag came within so many sub-frames, of 30 seconds, of
+-- `last`
+pub record RecentlyBacked (origin : Start) (began : State) (last limit : ℕ) (l : Log) (prn : ℕ) : Type 0 where
+  pub heard : prnValid prn ≡ true
+  pub time : ℕ
+  pub navdata : List ℕ
+  pub time-is : authStamp ((stateAt began l) .auth) prn ≡ stampOf time
+  pub navdata-is : authSet ((stateAt began l) .auth) prn ≡ navdata
+  pub backed : SetBacked origin began prn time navdata l
+  pub not-later : secondsOf time ≤ secondsOf last
+  -- "An age equal to the limit counts."
+  pub within : secondsOf last ≤ secondsOf time + 30 * limit
+
+-- "at least four satellites have an authentic set whose tag came within a given number of sub-frames", against "the last noted sub-frame time"
+pub record FourBacked (origin : Start) (began : State) (limit : ℕ) (l : Log) : Type 0 where
+  -- "before any is noted the answer is no."
+  pub last : ℕ
+  pub last-is : lastNoted l ≡ some last
+  -- four PRNs, all different
+  pub first : ℕ
+  pub second : ℕ
+  pub third : ℕ
+  pub fourth : ℕ
+  pub apart : (first < second) × ((second < third) × (third < fourth))
+  pub first-is : RecentlyBacked origin began last limit l first
+  pub second-is : RecentlyBacked origin began last limit l second
+  pub third-is : RecentlyBacked origin began last limit l third
+  pub fourth-is : RecentlyBacked origin began last limit l fourth
+
 -- what a read handed out is what waits, with a key that was given or proved
 pub record HandedFairly (origin : Start) (began : State) (h : Handed) (l : Log) : Type 0 where
   pub waited : (wouldHand (stateAt began l)) .code ≡ 0
@@ -298,6 +329,8 @@ pub record Fair (origin : Start) (began : State) (x : Entry) (older : Log) : Typ
   pub reads : (prn : ℕ) (out : List ℕ) → x .call ≡ ask (set prn out) → x .reply .code ≡ 0 → SetBacked origin began prn (x .reply .time) (x .reply .out) older
   -- and all that the signature chip is handed
   pub hands : (message signature key : List ℕ) → x .call ≡ ask (offer message signature key) → x .reply .code ≡ 0 → HandedFairly origin began (x .reply .handed) older
+  -- a yes to the question for four satellites (02, P5)
+  pub fours : (limit : ℕ) → x .call ≡ ask (four limit) → x .reply .yes ≢ 0 → FourBacked origin began limit older
 
 -- ---- refused calls and halves
 

@@ -14,11 +14,13 @@ pub mod Candidates
 pub mod Tags
 pub mod Received
 pub mod Verdict
+pub mod Four
 pub mod Calls
 pub mod Whole
 pub mod Outcomes
 pub mod Log
 pub mod Sizes
+pub mod FourLaws
 pub mod Claim
 pub mod Points
 pub mod Orders

@@ -9,7 +9,7 @@ use lib.Dec.{eqb}
 use lib.ListN.{replicate}
 use Rattle.laws.specs.Lists.{part}
 use Rattle.rules.specs.Bits.{within}
-use Rattle.rules.specs.Calls.{Start, Word, Subframe, startCall, wordCall, subframeCall, verdictCall, setRead, offerRead}
+use Rattle.rules.specs.Calls.{Start, Word, Subframe, SetRead, OfferRead, FourRead, startCall, wordCall, subframeCall, verdictCall, setRead, offerRead, fourRead}
 use Rattle.rules.specs.Gather.{statusOf, cidOf}
 use Rattle.rules.specs.Kroot.{cidkrOf}
 use Rattle.rules.specs.Navdata.{Came, wordType}
@@ -23,6 +23,8 @@ pub data Question : Type 0 where
   set : ℕ → List ℕ → Question
   -- what waits: the lent bytes for message, signature and key
   offer : List ℕ → List ℕ → List ℕ → Question
+  -- whether four satellites have an authentic set: the age limit in sub-frames (02, P5)
+  four : ℕ → Question
 
 -- a call with all that is lent to it; "Every call that only asks counts as a read."
 pub data Call : Type 0 where
@@ -57,22 +59,32 @@ pub record Reply : Type 0 where
   pub time : ℕ
   -- what a read of what waits handed out
   pub handed : Handed
+  -- the answer to a question for yes (1) or no (0)
+  pub yes : ℕ
 
 abbrev pub plain : ℕ → Reply
-plain code = record { code = code; mack = 0; records = []; out = []; issue = 0; time = 0; handed = nothing }
+plain code = record { code = code; mack = 0; records = []; out = []; issue = 0; time = 0; handed = nothing; yes = 0 }
 
--- a call's reply, and the state that it leaves
-pub record Stepped : Type 0 where
-  pub reply : Reply
-  pub state : State
+-- of a sub-frame: both numbers, and so many records out of the lent area
+abbrev pub subframeReply : ℕ → ℕ → ℕ → List ℕ → Reply
+subframeReply hkroot mack count area =
+    record {
+      code = hkroot;
+      mack = mack;
+      records = part area 0 (12 * count);
+      out = [];
+      issue = 0;
+      time = 0;
+      handed = nothing;
+      yes = 0;
+    }
 
--- a read: the state stays as it is
-unfoldable pub asked : State → Question → Reply
-asked s (set prn out) =
-    let r = setRead s prn out in
-    record { code = r .code; mack = 0; records = []; out = r .out; issue = r .issue; time = r .time; handed = nothing }
-asked s (offer message signature key) =
-    let r = offerRead s message signature key in
+-- of the calls that only ask
+abbrev pub setReply : SetRead → Reply
+setReply r = record { code = r .code; mack = 0; records = []; out = r .out; issue = r .issue; time = r .time; handed = nothing; yes = 0 }
+
+abbrev pub offerReply : OfferRead → Reply
+offerReply r =
     record {
       code = r .code;
       mack = 0;
@@ -81,26 +93,28 @@ asked s (offer message signature key) =
       issue = 0;
       time = 0;
       handed = record { message = r .message; signature = r .signature; key = r .key; id = r .id; type = r .type };
+      yes = 0;
     }
+
+abbrev pub fourReply : FourRead → Reply
+fourReply r = record { code = r .code; mack = 0; records = []; out = []; issue = 0; time = 0; handed = nothing; yes = r .yes }
+
+-- a call's reply, and the state that it leaves
+pub record Stepped : Type 0 where
+  pub reply : Reply
+  pub state : State
+
+-- a read: the state stays as it is
+unfoldable pub asked : State → Question → Reply
+asked s (set prn out) = setReply (setRead s prn out)
+asked s (offer message signature key) = offerReply (offerRead s message signature key)
+asked s (four limit) = fourReply (fourRead s limit)
 
 -- one call
 unfoldable pub step : State → Call → Stepped
 step s (start x) = let r = startCall s x in record { reply = plain (r .code); state = r .state }
 step s (word w) = let r = wordCall s w in record { reply = plain (r .code); state = r .state }
-step s (subframe area x) =
-    let r = subframeCall s area x in
-    record {
-      reply = record {
-        code = r .hkroot;
-        mack = r .mack;
-        records = part (r .area) 0 (12 * r .count);
-        out = [];
-        issue = 0;
-        time = 0;
-        handed = nothing;
-      };
-      state = r .state;
-    }
+step s (subframe area x) = let r = subframeCall s area x in record { reply = subframeReply (r .hkroot) (r .mack) (r .count) (r .area); state = r .state }
 step s (verdict v) = let r = verdictCall s v in record { reply = plain (r .code); state = r .state }
 step s (ask q) = record { reply = asked s q; state = s }
 
@@ -203,7 +217,28 @@ hkrootIn x = subframeAnswered (x .reply .code) (x .call)
 abbrev pub sectionIn : Entry → Option Subframe
 sectionIn x = subframeAnswered (x .reply .mack) (x .call)
 
+-- the time of a sub-frame, if it was noted: "Numbers 1 to 4, save that 4, touch no clock.", where that 4 is the MACK half's of an emergency message,
+-- whose HKROOT half is 0. The HKROOT number tells: 1 to 4 "stand in both", and that half itself answers none of them (proofs/Clocks.antt)
+abbrev pub timeNoted : ℕ → Call → Option ℕ
+timeNoted n (subframe area x) = cond (within 1 4 n) none (some (x .time))
+timeNoted n (start x) = none
+timeNoted n (word w) = none
+timeNoted n (verdict v) = none
+timeNoted n (ask q) = none
+
+abbrev pub notedIn : Entry → Option ℕ
+notedIn x = timeNoted (x .reply .code) (x .call)
+
 -- ---- what the history says
+
+abbrev pub notedAfter : Option ℕ → Option ℕ → Option ℕ
+notedAfter none o = o
+notedAfter (some t) o = some t
+
+-- "the last noted sub-frame time" (02, P5)
+abbrev pub lastNoted : Log → Option ℕ
+lastNoted [] = none
+lastNoted (x ∷ l) = notedAfter (notedIn x) (lastNoted l)
 
 -- no word of the type came: the stamp 0 says so, and the bytes are not looked at
 abbrev pub noWord : Came

@@ -4,13 +4,13 @@ use Prim.Native.Nat.{ℕ, _+_, _*_}
 use mathlib.Core.List.{List, [], _∷_, _++_}
 use lib.ListN.{replicate, set}
 use Rattle.laws.specs.Refusal.{firstOf}
-use Rattle.rules.specs.Calls.{fresh, startChecks, wordChecks, subframeChecks, verdictChecks, sectionProved, setReadChecks, offerReadChecks}
+use Rattle.rules.specs.Calls.{fresh, startChecks, wordChecks, subframeChecks, verdictChecks, sectionProved, setReadChecks, offerReadChecks, fourReadChecks}
 use Rattle.rules.specs.Chain.{held}
 use Rattle.rules.specs.Kroot.{krootChecks, offered}
 use Rattle.rules.specs.Mack.{blockChecks}
 use Rattle.rules.specs.Pkr.{pkrChecks}
 use Rattle.rules.specs.Points.{Point, point, blankStart}
-use Rattle.rules.specs.State.{State, withConfig, withClocks, withOffer, withChain, stoppedAt, offerLength, areaLength}
+use Rattle.rules.specs.State.{State, withConfig, withClocks, withOffer, withChain, stoppedAt, fourLent, clocksLength, offerLength, arrivalsLength, areaLength}
 use Rattle.rules.specs.Times.{gst}
 
 -- nothing waits
@@ -126,4 +126,8 @@ orders =
     -- read of what waits: a wrong length and nothing waits; nothing waits
     ∷ point (firstOf (offerReadChecks (core 0 0 nothing) (replicate 44 0) (replicate 132 0) (replicate 67 0))) 1
     ∷ point (firstOf (offerReadChecks (core 0 0 nothing) (replicate 45 0) (replicate 132 0) (replicate 67 0))) 14
+    -- four satellites (02, P5): no clocks; no arrivals; both, in a stopped core
+    ∷ point (firstOf (fourReadChecks (fourLent (core 0 0 nothing) [] (replicate arrivalsLength 0)))) 1
+    ∷ point (firstOf (fourReadChecks (fourLent (core 0 0 nothing) (replicate clocksLength 0) []))) 1
+    ∷ point (firstOf (fourReadChecks (core 1 0 nothing))) 0
     ∷ []

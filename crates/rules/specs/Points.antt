@@ -1,16 +1,17 @@
 -- The points that 01 marks P ("Known points") and some beside them: what the rules give, and what 01 or 02 says. One table; proofs/Points.antt shows that it is right.
-use Prim.Native.Nat.{ℕ, zero, suc, _+_, _*_}
+use Prim.Native.Nat.{ℕ, zero, suc, _+_, _-_, _*_}
 use mathlib.Core.Path.{_≡_}
-use mathlib.Core.List.{List, [], _∷_}
+use mathlib.Core.List.{List, [], _∷_, _++_}
 use lib.ListN.{getD, take, replicate}
 use Rattle.laws.specs.Refusal.{firstOf}
-use Rattle.rules.specs.Calls.{Start, fresh, subframeChecks}
+use Rattle.rules.specs.Calls.{Start, fresh, subframeChecks, fourRead}
 use Rattle.rules.specs.Candidates.{SetPair, Agreement, agreed}
 use Rattle.rules.specs.Chain.{held, sentSlot}
+use Rattle.rules.specs.Four.{ageAt, recentCount}
 use Rattle.rules.specs.Gather.{blocksFor, gathered}
 use Rattle.rules.specs.Kroot.{fieldsFor, krootChecks}
 use Rattle.rules.specs.Mack.{blockChecks}
-use Rattle.rules.specs.State.{blocksLength, dsmIds, arrivalsLength, copyLength, areaLength}
+use Rattle.rules.specs.State.{blocksLength, dsmIds, arrivalsLength, copyLength, areaLength, fourLent}
 use Rattle.rules.specs.Times.{stampOf, gst, gstOf, slotOf, slotSeconds, hourSeconds, tagSlot}
 use Rattle.rules.specs.declared.Chain.{Chain}
 
@@ -87,6 +88,16 @@ afterTags ms (suc n) = (agreed ms (stampOf 100) (replicate copyLength 9) (afterT
 
 abbrev pub outcomeAfter : ℕ → ℕ → ℕ
 outcomeAfter ms n = (agreed ms (stampOf 100) (replicate copyLength 9) (afterTags ms n)) .outcome
+
+-- how many of five satellites are recent at limit 2, with the clock at second 60 of week 1: their tags came at 1/60, 1/30, 1/0, 0/604770, and never
+abbrev pub recentOfFive : ℕ
+recentOfFive = recentCount (stampOf (gst 1 60)) 2 (stampOf (gst 1 60) ∷ stampOf (gst 1 30) ∷ stampOf (gst 1 0) ∷ stampOf (gst 0 604770) ∷ 0 ∷ []) 5
+
+-- the answer at limit 0 with this clock, where the first n satellites have a set of 1/0 and all 36 a candidate of 1/0
+abbrev pub fourOf : ℕ → ℕ → ℕ
+fourOf clock n =
+    let s = fresh blankStart in
+    (fourRead (fourLent s (clock ∷ replicate 72 0) (replicate n (stampOf (gst 1 0)) ++ (replicate (36 - n) 0 ++ replicate 72 (stampOf (gst 1 0))))) 0) .yes
 
 abbrev pub points : List Point
 points =
@@ -179,6 +190,15 @@ points =
     ∷ point (numberForFunction 0 0) 0
     ∷ point (numberForFunction 2 4) 8
     ∷ point (numberForFunction 3 4) 8
+    -- 02, P5: "An age equal to the limit counts."; over the end of a week; a tag later than the clock
+    ∷ point recentOfFive 3
+    ∷ point (ageAt (gst 1 60) (gst 0 604770)) 3
+    ∷ point (ageAt (gst 1 0) (gst 1 60)) 0
+    -- three; four; all; four before any time is noted
+    ∷ point (fourOf (stampOf (gst 1 0)) 3) 0
+    ∷ point (fourOf (stampOf (gst 1 0)) 4) 1
+    ∷ point (fourOf (stampOf (gst 1 0)) 36) 1
+    ∷ point (fourOf 0 4) 0
     ∷ []
 
 abbrev pub Right : Point → Type 0

@@ -242,6 +242,13 @@ setShaped s = eqb (length (s .auth .sets)) setsLength && eqb (length (s .auth .a
 abbrev pub setLent : State → List ℕ → List ℕ → State
 setLent s sets arrivals = withAuth s (record { sets = sets; arrivals = arrivals })
 
+-- what the question for four satellites is lent (02, P5)
+unfoldable pub fourShaped : State → Bool
+fourShaped s = eqb (length (s .clocks)) clocksLength && eqb (length (s .auth .arrivals)) arrivalsLength
+
+abbrev pub fourLent : State → List ℕ → List ℕ → State
+fourLent s clocks arrivals = withAuth (withClocks s clocks) (record { sets = s .auth .sets; arrivals = arrivals })
+
 -- what a read of what waits is lent
 unfoldable pub offerShaped : State → Bool
 offerShaped s = eqb (length (s .pubkeys)) pubkeysLength && eqb (length (s .offer)) offerLength

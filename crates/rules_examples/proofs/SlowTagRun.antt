@@ -108,7 +108,7 @@ before = ran started (record { origin = Run.begin; began = started; log = [] }) 
 abbrev given : State → Work → Stepped
 given s w =
     record {
-      reply = Run.subframeReply 0 (part (splice Run.area 0 (w .records)) 0 (12 * (length (w .records) / 12)));
+      reply = Run.repliedWith 0 (part (splice Run.area 0 (w .records)) 0 (12 * (length (w .records) / 12)));
       state = sectionTaken (between s Run.area Run.tagSection) key w;
     }
 

@@ -118,11 +118,11 @@ abbrev pub unfit : ℕ → ℕ → ℕ → List ℕ
 unfit low position zero = []
 unfit low position (suc n) = recordOf low 4 0 0 position 0 ++ unfit low (suc position) n
 
-abbrev pub subframeReply : ℕ → List ℕ → Reply
-subframeReply mack records = record { code = 0; mack = mack; records = records; out = []; issue = 0; time = 0; handed = nothing }
+abbrev pub repliedWith : ℕ → List ℕ → Reply
+repliedWith mack records = record { code = 0; mack = mack; records = records; out = []; issue = 0; time = 0; handed = nothing; yes = 0 }
 
 abbrev pub blockEntry : ℕ → Entry
-blockEntry k = record { call = subframe area (blockOf k); reply = subframeReply 11 [] }
+blockEntry k = record { call = subframe area (blockOf k); reply = repliedWith 11 [] }
 
 abbrev pub wordEntry : ℕ → List ℕ → Entry
 wordEntry second bytes = record { call = word (wordAt second bytes); reply = plain 0 }
@@ -147,7 +147,7 @@ tagRecords =
     recordOf 0x10 3 2 0 1 0 ++ (recordOf 0x10 5 1 11 2 5 ++ (recordOf 0x10 9 1 0 3 5 ++ (recordOf 0x10 9 1 0 4 5 ++ (recordOf 0x10 9 1 0 5 5 ++ unfit 0x10 6 3))))
 
 abbrev pub tagEntry : Entry
-tagEntry = record { call = subframe area tagSection; reply = subframeReply 0 tagRecords }
+tagEntry = record { call = subframe area tagSection; reply = repliedWith 0 tagRecords }
 
 -- then the words of the new set
 abbrev pub newWords : Log
@@ -159,11 +159,11 @@ beforeKey = newWords ++ (tagEntry ∷ beforeTag)
 
 -- the section with its key: the slow tag makes 48 bits and is authentic (1), with the old IODnav and the time of its arrival; then the section's own
 abbrev pub keyEntry : Entry
-keyEntry = record { call = subframe area keySection; reply = subframeReply 0 (recordOf 0x10 1 1 11 2 5 ++ (recordOf 0x2E 3 2 0 1 0 ++ unfit 0x2E 2 7)) }
+keyEntry = record { call = subframe area keySection; reply = repliedWith 0 (recordOf 0x10 1 1 11 2 5 ++ (recordOf 0x2E 3 2 0 1 0 ++ unfit 0x2E 2 7)) }
 
 -- a read of E01's set: the old bits, with the time of the tags' arrival
 abbrev pub readEntry : Entry
-readEntry = record { call = ask (set 1 (replicate 69 0)); reply = record { code = 0; mack = 0; records = []; out = oldSet; issue = 5; time = at 3600; handed = nothing } }
+readEntry = record { call = ask (set 1 (replicate 69 0)); reply = record { code = 0; mack = 0; records = []; out = oldSet; issue = 5; time = at 3600; handed = nothing; yes = 0 } }
 
 abbrev pub log : Log
 log = readEntry ∷ keyEntry ∷ beforeKey

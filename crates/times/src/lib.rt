@@ -52,14 +52,14 @@ pub fn hour_seconds(week: u64, hour: u64) -> u64
     week * 604800 + hour * 3600
 }
 
-// The number of the sub-frame at these seconds, counted from the root's sub-frame 0.
-pub fn subframe_at(root: u64, seconds: u64) -> u64
-    ensures { λ r. ⌜ r ≡ S.subframeAt root seconds ⌝ }
+// Whole sub-frames from one time to another, in seconds: the number of a sub-frame from the root's sub-frame 0, or the age of a tag.
+pub fn subframe_at(from: u64, seconds: u64) -> u64
+    ensures { λ r. ⌜ r ≡ S.subframeAt from seconds ⌝ }
 {
-    if seconds <= root {
+    if seconds <= from {
         return 0;
     }
-    (seconds - root) / 30
+    (seconds - from) / 30
 }
 
 // The slot of the key that PRN p sends in block b of sub-frame s.

@@ -139,6 +139,12 @@ pub fn stacks() {
         assert_eq!(answer, 0);
     });
 
+    core.clocks[0] = time + 1;
+    let four = of_call(core, |core| {
+        let mut yes = 77;
+        assert_eq!((core.view().four(20, &mut yes), yes), (0, 0));
+    });
+
     println!("| Call | Deepest stack, bytes |");
     println!("|---|---|");
     for (name, bytes) in [
@@ -148,6 +154,7 @@ pub fn stacks() {
         ("verdict", verdicts(core)),
         ("read of an authentic set", read_set),
         ("read of what waits", read_message),
+        ("four satellites, or not yet", four),
     ] {
         println!("| {name} | {bytes} |");
     }

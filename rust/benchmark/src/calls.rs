@@ -7,11 +7,14 @@
 //! - `calls damaged WHO COUNT`: the first COUNT of those alone, or of the walks, to be counted by callgrind
 //! - `calls slices COUNT`: the time of one half minute by the proved core in each of COUNT slices, in nanoseconds
 //! - `calls tags TURNS`: what these half minutes have: sections, and tags judged by their codes
+//! - `calls questions`: whether four satellites have a recent set, the cores of which it is asked
+//! - `calls four QUESTION TURNS`: one of them alone, to be counted by callgrind
 //! - `calls stack`: the bytes of a core and the deepest stack of each call
 //!
 //! The answers of both are compared before anything is measured.
 
 use crate::call_stacks::stacks;
+use crate::four;
 use crate::sky::{time, Answer, Damaged, Gap, HalfMinutes, Who, ALL};
 use crate::time::{rows, timed, Work, HEADING};
 use leaves::chain::Chain;
@@ -22,7 +25,7 @@ use std::hint::black_box;
 use std::time::Duration;
 
 pub const USAGE: &str =
-    "calls time SLICES | count WHO TURNS | damaged WHO COUNT | slices COUNT | tags TURNS | stack";
+    "calls time SLICES | count WHO TURNS | damaged WHO COUNT | slices COUNT | tags TURNS | questions | four QUESTION TURNS | stack";
 
 /// Half minutes that are compared, and that a slice takes: all of the run.
 const HALVES: u32 = 36;
@@ -230,6 +233,11 @@ pub fn command(words: &[&str]) -> Option<Result<(), String>> {
             tags(turns.parse().ok()?);
             Some(Ok(()))
         }
+        ["questions"] => {
+            println!("{}", four::QUESTIONS.join("\n"));
+            Some(Ok(()))
+        }
+        ["four", question, turns] => four::ask(question, turns.parse().ok()?),
         ["stack"] => {
             stacks();
             Some(Ok(()))

@@ -8,6 +8,7 @@ mod bearssl_mac;
 mod call_stacks;
 mod calls;
 mod chain;
+mod four;
 mod hash;
 mod mac;
 #[cfg(has_openssl)]

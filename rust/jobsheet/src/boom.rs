@@ -1,4 +1,5 @@
-//! What the boom goes by: how many satellites were marked lately.
+//! What the boom goes by: whether four satellites were marked lately. The core answers that; how many
+//! there were is counted here.
 
 use crate::time::{self, SUBFRAME};
 use osnma::Gst;
@@ -8,65 +9,87 @@ pub const NEEDED: u8 = 4;
 
 /// Ages of a mark, in half minutes, that the boom asks for: five minutes for its outer valves, ten
 /// for its centre (02, P14).
-pub const LIMITS: [u64; 2] = [10, 20];
+pub const LIMITS: [u32; 2] = [10, 20];
 
-/// How many satellites were marked within each of [`LIMITS`].
-pub type Counts = [u8; LIMITS.len()];
+/// A limit in minutes.
+pub const fn minutes(limit: u32) -> u64 {
+    limit as u64 * SUBFRAME / 60
+}
 
-/// How many of the sets whose tags came at `tags` are at most `limit` sub-frames old against the last
-/// noted sub-frame; an age equal to the limit counts, and before any is noted none does (02, P5).
-/// The sheet's own count, until the core answers this itself.
-fn marked_within(limit: u64, noted: Option<Gst>, tags: impl Iterator<Item = Gst>) -> u8 {
-    let Some(noted) = noted.map(time::seconds) else {
-        return 0;
-    };
-    let is_recent = |tag: &Gst| noted.saturating_sub(time::seconds(*tag)) <= limit * SUBFRAME;
+/// The satellites that were marked within a limit.
+#[derive(Clone, Copy, Debug, PartialEq, Eq)]
+pub struct Lately {
+    /// Whether there are four: the core's answer (02, P5).
+    pub four: bool,
+    /// How many there are: the sheet's own count.
+    pub count: u8,
+}
+
+/// By each of [`LIMITS`].
+pub type ByLimit = [Lately; LIMITS.len()];
+
+/// How many of the sets whose tags came at `tags` are at most `limit` sub-frames old against the sub-frame
+/// at `noted`; an age equal to the limit counts.
+fn marked_within(limit: u32, noted: Gst, tags: impl Iterator<Item = Gst>) -> u8 {
+    let age = |tag: Gst| time::seconds(noted).saturating_sub(time::seconds(tag));
+    let is_recent = |tag: &Gst| age(*tag) <= u64::from(limit) * SUBFRAME;
     tags.filter(is_recent).count() as u8
 }
 
-/// The counts by the tags of each satellite's set.
-pub fn counts(noted: Option<Gst>, tags: impl Iterator<Item = Gst> + Clone) -> Counts {
-    LIMITS.map(|limit| marked_within(limit, noted, tags.clone()))
+/// After the sub-frame at `noted`, by the core's answers and the tags of each satellite's set.
+pub fn lately(
+    noted: Gst,
+    four: impl Fn(u32) -> bool,
+    tags: impl Iterator<Item = Gst> + Clone,
+) -> ByLimit {
+    LIMITS.map(|limit| Lately {
+        four: four(limit),
+        count: marked_within(limit, noted, tags.clone()),
+    })
 }
 
-fn least(a: Option<Counts>, b: Option<Counts>) -> Option<Counts> {
+fn least(a: Option<ByLimit>, b: Option<ByLimit>) -> Option<ByLimit> {
+    let both = |a: Lately, b: Lately| Lately {
+        four: a.four && b.four,
+        count: a.count.min(b.count),
+    };
     match (a, b) {
-        (Some(a), Some(b)) => Some(std::array::from_fn(|n| a[n].min(b[n]))),
+        (Some(a), Some(b)) => Some(std::array::from_fn(|n| both(a[n], b[n]))),
         (a, b) => a.or(b),
     }
 }
 
-/// The least counts of some half minutes, each taken at its end.
+/// The least of some half minutes, each taken at its end: yes where all are, and the lowest count.
 #[derive(Clone, Copy, Debug, Default, PartialEq, Eq)]
 pub struct Least {
-    ended: Option<Counts>,
-    latest: Option<(Gst, Counts)>,
+    ended: Option<ByLimit>,
+    latest: Option<(Gst, ByLimit)>,
 }
 
 impl Least {
-    /// Takes in the counts after a sub-frame; the last of a half minute stands for it.
-    pub fn note(&mut self, at: Gst, counts: Counts) {
+    /// Takes in what is so after a sub-frame; the last of a half minute stands for it.
+    pub fn note(&mut self, at: Gst, now: ByLimit) {
         if let Some((_, before)) = self.latest.filter(|latest| latest.0 != at) {
             self.ended = least(self.ended, Some(before));
         }
-        self.latest = Some((at, counts));
+        self.latest = Some((at, now));
     }
 
     /// Takes in later half minutes.
     pub fn join(&mut self, later: &Least) {
         *self = Least {
-            ended: least(self.counts(), later.ended),
+            ended: least(self.by_limit(), later.ended),
             latest: later.latest,
         };
     }
 
-    /// The least counts; none where no sub-frame was noted.
-    pub fn counts(&self) -> Option<Counts> {
+    /// The least of all; none where no sub-frame was noted.
+    pub fn by_limit(&self) -> Option<ByLimit> {
         least(self.ended, self.latest.map(|latest| latest.1))
     }
 }
 
-/// Stretches of half minutes with fewer than four satellites, after the first with four.
+/// Half minutes with fewer than four satellites, after the first with four, by the core's answers.
 #[derive(Clone, Copy, Debug, PartialEq, Eq)]
 pub struct Kept {
     /// The first half minute with four.
@@ -81,32 +104,32 @@ pub struct Kept {
 #[derive(Clone, Copy, Debug, Default)]
 pub struct Watch {
     ended: Option<Kept>,
-    latest: Option<(Gst, u8)>,
+    latest: Option<(Gst, Lately)>,
 }
 
 impl Watch {
-    /// Takes in the count after a sub-frame; the last of a half minute stands for it.
-    pub fn note(&mut self, at: Gst, count: u8) {
+    /// Takes in what is so after a sub-frame; the last of a half minute stands for it.
+    pub fn note(&mut self, at: Gst, now: Lately) {
         if self.latest.is_some_and(|latest| latest.0 != at) {
             self.ended = self.kept();
         }
-        self.latest = Some((at, count));
+        self.latest = Some((at, now));
     }
 
     /// From the first half minute with four on; none where there is none.
     pub fn kept(&self) -> Option<Kept> {
-        let Some((at, count)) = self.latest else {
+        let Some((at, Lately { four, count })) = self.latest else {
             return self.ended;
         };
         let Some(mut kept) = self.ended else {
-            return (count >= NEEDED).then_some(Kept {
+            return four.then_some(Kept {
                 since: at,
                 fewest: count,
                 short: None,
             });
         };
         kept.fewest = kept.fewest.min(count);
-        if count < NEEDED {
+        if !four {
             let (n, first, _) = kept.short.unwrap_or((0, at, at));
             kept.short = Some((n + 1, first, at));
         }
@@ -122,61 +145,69 @@ mod tests {
         Gst::new(947, second).unwrap()
     }
 
-    // The age equal to the limit counts; across a week's end too; before a sub-frame nothing does.
+    fn of(four: bool, count: u8) -> Lately {
+        Lately { four, count }
+    }
+
+    // The age equal to the limit counts; across a week's end too. The yes or no is what the core says.
     #[test]
     fn ages() {
         let tags = [0, 30, 300].map(gst);
-        let within = |noted| counts(noted, tags.into_iter());
-        assert_eq!(within(None), [0, 0]);
-        assert_eq!(within(Some(gst(300))), [3, 3]);
-        assert_eq!(within(Some(gst(330))), [2, 3]);
-        assert_eq!(within(Some(gst(600))), [1, 3]);
-        assert_eq!(within(Some(gst(630))), [0, 2]);
-        let late = [gst(604_500)];
-        assert_eq!(counts(Gst::new(948, 0), late.into_iter()), [1, 1]);
-        assert_eq!(counts(Gst::new(948, 30), late.into_iter()), [0, 1]);
+        let within = |noted| {
+            let lately = lately(noted, |limit| limit == 20, tags.into_iter());
+            assert_eq!(lately.map(|one| one.four), [false, true]);
+            lately.map(|one| one.count)
+        };
+        assert_eq!(within(gst(300)), [3, 3]);
+        assert_eq!(within(gst(330)), [2, 3]);
+        assert_eq!(within(gst(600)), [1, 3]);
+        assert_eq!(within(gst(630)), [0, 2]);
+        let week = |second| Gst::new(948, second).unwrap();
+        assert_eq!(marked_within(10, week(0), [gst(604_500)].into_iter()), 1);
+        assert_eq!(marked_within(10, week(30), [gst(604_500)].into_iter()), 0);
     }
 
-    // The last count of a half minute stands for it; of several half minutes the least.
+    // What is so last in a half minute stands for it; of several half minutes the least.
     #[test]
     fn least_of_several() {
         let mut a = Least::default();
-        assert_eq!(a.counts(), None);
-        a.note(gst(0), [0, 0]);
-        a.note(gst(0), [5, 6]);
-        assert_eq!(a.counts(), Some([5, 6]));
-        a.note(gst(30), [4, 7]);
-        assert_eq!(a.counts(), Some([4, 6]));
+        assert_eq!(a.by_limit(), None);
+        a.note(gst(0), [of(false, 0), of(false, 0)]);
+        a.note(gst(0), [of(true, 5), of(true, 6)]);
+        assert_eq!(a.by_limit(), Some([of(true, 5), of(true, 6)]));
+        a.note(gst(30), [of(true, 4), of(true, 7)]);
+        assert_eq!(a.by_limit(), Some([of(true, 4), of(true, 6)]));
         let mut b = Least::default();
-        b.note(gst(60), [1, 9]);
-        b.note(gst(60), [6, 2]);
+        b.note(gst(60), [of(false, 1), of(true, 9)]);
+        b.note(gst(60), [of(true, 6), of(false, 2)]);
         a.join(&b);
-        assert_eq!(a.counts(), Some([4, 2]));
-        a.note(gst(60), [6, 5]);
-        assert_eq!(a.counts(), Some([4, 5]));
+        assert_eq!(a.by_limit(), Some([of(true, 4), of(false, 2)]));
+        a.note(gst(60), [of(false, 6), of(true, 5)]);
+        assert_eq!(a.by_limit(), Some([of(false, 4), of(true, 5)]));
     }
 
+    // By the core's yes or no, whatever the count is.
     #[test]
     fn short_of_four() {
         let mut watch = Watch::default();
-        for (second, count) in [
-            (0, 0),
-            (30, 2),
-            (30, 4),
-            (60, 9),
-            (90, 1),
-            (90, 3),
-            (120, 2),
-            (150, 8),
+        for (second, four, count) in [
+            (0, false, 9),
+            (30, false, 5),
+            (30, true, 3),
+            (60, true, 9),
+            (90, true, 1),
+            (90, false, 3),
+            (120, false, 7),
+            (150, true, 2),
         ] {
-            watch.note(gst(second), count);
+            watch.note(gst(second), of(four, count));
         }
         let kept = watch.kept().unwrap();
         assert_eq!((kept.since, kept.fewest), (gst(30), 2));
         assert_eq!(kept.short, Some((2, gst(90), gst(120))));
         let mut never = Watch::default();
-        never.note(gst(0), 3);
-        never.note(gst(30), 3);
+        never.note(gst(0), of(false, 4));
+        never.note(gst(30), of(false, 4));
         assert_eq!(never.kept(), None);
     }
 }

@@ -1,6 +1,6 @@
 //! What a run comes to, in a few plain sentences: read first, and without the papers.
 
-use crate::boom::{LIMITS, NEEDED};
+use crate::boom::{minutes, LIMITS, NEEDED};
 use crate::data::{Data, Unproved};
 use crate::history::{Event, Mark, Run, What, WrongTags};
 use crate::refused::Part;
@@ -252,7 +252,10 @@ fn withdrawn(run: &Run, clock: Clock) -> Option<Finding> {
                 since(event),
                 since(new)
             ),
-            format!("before you spray, see that the first row below ends with {NEEDED} or more."),
+            // Light on the page, y in the text; a narrow stretch of the page has no word.
+            format!(
+                "before you spray, see that the first row below ends in yes (light, or y): {NEEDED} satellites or more."
+            ),
         ),
     };
     text.push(boom(run, clock));
@@ -368,7 +371,7 @@ fn spans(
 
 /// Whether data came for longer than a mark may be old and was not marked.
 fn is_long(unproved: &Unproved) -> bool {
-    unproved.longest > LIMITS[0] * SUBFRAME
+    unproved.longest > u64::from(LIMITS[0]) * SUBFRAME
 }
 
 fn not_proved(run: &Run, clock: Clock) -> Option<Finding> {
@@ -476,10 +479,9 @@ fn too_few(run: &Run, clock: Clock) -> Option<String> {
     Some(format!("TOO FEW SATELLITES for the boom{when}."))
 }
 
-/// What the boom goes by.
+/// What the boom goes by: that there were four, or not, is the core's answer.
 fn boom(run: &Run, clock: Clock) -> String {
-    let minutes = LIMITS[0] * SUBFRAME / 60;
-    let marks = format!("a mark of the last {minutes} minutes");
+    let marks = format!("a mark of the last {} minutes", minutes(LIMITS[0]));
     let Some(kept) = run.watch[0].kept() else {
         return format!(
             "At no time did {NEEDED} satellites have {marks}; the boom needs {NEEDED}."

@@ -42,6 +42,8 @@ pub trait Reads {
     fn set(&self, prn: u8) -> Option<AuthenticSet>;
     /// The message that waits for the signature chip.
     fn message(&self) -> Option<WaitingMessage>;
+    /// Whether four satellites have a set that is at most `limit` sub-frames old.
+    fn four(&self, limit: u32) -> bool;
 }
 
 impl Reads for Core {
@@ -51,6 +53,10 @@ impl Reads for Core {
 
     fn message(&self) -> Option<WaitingMessage> {
         self.read_message().ok()
+    }
+
+    fn four(&self, limit: u32) -> bool {
+        Core::four(self, limit)
     }
 }
 
@@ -500,7 +506,7 @@ impl Run {
         let judged = Vec::from_iter(answer.tags.iter().map(|tag| self.tag(*tag, at)));
         self.marks(&judged, at, reads);
         self.await_message(reads);
-        self.count_marked(at);
+        self.ask_for_four(at, reads);
         judged
     }
 
@@ -523,14 +529,14 @@ impl Run {
         }
     }
 
-    /// How many satellites are marked lately, now.
-    fn count_marked(&mut self, at: Gst) {
+    /// Whether four satellites are marked lately, now, and how many are.
+    fn ask_for_four(&mut self, at: Gst, reads: &dyn Reads) {
         let tags = self.marked.values().filter_map(|sets| sets.kept.back());
         let tags = tags.map(|set| set.last.record.time);
-        let counts = boom::counts(self.last_subframe, tags);
-        self.timeline.at(at).marked_lately.note(at, counts);
-        for (watch, count) in self.watch.iter_mut().zip(counts) {
-            watch.note(at, count);
+        let lately = boom::lately(at, |limit| reads.four(limit), tags);
+        self.timeline.at(at).marked_lately.note(at, lately);
+        for (watch, lately) in self.watch.iter_mut().zip(lately) {
+            watch.note(at, lately);
         }
     }
 

@@ -273,16 +273,17 @@ fn key(out: &mut String, name: &str, what: &str, more: &str) {
 
 fn legend(out: &mut String, run: &RunSheet) {
     let strips = &run.overview;
-    let several = match strips.step {
-        1 => "",
-        _ => ", the worst of them",
+    let (several, least) = match strips.step {
+        1 => ("", ""),
+        _ => (", the worst of them", ", at the least"),
     };
     let _ = writeln!(
         out,
         "<p class=\"how\">A tag is a short code that the system sends. Data that tags of {AUTHENTIC_BITS} \
          bits together match is the system\u{2019}s own, and is marked; with fewer they only agree. A \
          cell is {} with what the tags for that satellite said{several}; slow tags are judged later. Over the cells: since when data is marked, with \
-         its issue number. Under them: when the satellite was heard.</p>\n<ul class=\"legend\">",
+         its issue number. Under them: when the satellite was heard. Figures of the first rows: how many \
+         satellites had such marks{least}.</p>\n<ul class=\"legend\">",
         strips.cell_told()
     );
     let cells = || strips.rows.iter().flat_map(|strip| &strip.cells);

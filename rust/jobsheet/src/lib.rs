@@ -4,8 +4,9 @@
 //! The proved core (`osnma`) decides everything: its answers and reads are followed ([`history`])
 //! and shown ([`sheet`], then [`html`], [`text`] or [`csv`]). What it does not export, the
 //! parameters of the chain and the slots of keys, is read from the messages of verdicts that it
-//! answered 0 ([`vouched`]); how many bits agree on data that is not marked yet is counted
-//! ([`candidate`]).
+//! answered 0 ([`vouched`]); how many bits agree on data that is not marked yet ([`candidate`]), and
+//! how many satellites were marked lately beside the core's answer whether four were ([`boom`]), is
+//! counted.
 
 #![forbid(unsafe_code)]
 #![warn(missing_docs)]

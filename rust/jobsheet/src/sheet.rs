@@ -1,7 +1,7 @@
 //! What the sheet shows, for every form of it: each figure is a core's answer or read, or comes
 //! from the message of a verdict that it answered 0.
 
-use crate::boom::Counts;
+use crate::boom::ByLimit;
 use crate::finding::{self, Finding};
 use crate::history::{History, Judged, Marked, Run, What};
 use crate::phone::check_value;
@@ -23,7 +23,7 @@ pub const LIBRARY: &str = osnma::VERSION;
 /// Columns of the front's strips at most.
 pub const FRONT_COLUMNS: usize = 60;
 
-/// The first half minute and the last of a column, and how many satellites were marked lately.
+/// The first half minute and the last of a column, and the satellites that were marked lately.
 #[derive(Clone, Debug, PartialEq, Eq)]
 pub struct ColumnHead {
     /// The first half minute.
@@ -33,7 +33,7 @@ pub struct ColumnHead {
     /// How many came.
     pub half_minutes: u32,
     /// By each of the boom's limits; of several half minutes the least.
-    pub marked_lately: Option<Counts>,
+    pub marked_lately: Option<ByLimit>,
 }
 
 /// A satellite's half minutes.
@@ -66,7 +66,7 @@ impl Strips {
             first: column.first,
             last: column.last,
             half_minutes: column.half_minutes,
-            marked_lately: column.marked_lately.counts(),
+            marked_lately: column.marked_lately.by_limit(),
         };
         let strip = |&prn: &u8| {
             let cells = timeline

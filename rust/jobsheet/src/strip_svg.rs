@@ -1,7 +1,7 @@
 //! Strips as a drawing: it prints as it is, whatever a browser does with backgrounds, and its signs
 //! differ without colour.
 
-use crate::boom::{LIMITS, NEEDED};
+use crate::boom::{minutes, Lately, LIMITS, NEEDED};
 use crate::sheet::{ColumnHead, RunSheet, Strip, Strips};
 use crate::time::{self, Clock, SUBFRAME};
 use crate::timeline::{Cell, Said};
@@ -17,6 +17,8 @@ const LEFT: f64 = 106.0;
 const CELLS: f64 = 1480.0;
 const GAP: f64 = 10.0;
 const LATELY: f64 = 36.0;
+/// Room for a letter in a row of the boom's.
+const LETTER: f64 = 12.0;
 const AXIS: f64 = 34.0;
 const ISSUE: f64 = 1676.0;
 const CHECK: f64 = 1900.0;
@@ -190,27 +192,19 @@ fn panel(out: &mut String, clock: Clock, strips: &Strips, range: Range<usize>, h
     let (first, end) = (&columns.heads[0], &columns.heads[columns.heads.len() - 1]);
     let _ = writeln!(
         out,
-        "<figure class=\"panel\"><figcaption>{}. First rows: satellites with a mark at most \
-         {} and {} minutes old; the boom needs {NEEDED}.</figcaption>\n\
+        "<figure class=\"panel\"><figcaption>{}. First rows: did {NEEDED} satellites, as the boom needs, \
+         have marks at most {} and {} minutes old? Light yes, dark no.</figcaption>\n\
          <div><svg class=\"strips\" viewBox=\"0 0 {WIDTH} {height:.0}\" role=\"img\" \
          aria-label=\"Strips of the satellites; a cell is {}\">",
         clock.dated().range(first.first, end.last),
-        LIMITS[0] * SUBFRAME / 60,
-        LIMITS[1] * SUBFRAME / 60,
+        minutes(LIMITS[0]),
+        minutes(LIMITS[1]),
         strips.cell_told()
     );
     for (n, limit) in LIMITS.iter().enumerate() {
-        let counts = columns
-            .heads
-            .iter()
-            .map(|head| Some(head.marked_lately?[n]));
-        lately(
-            out,
-            *limit,
-            &columns,
-            &Vec::from_iter(counts),
-            LATELY * n as f64,
-        );
+        let cells = columns.heads.iter();
+        let cells = Vec::from_iter(cells.map(|head| Some(head.marked_lately?[n])));
+        lately(out, *limit, &columns, &cells, LATELY * n as f64);
     }
     columns.axis(out, clock, top - AXIS);
     if last {
@@ -246,22 +240,31 @@ fn stretches<T: PartialEq + Copy>(all: &[T]) -> Vec<(usize, usize, T)> {
     out
 }
 
-/// A row of the boom's: how many satellites were marked lately.
-fn lately(out: &mut String, limit: u64, columns: &Columns, counts: &[Option<u8>], y: f64) {
+/// A row of the boom's: whether four satellites were marked lately, and how many. Where there is room it
+/// is said in words.
+fn lately(out: &mut String, limit: u32, columns: &Columns, cells: &[Option<Lately>], y: f64) {
     let _ = writeln!(
         out,
         "<g data-lately=\"{limit}\"><text x=\"0\" y=\"{:.1}\" class=\"limit\">\u{2264} {} min</text>",
         y + 24.0,
-        limit * SUBFRAME / 60
+        minutes(limit)
     );
-    for (from, len, count) in stretches(counts) {
+    for (from, len, lately) in stretches(cells) {
         let x = columns.x[from];
         let width = columns.x[from + len - 1] + columns.width - x - 2.0;
-        let (class, told) = match count {
-            None => ("none", String::new()),
-            Some(n) if n < NEEDED => ("few", n.to_string()),
-            Some(n) if n == NEEDED => ("just", n.to_string()),
-            Some(n) => ("enough", n.to_string()),
+        let (class, answer) = match lately {
+            None => ("none", ""),
+            Some(lately) if !lately.four => ("few", "no"),
+            Some(lately) if lately.count == NEEDED => ("just", "yes"),
+            Some(_) => ("enough", "yes"),
+        };
+        let count = lately.map_or(String::new(), |lately| lately.count.to_string());
+        let words = format!("{answer}, {count}");
+        let fits = LETTER * words.len() as f64 + 8.0 <= width;
+        let told = if lately.is_some() && fits {
+            &words
+        } else {
+            &count
         };
         let (size, anchor, inset) = match len {
             1 => (20, "middle", (columns.width - 2.0) / 2.0),
@@ -270,7 +273,7 @@ fn lately(out: &mut String, limit: u64, columns: &Columns, counts: &[Option<u8>]
         let _ = writeln!(
             out,
             "<rect x=\"{x:.1}\" y=\"{y:.1}\" width=\"{width:.1}\" height=\"30\" class=\"{class}\" \
-             data-cells=\"{len}\" data-count=\"{told}\"/>\
+             data-cells=\"{len}\" data-four=\"{answer}\" data-count=\"{count}\"/>\
              <text x=\"{:.1}\" y=\"{:.1}\" class=\"{class}\" font-size=\"{size}\" text-anchor=\"{anchor}\">{told}</text>",
             x + inset,
             y + 23.5

@@ -1,11 +1,11 @@
 //! The sheet as text for a terminal.
 
-use crate::boom::{LIMITS, NEEDED};
+use crate::boom::{minutes, Lately, LIMITS, NEEDED};
 use crate::finding::Finding;
 use crate::html::grouped;
 use crate::phone;
 use crate::sheet::{MarkedSet, RunSheet, Sheet, Strip, Strips, RESTS_ON};
-use crate::time::{Clock, SUBFRAME};
+use crate::time::Clock;
 use crate::timeline::{Cell, Said};
 use crate::warnings::{Grade, Table, Warning};
 use crate::words::count;
@@ -205,11 +205,12 @@ fn shown(out: &mut String, clock: Clock, strips: &Strips) {
     );
     let sign = |said: Said| format!("{} {}", letter(said), said.words().0);
     out.push_str(&Said::ALL.map(sign).join("  "));
-    let [few, more] = LIMITS.map(|limit| limit * SUBFRAME / 60);
+    let [few, more] = LIMITS.map(minutes);
     let _ = writeln!(
         out,
         "\n  . no tag, but heard   v data changed while a slow tag waited\n  \
-         {few}m, {more}m: satellites with a mark at most so old (+ ten and more); the boom needs {NEEDED}"
+         {few}m, {more}m: whether {NEEDED} satellites, as the boom needs, had a mark at most so old (y yes, n no),\n  \
+         and under it how many had (+ ten and more)"
     );
     for from in (0..strips.columns.len()).step_by(CELLS) {
         let to = (from + CELLS).min(strips.columns.len());
@@ -227,19 +228,23 @@ fn shown(out: &mut String, clock: Clock, strips: &Strips) {
     }
 }
 
-/// How many satellites were marked lately: a digit each, + for ten and more.
+/// Whether four satellites were marked lately, a letter each, and how many, a digit each.
 fn lately(out: &mut String, strips: &Strips, from: usize, to: usize) {
+    let yes = |lately: Lately| if lately.four { 'y' } else { 'n' };
+    let digit = |lately: Lately| char::from_digit(lately.count.into(), 10).unwrap_or('+');
     for (n, limit) in LIMITS.iter().enumerate() {
-        let sign = |count: u8| char::from_digit(count.into(), 10).unwrap_or('+');
         let columns = strips.columns[from..to].iter();
-        let counts = columns.map(|column| column.marked_lately.map_or(' ', |all| sign(all[n])));
+        let columns = columns.map(|column| column.marked_lately.map(|all| all[n]));
+        let signs = |sign: fn(Lately) -> char| -> String {
+            columns.clone().map(|one| one.map_or(' ', sign)).collect()
+        };
+        let limit = minutes(*limit);
         let _ = writeln!(
             out,
-            "  {:>2}m  {}  marked, {} min",
-            limit * SUBFRAME / 60,
-            counts.collect::<String>(),
-            limit * SUBFRAME / 60
+            "  {limit:>2}m  {}  {NEEDED} marked, {limit} min",
+            signs(yes)
         );
+        let _ = writeln!(out, "       {}  so many", signs(digit));
     }
 }
 

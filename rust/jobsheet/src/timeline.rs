@@ -195,7 +195,7 @@ pub struct Column {
     pub last: Gst,
     /// How many came.
     pub half_minutes: u32,
-    /// How many satellites were marked lately, at the least.
+    /// Whether four satellites were marked lately in all of them, and how many at the least.
     pub marked_lately: Least,
     cells: BTreeMap<u8, Cell>,
 }

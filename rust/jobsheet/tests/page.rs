@@ -202,7 +202,7 @@ fn findings() {
             "THE SYSTEM WITHDREW ITS KEYS at 2017-10-20 00:02:00. New ones were taken at 2017-10-20 00:04:30.",
             "3 satellites with data, all marked. E01 to E08 sent none.",
             "At no time did 4 satellites have a mark of the last 5 minutes; the boom needs 4.",
-            "Do: before you spray, see that the first row below ends with 4 or more.",
+            "Do: before you spray, see that the first row below ends in yes (light, or y): 4 satellites or more.",
         ],
     );
     let fitter = records("fitter");

@@ -47,8 +47,10 @@
 //! core.word(18, time, &word)?;
 //! assert_eq!(core.word(37, time, &word), Err(Refusal::OutOfRange));
 //!
-//! // No tag has shown the satellite's data to be authentic, and no message waits for the chip.
+//! // No tag has shown the satellite's data to be authentic, so no four satellites have such data of the
+//! // last five minutes, and no message waits for the chip.
 //! assert_eq!(core.read_set(18), Err(Refusal::NoSet));
+//! assert!(!core.four(10));
 //! assert_eq!(core.read_message(), Err(Refusal::NotWaiting));
 //! # Ok::<(), Refusal>(())
 //! ```
@@ -128,8 +130,9 @@ use told::Told;
 /// The version of this crate, of `include/osnma.h` and of the archive's calls (`CHANGELOG.md`).
 pub const VERSION: &str = env!("CARGO_PKG_VERSION");
 /// The number of the layout that this crate lends: it rises whenever a region, in size or in meaning, or
-/// the parameters of an export change. The archive exports a function whose name ends in it, which
-/// [`Core::start`] calls, so that an archive of another layout does not link.
+/// the parameters of an export change; a new export alone does not raise it. The archive exports a
+/// function whose name ends in it, which [`Core::start`] calls, so that an archive of another layout does
+/// not link.
 pub const LAYOUT: u32 = 2;
 
 /// Bytes of the authentication fields of a sub-frame: 15 of five bytes.
@@ -247,8 +250,8 @@ impl Core {
     }
 
     /// Whether an emergency message stopped the core: since the last accepted start a section, a word
-    /// or a verdict was answered [`Refusal::Stopped`]. The core goes on to answer so until a new start;
-    /// its reads answer too, and what they give is no longer to be used.
+    /// or a verdict was answered [`Refusal::Stopped`]. The core goes on to answer so to all but a new start
+    /// and the reads, [`four`](Core::four) among them, and what these give is no longer to be used.
     pub const fn is_stopped(&self) -> bool {
         self.told.stopped
     }
@@ -417,6 +420,58 @@ impl Core {
             iodnav,
             time,
         })
+    }
+
+    /// Whether at least four satellites have an authentic set that is at most `limit` sub-frames of 30
+    /// seconds old. It changes nothing, and every `limit` has an answer.
+    ///
+    /// The age of a set is the time from its tag, as [`read_set`](Core::read_set) gives it, to the last
+    /// sub-frame that was noted, whichever satellite sent it; over the end of a week too. An age equal to
+    /// `limit` counts. A tag that came later than that, which no start leads to, has age 0.
+    /// - A sub-frame is noted unless it is refused in both halves with [`Refusal::OutOfRange`],
+    ///   [`Refusal::Stopped`] or [`Refusal::OutOfOrder`]: one is noted that is answered
+    ///   [`Refusal::AllZero`], [`Refusal::FieldsMissing`] or [`Refusal::NotInForce`], or whose section is
+    ///   refused, and so is the one that stops the core. A word is not.
+    /// - Candidates never count.
+    /// - Before the first sub-frame is noted the answer is no, and so it is after an accepted start.
+    /// - A stopped core answers too, and its answer is no longer to be used: ask
+    ///   [`is_stopped`](Core::is_stopped) first.
+    ///
+    /// Ask once a half minute, when the fields of ALL its satellites are lent: the first of them moves the
+    /// clock on, the tags of the others come after it.
+    ///
+    /// **No time passes but by sub-frames that are noted.** Under a roof, with the antenna's cable off or the
+    /// receiver hung up, no sub-frame comes; where an old buffer is lent again, each is refused with
+    /// [`Refusal::OutOfOrder`]. The ages then stay as they are, and a yes stays a yes for hours. Who opens a
+    /// valve by this answer also watches a clock that the signal cannot set: he asks with the limit less the
+    /// half minutes since a sub-frame was last noted (lent, and not refused in both halves as above), and
+    /// takes the answer as no where those are more than the limit:
+    ///
+    /// ```
+    /// use core::time::Duration;
+    /// use osnma::Core;
+    ///
+    /// /// Whether a valve may open. `silence` is how long ago a sub-frame was last noted, by that clock.
+    /// fn may_open(core: &Core, limit: u32, silence: Duration) -> bool {
+    ///     let half_minutes = u32::try_from(silence.as_secs() / 30).unwrap_or(u32::MAX);
+    ///     let left = limit.checked_sub(half_minutes);
+    ///     !core.is_stopped() && left.is_some_and(|left| core.four(left))
+    /// }
+    /// # let mut core = Core::new();
+    /// # assert!(!may_open(&core, 10, Duration::ZERO));
+    /// # core.regions_mut().clocks[0] = 121;
+    /// # // Four sets whose age is 0, then 4, and the longest silence that is a yes.
+    /// # for (stamp, longest) in [(121, 329), (1, 209)] {
+    /// #     core.regions_mut().arrivals[..4].fill(stamp);
+    /// #     let silences = [0, longest, longest + 1].map(Duration::from_secs);
+    /// #     assert_eq!(silences.map(|s| may_open(&core, 10, s)), [true, true, false]);
+    /// # }
+    /// ```
+    pub fn four(&self, limit: u32) -> bool {
+        let mut yes = 0;
+        // The lengths are right, so it answers 0.
+        let _ = self.regions.view().four(limit, &mut yes);
+        yes == 1
     }
 
     /// The message that waits for a verdict, with the public key to verify it under. It goes on

@@ -153,6 +153,15 @@ extern "C" {
         time: *mut u32,
     ) -> u32;
 
+    pub fn osnma_regions_four(
+        clocks: *const u32,
+        clocks_count: usize,
+        arrivals: *const u32,
+        arrivals_count: usize,
+        limit: u32,
+        yes: *mut u8,
+    ) -> u32;
+
     pub fn osnma_regions_read_message(
         pubkeys: *const u8,
         pubkeys_count: usize,

@@ -233,6 +233,21 @@ impl View<'_> {
         }
     }
 
+    /// Writes to `yes` whether at least four authentic sets are at most `limit` sub-frames old: 1 for yes, 0 for no.
+    /// Answers 0, or 1 where a length is wrong.
+    pub fn four(&self, limit: u32, yes: &mut u8) -> u32 {
+        // SAFETY: as above.
+        unsafe {
+            lend!(
+                osnma_regions_four,
+                self.as_ptr,
+                [clocks arrivals],
+                limit,
+                yes
+            )
+        }
+    }
+
     /// What waits for a verdict, and its public key.
     pub fn read_message(
         &self,

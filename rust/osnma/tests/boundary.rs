@@ -257,6 +257,11 @@ fn one_change_of_a_declaration_is_seen() {
         ),
         ("uint32_t *clocks", "const uint32_t *clocks"),
         ("const uint32_t *arrivals", "uint32_t *arrivals"),
+        (
+            "uint32_t limit,\n    uint8_t",
+            "uint16_t limit,\n    uint8_t",
+        ),
+        ("uint8_t *yes);", "const uint8_t *yes);"),
         ("uint32_t osnma_regions_word", "uint8_t osnma_regions_word"),
         (
             "uint32_t osnma_regions_word",
@@ -275,6 +280,8 @@ fn one_change_of_a_declaration_is_seen() {
         ("marks: u16", "marks: u32"),
         ("clocks: *mut u32", "clocks: *const u32"),
         ("arrivals: *const u32", "arrivals: *mut u32"),
+        ("limit: u32", "limit: u64"),
+        ("yes: *mut u8", "yes: *const u8"),
         (") -> u32;", ") -> u8;"),
         (") -> u32;", ");"),
     ] {

@@ -142,6 +142,15 @@ fn documented() {
     }
 }
 
+/// The parameters of an export, and the header without it.
+fn parted<'a>(header: &'a str, export: &str) -> (&'a str, String) {
+    let (before, rest) = header
+        .split_once(&format!("\nuint32_t {export}("))
+        .unwrap_or_else(|| panic!("{export} is not declared"));
+    let (parameters, after) = rest.split_once(");\n").expect("an end");
+    (parameters, [before, after].concat())
+}
+
 /// The regions' counts and the exported parameters of a header.
 fn lent(header: &str) -> String {
     let is_count = |line: &&str| line.starts_with("#define OSNMA_") && line.contains("_COUNT ");
@@ -155,20 +164,45 @@ fn lent(header: &str) -> String {
     words.flat_map(str::split_whitespace).collect()
 }
 
-/// The first bytes of SHA-256 of what each layout lends. A line is added with each layout, and none is changed.
+/// The first bytes of SHA-256 of what each layout lent when it began. A line is added with each layout, and none is changed.
 const LAYOUTS: [(u32, u64); 2] = [(1, 0x861F_34CF_E277_74A6), (2, 0x2CBB_81E3_24AE_1A95)];
+
+/// The exports that came to a layout later, with those of their parameters. A line is added with each export, and none is
+/// changed.
+const ADDED: [(u32, &str, u64); 1] = [(2, "osnma_regions_four", 0xC01E_278E_04BE_2922)];
+
+fn first_bytes(text: &str) -> u64 {
+    let digest = portable_hash::sha256(text.as_bytes());
+    u64::from_be_bytes(*digest.first_chunk().expect("32 bytes"))
+}
+
+/// What the header's layout lends: what it began with, then each export that came to it.
+fn digests(header: &str) -> Vec<u64> {
+    let (mut first, mut added) = (header.to_string(), Vec::new());
+    for (_, export, _) in ADDED.iter().filter(|(layout, ..)| *layout == LAYOUT) {
+        let (parameters, without) = parted(&first, export);
+        let parameters: String = parameters.split_whitespace().collect();
+        added.push(first_bytes(&parameters));
+        first = without;
+    }
+    [vec![first_bytes(&lent(&first))], added].concat()
+}
 
 // Who changes a region or a parameter raises the layout, and the version and the layout have their place in CHANGELOG.md.
 #[test]
 fn layout_rises_with_what_is_lent() {
     let read = |path: &str| fs::read_to_string(top().join(path)).expect("a text");
     let header = read("include/osnma.h");
-    let digest = |header: &str| {
-        let digest = portable_hash::sha256(lent(header).as_bytes());
-        u64::from_be_bytes(*digest.first_chunk().expect("32 bytes"))
-    };
-    let right = Some(&(LAYOUT, digest(&header)));
-    assert_eq!(LAYOUTS.last(), right, "raise the layout and add a line");
+    let of_layout = |&&(layout, ..): &&(u32, &str, u64)| layout == LAYOUT;
+    let (layout, first) = *LAYOUTS.last().expect("a layout");
+    let added = ADDED.iter().filter(of_layout).map(|(.., digest)| *digest);
+    let right: Vec<u64> = std::iter::once(first).chain(added).collect();
+    assert_eq!(layout, LAYOUT, "add a line");
+    assert_eq!(
+        digests(&header),
+        right,
+        "raise the layout, or add the export, and add a line"
+    );
     for (old, new) in [
         ("OSNMA_WAITING_COUNT 21504u", "OSNMA_WAITING_COUNT 21760u"),
         ("uint16_t marks,\n    const", "uint32_t marks,\n    const"),
@@ -176,9 +210,14 @@ fn layout_rises_with_what_is_lent() {
             "uint8_t *id, uint8_t *kind);",
             "uint8_t *kind, uint8_t *id);",
         ),
+        ("uint32_t limit,", "uint16_t limit,"),
+        (
+            "/* ---- the calls over a core, by",
+            "uint32_t osnma_regions_five(uint8_t *yes);\n\n/* ---- the calls over a core, by",
+        ),
     ] {
         assert!(header.contains(old), "{old}");
-        assert_ne!(digest(&header.replacen(old, new, 1)), digest(&header));
+        assert_ne!(digests(&header.replacen(old, new, 1)), digests(&header));
     }
     let heading = format!("\n## {VERSION}, layout {LAYOUT}\n");
     assert!(read("CHANGELOG.md").contains(&heading), "{heading}");

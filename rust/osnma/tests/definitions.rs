@@ -5,8 +5,8 @@
 mod common;
 
 use common::twin::{garbage, Call, Kind};
-use common::{draw, driver};
-use osnma::regions::Regions;
+use common::{draw, driver, stamps};
+use osnma::regions::{Regions, View};
 use osnma::Marks;
 use rules_runner::machine::with_large_stack;
 use rules_runner::program::Hashes;
@@ -27,11 +27,12 @@ use std::path::Path;
 
 const CALLS: u64 = if cfg!(debug_assertions) { 100 } else { 3_000 };
 
+fn list<T: Copy + Into<u64>>(region: &[T]) -> Vec<u64> {
+    region.iter().map(|&element| element.into()).collect()
+}
+
 /// The regions as lists of numbers.
 fn lists(r: &Regions) -> rules::Regions {
-    fn list<T: Copy + Into<u64>>(region: &[T]) -> Vec<u64> {
-        region.iter().map(|&element| element.into()).collect()
-    }
     [
         list(&r.config),
         list(&r.clocks),
@@ -375,6 +376,11 @@ fn by_core(r: &mut Regions, call: &Call) -> Given {
             let bytes = [&message[..], &signature, &key].concat();
             (number.into(), bytes, [id.into(), kind.into()])
         }
+        Call::Four(limit) => {
+            let mut yes = 77;
+            let number = lent.view().four(*limit, &mut yes);
+            (number.into(), vec![], [yes.into(), 0])
+        }
     }
 }
 
@@ -419,7 +425,17 @@ fn by_rules(run: &mut rules::Run, call: &Call) -> Given {
             let bytes = [read.message, read.signature, read.key].concat();
             (read.number, bytes, [read.id, read.key_type])
         }
+        Call::Four(limit) => {
+            let read = run.four(*limit);
+            (read.number, vec![], [read.yes, 0])
+        }
     }
+}
+
+/// Whether four satellites have a recent set, with a limit mostly around the least that is enough.
+fn ask(r: &mut Regions, run: &mut rules::Run, asks: &mut Rng) {
+    let call = Call::Four(stamps::limit(asks, stamps::least_limit_of(r)));
+    assert_eq!(by_core(r, &call), by_rules(run, &call), "{call:?}");
 }
 
 // A core's regions have the lengths that the definitions name.
@@ -434,12 +450,55 @@ fn lengths_of_the_regions() {
     assert_eq!(lists(&regions).map(|region| region.len()), lengths);
 }
 
+/// Elements of a region lent with another length: the definitions say of any.
+fn resized(region: &[u32], rng: &mut Rng) -> Vec<u32> {
+    let mut region = region.to_vec();
+    if rng.once_in(8) {
+        let len = region.len();
+        region.resize(*rng.pick(&[0, 1, len - 1, len, len + 1, 2 * len]), 1);
+    }
+    region
+}
+
+// Whether four satellites have a recent set, on clocks and arrivals of any contents and lengths.
+#[test]
+fn four_on_any_stamps() {
+    let crates = Path::new(env!("CARGO_MANIFEST_DIR")).join("../../crates");
+    let told = with_large_stack(|| {
+        let rules = Rules::load(&crates, Hashes::Portable).unwrap_or_else(|e| panic!("{e}"));
+        let (mut rng, mut told) = (Rng::new(12), BTreeMap::new());
+        let mut regions = Regions::zeroed();
+        for at in 0..10 * CALLS {
+            let limit = stamps::draw(&mut rng, &mut regions);
+            let clocks = resized(&regions.clocks, &mut rng);
+            let arrivals = resized(&regions.arrivals, &mut rng);
+            let mut yes = 77;
+            let view = View {
+                clocks: &clocks,
+                arrivals: &arrivals,
+                ..regions.view()
+            };
+            let number = view.four(limit, &mut yes);
+            let mut lists = lists(&regions);
+            (lists[1], lists[15]) = (list(&clocks), list(&arrivals));
+            let right = rules.run_on(&lists).four(limit);
+            let given = (number.into(), yes.into());
+            assert_eq!(given, (right.number, right.yes), "question {at}");
+            *told.entry(given).or_insert(0u64) += 1;
+        }
+        told
+    });
+    println!("{told:?}");
+    let answers: Vec<(u64, u64)> = told.into_keys().collect();
+    assert_eq!(answers, [(0, 0), (0, 1), (1, 0)]);
+}
+
 #[test]
 fn any_contents() {
     let crates = Path::new(env!("CARGO_MANIFEST_DIR")).join("../../crates");
     let (answers, outcomes) = with_large_stack(|| {
         let rules = Rules::load(&crates, Hashes::Portable).unwrap_or_else(|e| panic!("{e}"));
-        let mut rng = Rng::new(11);
+        let (mut rng, mut asks) = (Rng::new(11), Rng::new(13));
         let tree = draw::tree(&mut rng);
         let states = driver::states(11, 2, MacFunctions::Both, Pages::Lost)
             .unwrap_or_else(|error| panic!("{error}"));
@@ -466,6 +525,7 @@ fn any_contents() {
             let mut run = rules.run_on(&lists(&regions));
             let (given, right) = (by_core(&mut regions, &call), by_rules(&mut run, &call));
             assert_eq!(given, right, "call {at}: {call:?}");
+            ask(&mut regions, &mut run, &mut asks);
             assert!(lists(&regions) == run.regions(), "call {at}: {call:?}");
             let numbers = match call {
                 Call::Subframe { .. } => given.2,

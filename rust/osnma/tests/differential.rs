@@ -6,12 +6,15 @@ mod common;
 use common::driver::{replay, Driver, Tally};
 use common::expected::difference;
 use common::loose::{parts, refused, regions_of, WRONG};
-use common::twin::{garbage, Answer, Call, Twin};
+use common::stamps;
+use common::twin::{garbage, Call, Twin};
 use common::{draw, driver};
 use osnma::regions::Regions;
 use osnma::{Core, Gst, Refusal};
 use signal::rng::Rng;
 use signal::scenario::{self, MacFunctions, Pages};
+use std::fs;
+use std::path::Path;
 
 /// Runs of long key walks, which take seconds.
 const LONG: [&str; 4] = ["sections", "gaps", "held_key", "gap_full"];
@@ -22,18 +25,40 @@ const CALLS: u64 = if cfg!(debug_assertions) {
     200_000
 };
 
+/// Whether the core says that this is the least limit with which four satellites have a recent set.
+fn says(core: &Core, least: Option<u64>) -> Result<(), String> {
+    let least = least.map(|limit| limit as u32);
+    let right = match least {
+        None => !core.four(u32::MAX),
+        Some(0) => core.four(0),
+        Some(limit) => core.four(limit) && !core.four(limit - 1),
+    };
+    match right {
+        true => Ok(()),
+        false => Err(format!("{least:?} is not the least limit")),
+    }
+}
+
 fn replay_named(long: bool) -> Tally {
-    let mut tally = Tally::default();
+    let (mut tally, mut stated, mut asked) = (Tally::default(), 0, 0);
     for scenario in scenario::all() {
         if LONG.contains(&scenario.name) == long {
             let run = scenario.run(scenario::SEED);
-            let each = |_: &Twin, _: usize, _: &mut Rng| Ok(());
+            stated += run.expects.least.len();
+            let each = |twin: &Twin, place: usize, _: &mut Rng| {
+                let mut of_place = run.expects.least.iter().filter(|(at, _)| *at == place);
+                of_place.try_for_each(|(_, least)| {
+                    asked += 1;
+                    says(&twin.core, *least)
+                })
+            };
             if let Err(error) = replay(&run.bytes, &mut Rng::new(1), &mut tally, each) {
                 panic!("{}: {error}", run.name);
             }
         }
     }
     println!("{tally}");
+    assert!(asked == stated && (long || stated > 90), "{asked} {stated}");
     tally
 }
 
@@ -89,6 +114,8 @@ fn wrong_lengths() {
             Call::ReadSet(rng.range(1, 36) as u8),
             Call::ReadSet(37),
             Call::ReadMessage,
+            Call::Four(0),
+            Call::Four(u32::MAX),
         ];
         calls.extend((0..2).map(|_| draw::word(&mut rng, receiver)));
         calls.extend((0..2).map(|_| draw::verdict(&mut rng, receiver)));
@@ -112,6 +139,68 @@ fn wrong_lengths() {
     }
 }
 
+// Whether four satellites have a recent set, on clocks and arrivals of any contents; three, four and more recent ones
+// come, with and without another that is one sub-frame too old.
+#[test]
+fn four_on_any_stamps() {
+    let seen = stamps::compare(CALLS, 8).unwrap_or_else(|error| panic!("{error}"));
+    println!("{seen:?}");
+    for recent in 0..=6 {
+        for older in [false, true] {
+            assert!(
+                seen.contains_key(&Some((recent, older))),
+                "{recent} {older}"
+            );
+        }
+    }
+    assert!(seen.contains_key(&None));
+}
+
+// After each recorded run the core says the least limit that is recorded beside it; where none is, no limit is enough.
+#[test]
+fn recorded_least_limits() {
+    let folder = Path::new(env!("CARGO_MANIFEST_DIR")).join("../second_receiver/tests/cases");
+    let files = fs::read_dir(&folder).unwrap();
+    let files = files.map(|file| file.unwrap().path());
+    let (mut runs, mut enough) = (0, 0);
+    for input in files.filter(|file| file.extension().is_some_and(|name| name == "in")) {
+        let recorded = fs::read_to_string(input.with_extension("four")).ok();
+        let least = recorded.map(|line| line["F ".len()..].trim_end().parse().unwrap());
+        let mut last = Ok(());
+        let each = |twin: &Twin, _: usize, _: &mut Rng| {
+            if twin.receiver.is_started() {
+                last = says(&twin.core, least);
+            }
+            Ok(())
+        };
+        let bytes = fs::read(&input).unwrap();
+        let replayed = replay(&bytes, &mut Rng::new(2), &mut Tally::default(), each);
+        assert_eq!(replayed.and(last), Ok(()), "{}", input.display());
+        runs += 1;
+        enough += u32::from(least.is_some());
+    }
+    assert!(runs > 20 && enough > 5, "{runs} {enough}");
+}
+
+// Before a sub-frame is noted no limit is enough, and a start forgets the clock and the sets.
+#[test]
+fn four_by_a_core() {
+    let mut rng = Rng::new(9);
+    let tree = draw::tree(&mut rng);
+    let mut core = Core::new();
+    assert!(!core.four(u32::MAX));
+    let stamp = Gst::new(1000, 0).unwrap().bits() + 1;
+    core.regions_mut().arrivals[..4].fill(stamp);
+    assert!(!core.four(u32::MAX));
+    core.regions_mut().clocks[0] = stamp + 30;
+    assert_eq!([0, 1, 2].map(|limit| core.four(limit)), [false, true, true]);
+    let refused = draw::bad_settings(&mut rng, &tree);
+    assert!(core.start(&refused).is_err());
+    assert!(core.four(1));
+    assert_eq!(core.start(&draw::settings(&mut rng, &tree)), Ok(()));
+    assert!(!core.four(u32::MAX));
+}
+
 // An accepted start writes every byte, whatever was there; a refused one none.
 #[test]
 fn starts_on_any_bytes() {
@@ -120,13 +209,10 @@ fn starts_on_any_bytes() {
     for round in 0..400 {
         let mut twin = Twin::new(&mut rng);
         let refused = Call::Start(draw::bad_settings(&mut rng, &tree));
-        assert_eq!(twin.call(&refused, 1), Ok(Answer::from(2)), "round {round}");
+        let mut number = |call: &Call| twin.call(call, 1).map(|answer| answer.number);
+        assert_eq!(number(&refused), Ok(2), "round {round}");
         let accepted = Call::Start(draw::settings(&mut rng, &tree));
-        assert_eq!(
-            twin.call(&accepted, 1),
-            Ok(Answer::from(0)),
-            "round {round}"
-        );
+        assert_eq!(number(&accepted), Ok(0), "round {round}");
     }
 }
 

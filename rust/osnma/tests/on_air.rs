@@ -1,7 +1,7 @@
 //! The collector, in Rust and in C: every named run of the bench signal, cut into pages in the order of the air, gives
-//! what the recording gives: the numbers and tag records of every sub-frame, start and verdict, and the authentic sets at
-//! the end. Pages as a receiver hears them, lost, twice, late or in any order, give what `heard` says. The programs are
-//! `examples/receiver.rs` and `examples/receiver.c`.
+//! what the recording gives: the numbers and tag records of every sub-frame, start and verdict, whether four satellites
+//! have authentic sets that are not too old, and these sets at the end. Pages as a receiver hears them, lost, twice, late
+//! or in any order, give what `heard` says. The programs are `examples/receiver.rs` and `examples/receiver.c`.
 
 mod compiled;
 #[path = "on_air/heard.rs"]
@@ -11,7 +11,8 @@ mod receiver;
 
 use compiled::{build, cpp_compilers, run, C99, CPP17};
 use heard::{disturbed, heard};
-use second_receiver::replay::replay;
+use second_receiver::replay::{answer, replay};
+use second_receiver::Receiver;
 use signal::air::{cut, END, FIELD, PAGE};
 use signal::replay::RECORD;
 use signal::rng::Rng;
@@ -27,15 +28,55 @@ fn of_week(time: u32) -> String {
     format!("{}/{}", time >> 20, time & 0xF_FFFF)
 }
 
+/// What the examples say of four satellites, by what the second receiver holds.
+fn four(receiver: &Receiver) -> String {
+    let seconds = |time: u32| u64::from(time >> 20) * 604_800 + u64::from(time & 0xF_FFFF);
+    let count = |limit: u64| {
+        let last = seconds(receiver.last_subframe()?.0);
+        let is_recent = |prn: &u8| {
+            let read = receiver.read_set(*prn, &mut [0; 69]);
+            read.number == 0 && last - seconds(read.time) <= 30 * limit
+        };
+        Some((1..=36).filter(is_recent).count())
+    };
+    let yes = |limit| u8::from(!receiver.is_stopped() && count(limit) >= Some(4));
+    format!("four within 10: {}, within 20: {}", yes(10), yes(20))
+}
+
+/// That, after each whole record of a recording.
+fn fours(recording: &[u8]) -> Vec<String> {
+    let (mut receiver, mut area) = (Receiver::new(), [0; 3240]);
+    let records = recording.chunks_exact(RECORD);
+    let after = |record: &[u8]| {
+        answer(
+            &mut receiver,
+            record.try_into().expect("a record"),
+            &mut area,
+        );
+        four(&receiver)
+    };
+    records.map(after).collect()
+}
+
+/// What the examples print.
+struct Printed {
+    lines: String,
+    /// Of each line: what stands of four satellites behind it, if that does.
+    fours: Vec<String>,
+}
+
 /// The second receiver's answers as the examples print them, from the first accepted start on and without those of words,
 /// and what it holds at the end.
-fn wanted(recording: &[u8]) -> String {
+fn wanted(recording: &[u8]) -> Printed {
+    let mut fours = fours(recording).into_iter();
+    let mut after = Vec::new();
     let mut lines = Vec::new();
     let receiver = replay(recording, &mut lines).expect("lines");
     let lines = String::from_utf8(lines).expect("text");
     let mut lines = lines.lines();
     let (mut want, mut started) = (String::new(), false);
     for record in recording.chunks_exact(RECORD) {
+        let (four, begun) = (fours.next().expect("as many"), want.len());
         let line = lines.next().expect("a line");
         let (_place, answers) = line.split_once(' ').expect("a place");
         let (first, rest) = answers.split_once(' ').expect("two answers");
@@ -53,6 +94,7 @@ fn wanted(recording: &[u8]) -> String {
         for _ in 0..count.parse().expect("a count") {
             writeln!(want, "{}", lines.next().expect("a tag record")).unwrap();
         }
+        after.resize(after.len() + want[begun..].lines().count(), four);
     }
     if started {
         let (stopped, chain) = (receiver.is_stopped(), receiver.chain().is_some());
@@ -70,7 +112,27 @@ fn wanted(recording: &[u8]) -> String {
             want.push('\n');
         }
     }
-    want
+    Printed {
+        lines: want,
+        fours: after,
+    }
+}
+
+/// The first difference of what an example prints; else how many half minutes it says no and yes of.
+fn compared(got: &str, want: &Printed) -> Result<[usize; 2], String> {
+    let (mut lines, mut sums) = (String::new(), [0; 2]);
+    let mut place = 0;
+    for line in got.lines() {
+        if !line.starts_with("four ") {
+            writeln!(lines, "{line}").unwrap();
+            place += 1;
+        } else if want.fours.get(place - 1).is_some_and(|four| four == line) {
+            sums[usize::from(line.ends_with('1'))] += 1;
+        } else {
+            return Err(format!("after line {place}: {line}"));
+        }
+    }
+    first_difference(&lines, &want.lines).map_or(Ok(sums), Err)
 }
 
 fn first_difference(got: &str, want: &str) -> Option<String> {
@@ -95,13 +157,15 @@ fn count(air: &[u8], kinds: &[u8]) -> usize {
 /// Runs that are as the air is: every sub-frame comes by pages, and no half minute is cut but by the verdict and the end.
 const LIKE_THE_AIR: [&str; 5] = ["fitter", "full_sky", "nominal", "trees", "cmac_256"];
 
-/// Both languages give of the air what the second receiver gives of the recording; gives that.
-fn compare(name: &str, recording: &[u8], air: &[u8], program: &Path) -> String {
+/// Both languages give of the air what the second receiver gives of the recording. Gives that, and how many half minutes
+/// had not four satellites and had them.
+fn compare(name: &str, recording: &[u8], air: &[u8], program: &Path) -> (String, [usize; 2]) {
     let want = wanted(recording);
-    let difference = |got: String| first_difference(&got, &want);
-    assert_eq!(difference(in_rust(air)), None, "{name} in Rust");
-    assert_eq!(difference(run(program, &[], air)), None, "{name} in C");
-    want
+    let in_rust = compared(&in_rust(air), &want);
+    let in_c = compared(&run(program, &[], air), &want);
+    assert_eq!(in_rust, in_c, "{name}");
+    let sums = in_rust.unwrap_or_else(|difference| panic!("{name}: {difference}"));
+    (want.lines, sums)
 }
 
 /// How many lines are tag records that begin so.
@@ -110,29 +174,41 @@ fn tags(lines: &str, outcome: &str) -> usize {
     tags.filter(|line| line.starts_with(outcome)).count()
 }
 
-/// Compares a recording with itself cut; gives how many pages it has, and how many sub-frames that no page can bring.
-fn compare_cut(name: &str, recording: &[u8], program: &Path) -> (usize, usize) {
+/// Half minutes of the sub-frames that were answered, one after another.
+fn half_minutes(lines: &str) -> usize {
+    let time = |line: &str| Some(line.strip_prefix('E')?.split_once(": ")?.0[3..].to_string());
+    let mut times: Vec<String> = lines.lines().filter_map(time).collect();
+    times.dedup();
+    times.len()
+}
+
+/// Compares a recording with itself cut; gives how many pages it has, how many sub-frames that no page can bring, and how
+/// many half minutes had not four satellites and had them.
+fn compare_cut(name: &str, recording: &[u8], program: &Path) -> [usize; 4] {
     let air = cut(recording);
-    let want = compare(name, recording, &air, program);
+    let (want, [no, yes]) = compare(name, recording, &air, program);
     let direct = count(&air, &[3, 6]);
     if LIKE_THE_AIR.contains(&name) {
         let ends = count(&air, &[END]);
         assert!(direct == 0 && ends <= 3, "{name}: {direct}, {ends}");
         assert!(tags(&want, "") > 1000);
+        // Once a half minute.
+        let asked = half_minutes(&want)..=half_minutes(&want) + ends + 1;
+        assert!(asked.contains(&(no + yes)), "{name}: {no}, {yes}");
     }
-    (count(&air, &[PAGE, FIELD]), direct)
+    [count(&air, &[PAGE, FIELD]), direct, no, yes]
 }
 
 #[test]
 fn every_run() {
     let program = build("cc", C99, "examples/receiver.c", "receiver_c99");
-    let (next, sums) = (AtomicUsize::new(0), Mutex::new((0, 0)));
+    let (next, sums) = (AtomicUsize::new(0), Mutex::new([0; 4]));
     let work = || {
         while let Some(scenario) = all().get(next.fetch_add(1, Relaxed)) {
             let recording = scenario.run(SEED).bytes;
-            let (pages, direct) = compare_cut(scenario.name, &recording, &program);
+            let counts = compare_cut(scenario.name, &recording, &program);
             let mut sums = sums.lock().expect("no other thread failed");
-            *sums = (sums.0 + pages, sums.1 + direct);
+            sums.iter_mut().zip(counts).for_each(|(sum, n)| *sum += n);
         }
     };
     let threads = thread::available_parallelism().map_or(1, usize::from);
@@ -141,8 +217,10 @@ fn every_run() {
             scope.spawn(work);
         });
     });
-    let (pages, direct) = sums.into_inner().expect("no thread failed");
+    let [pages, direct, no, yes] = sums.into_inner().expect("no thread failed");
     println!("{pages} pages, {direct} sub-frames that no page can bring");
+    println!("four satellites in {yes} half minutes, not in {no}");
+    assert!(no > 100 && yes > 100, "{no}, {yes}");
     assert!(
         pages > 15 * 100 * direct,
         "{pages} pages, {direct} sub-frames"
@@ -167,19 +245,23 @@ fn after_each_verdict() {
 #[test]
 fn disturbed_air() {
     let program = build("cc", C99, "examples/receiver.c", "receiver_disturbed");
-    let mut outcomes = [0; 9];
+    let (mut outcomes, mut sums) = ([0; 9], [0; 2]);
     for name in ["fitter", "trees", "week_change", "cmac_256"] {
         let air = cut(&find(name).expect("a scenario").run(SEED).bytes);
         for seed in 0..6 {
             let air = disturbed(&air, &mut Rng::new(seed));
             let name = format!("{name}, disturbed by {seed}");
-            let want = compare(&name, &heard(&air), &air, &program);
+            let (want, asked) = compare(&name, &heard(&air), &air, &program);
+            sums.iter_mut().zip(asked).for_each(|(sum, n)| *sum += n);
             for (outcome, sum) in outcomes.iter_mut().enumerate() {
                 *sum += tags(&want, &format!("{outcome:02X}"));
             }
         }
     }
     println!("outcomes: {outcomes:?}");
+    let [no, yes] = sums;
+    println!("four satellites in {yes} half minutes, not in {no}");
+    assert!(no > 100 && yes > 100, "{no}, {yes}");
     for outcome in [1, 2, 3, 5, 8] {
         assert!(outcomes[outcome] > 100, "{outcomes:?}");
     }
@@ -193,7 +275,7 @@ fn in_cpp() {
         let name = format!("receiver_{compiler}");
         let program = build(compiler, CPP17, "examples/receiver.c", &name);
         let got = run(&program, &[], &air);
-        assert_eq!(first_difference(&got, &want), None, "{compiler}");
+        assert_eq!(compared(&got, &want).err(), None, "{compiler}");
     }
 }
 

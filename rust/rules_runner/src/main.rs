@@ -1,6 +1,7 @@
 //! The replay program over the definitions: records on standard input, lines on standard output.
 //! With `--reads FILE` it also writes to FILE what every read gives after the last record, with `--candidates FILE` the
-//! candidates that are held then; `--crates DIR` names the folder of crates whose definitions are run.
+//! candidates that are held then, with `--four FILE` the least limit with which four satellites have a recent authentic
+//! set; `--crates DIR` names the folder of crates whose definitions are run.
 
 #![forbid(unsafe_code)]
 
@@ -18,6 +19,7 @@ struct Options {
     crates: PathBuf,
     reads: Option<PathBuf>,
     candidates: Option<PathBuf>,
+    four: Option<PathBuf>,
 }
 
 fn options() -> Option<Options> {
@@ -25,6 +27,7 @@ fn options() -> Option<Options> {
         crates: concat!(env!("CARGO_MANIFEST_DIR"), "/../../crates").into(),
         reads: None,
         candidates: None,
+        four: None,
     };
     let mut arguments = std::env::args().skip(1);
     while let Some(argument) = arguments.next() {
@@ -32,6 +35,7 @@ fn options() -> Option<Options> {
             "--crates" => options.crates = arguments.next()?.into(),
             "--reads" => options.reads = Some(arguments.next()?.into()),
             "--candidates" => options.candidates = Some(arguments.next()?.into()),
+            "--four" => options.four = Some(arguments.next()?.into()),
             _ => return None,
         }
     }
@@ -50,12 +54,15 @@ fn run(options: &Options) -> Result<(), Box<dyn Error + Send + Sync>> {
     if let Some(path) = &options.candidates {
         fs::write(path, replayed.candidates)?;
     }
+    if let Some(path) = &options.four {
+        fs::write(path, replayed.four)?;
+    }
     Ok(())
 }
 
 fn main() -> ExitCode {
     let Some(options) = options() else {
-        eprintln!("usage: rules_runner [--crates DIR] [--reads FILE] [--candidates FILE] < INPUT");
+        eprintln!("usage: rules_runner [--crates DIR] [--reads FILE] [--candidates FILE] [--four FILE] < INPUT");
         return ExitCode::from(2);
     };
     match with_large_stack(|| run(&options)) {

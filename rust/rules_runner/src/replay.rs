@@ -53,23 +53,58 @@ fn candidates(run: &Run) -> String {
     (1..=36).filter_map(line).collect()
 }
 
-/// What a replay program prints for an input, what all reads give after it, and the candidates that are held then.
+/// The least limit with which four satellites have a recent authentic set: `F LIMIT`, or `F -` where none is enough. A
+/// limit below which the answer is no and from which on it is yes is searched for.
+fn four(run: &Run) -> String {
+    let yes = |limit| {
+        let answer = run.four(limit);
+        assert_eq!(answer.number, 0, "a state of the right lengths");
+        answer.yes == 1
+    };
+    if !yes(u32::MAX) {
+        return "F -\n".into();
+    }
+    let (mut low, mut high) = (0, u32::MAX);
+    while low < high {
+        let middle = low + (high - low) / 2;
+        match yes(middle) {
+            true => high = middle,
+            false => low = middle + 1,
+        }
+    }
+    format!("F {high}\n")
+}
+
+/// What a replay program prints for an input, what all reads give after it, the candidates that are held then, and the
+/// least limit with which four satellites have a recent authentic set.
 pub struct Replayed {
     pub lines: String,
     pub reads: String,
     pub candidates: String,
+    pub four: String,
 }
 
 /// The definition of one record is run for each; `whole` runs that of a whole input.
 pub fn replay(rules: &Rules, input: &[u8]) -> Replayed {
+    replay_and_ask(rules, input, |_, _| {})
+}
+
+/// The same; `each` sees each record and the core as it left it.
+pub fn replay_and_ask(rules: &Rules, input: &[u8], mut each: impl FnMut(&[u8], &Run)) -> Replayed {
     let mut replay = Replay::new(rules);
     let records = input.chunks(INPUT_LEN);
-    let lines = records.map(|record| replay.record(record)).collect();
+    let lines = records.map(|record| {
+        let lines = replay.record(record);
+        each(record, &replay.run());
+        lines
+    });
+    let lines = lines.collect();
     let run = replay.run();
     Replayed {
         lines,
         reads: reads(rules, replay.started(), &run),
         candidates: candidates(&run),
+        four: four(&run),
     }
 }
 

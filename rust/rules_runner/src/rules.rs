@@ -73,6 +73,12 @@ pub struct OfferAnswer {
     pub key_type: u64,
 }
 
+/// Whether four satellites have a recent authentic set (02, P5).
+pub struct FourAnswer {
+    pub number: u64,
+    pub yes: u64,
+}
+
 /// A run of the definitions: the state that the last call left.
 pub struct Run<'r> {
     rules: &'r Rules,
@@ -425,6 +431,15 @@ impl Run<'_> {
             key: self.rules.bytes(&read, "key"),
             id: self.rules.number(&read, "id"),
             key_type: self.rules.number(&read, "type"),
+        }
+    }
+
+    pub fn four(&self, limit: u32) -> FourAnswer {
+        let arguments = vec![self.state.clone(), Value::Number(limit.into())];
+        let read = self.rules.call("rules.Calls.fourRead", arguments);
+        FourAnswer {
+            number: self.rules.number(&read, "code"),
+            yes: self.rules.number(&read, "yes"),
         }
     }
 }

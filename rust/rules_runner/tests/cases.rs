@@ -1,4 +1,4 @@
-//! The definitions give the lines, the reads and the candidates that are recorded for the replay inputs.
+//! The definitions give the lines, the reads, the candidates and the least limits that are recorded for the replay inputs.
 
 mod common;
 
@@ -10,13 +10,14 @@ use std::fs;
 use std::path::{Path, PathBuf};
 
 /// The recorded inputs that are run here.
-const RUN: [&str; 25] = [
+const RUN: [&str; 26] = [
     "P1_cmac_nominal",
     "P1_mf_changes",
     "P3_hkroot",
     "P3_lost_2_128_12",
     "P4_candidates",
     "P4_nominal",
+    "P5_four",
     "a_empty",
     "a_example",
     "a_framing",
@@ -47,11 +48,12 @@ fn folder() -> PathBuf {
 
 fn read(name: &str, extension: &str) -> Vec<u8> {
     let path = folder().join(name).with_extension(extension);
-    // Where there are no candidates there is no file of them.
-    if extension == "candidates" && !path.exists() {
-        return Vec::new();
+    // Where there are no candidates, or no limit is enough, there is no file of them.
+    match extension {
+        "candidates" if !path.exists() => Vec::new(),
+        "four" if !path.exists() => b"F -\n".to_vec(),
+        _ => fs::read(&path).unwrap_or_else(|error| panic!("{}: {error}", path.display())),
     }
-    fs::read(&path).unwrap_or_else(|error| panic!("{}: {error}", path.display()))
 }
 
 fn check(names: &[&str]) {
@@ -63,6 +65,7 @@ fn check(names: &[&str]) {
                 ("out", got.lines),
                 ("reads", got.reads),
                 ("candidates", got.candidates),
+                ("four", got.four),
             ] {
                 let want = String::from_utf8(read(name, extension)).unwrap();
                 if let Some(difference) = first_difference(&got, &want) {

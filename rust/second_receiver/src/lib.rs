@@ -18,6 +18,7 @@
 //! - `verdict`: the message that waits and what a verdict on it does;
 //! - `mack`: the layout of a MACK section, what of it is missing, and the check of its keys;
 //! - `sets`: authentic sets and candidates;
+//! - `four`: how recent the tags of authentic sets are;
 //! - `tags`: MACSEQ, tag outcomes, waiting tags, tag records;
 //! - `receiver`: the calls of 01 over the whole state;
 //! - `replay`: the replay program's format.
@@ -26,6 +27,7 @@
 
 pub mod bits;
 pub mod chain;
+pub mod four;
 pub mod gather;
 pub mod kroot;
 pub mod mac;

@@ -1,10 +1,11 @@
 //! The replay program of the second receiver: records on standard input, lines on standard output.
 //! With `--reads FILE` it also writes to FILE what every read gives after the last record, with
-//! `--candidates FILE` the candidates that are held then.
+//! `--candidates FILE` the candidates that are held then, with `--four FILE` the least limit with
+//! which four satellites have a recent authentic set.
 
 #![forbid(unsafe_code)]
 
-use second_receiver::replay::{replay, write_candidates, write_reads};
+use second_receiver::replay::{replay, write_candidates, write_four, write_reads};
 use std::fs::File;
 use std::io::{self, BufReader, BufWriter};
 use std::process::ExitCode;
@@ -13,6 +14,7 @@ use std::process::ExitCode;
 struct Options {
     reads: Option<String>,
     candidates: Option<String>,
+    four: Option<String>,
 }
 
 fn options() -> Option<Options> {
@@ -22,6 +24,7 @@ fn options() -> Option<Options> {
         let file = match argument.as_str() {
             "--reads" => &mut options.reads,
             "--candidates" => &mut options.candidates,
+            "--four" => &mut options.four,
             _ => return None,
         };
         *file = Some(arguments.next()?);
@@ -40,12 +43,17 @@ fn run(options: &Options) -> io::Result<()> {
     if let Some(path) = &options.candidates {
         write_candidates(&receiver, BufWriter::new(File::create(path)?))?;
     }
+    if let Some(path) = &options.four {
+        write_four(&receiver, BufWriter::new(File::create(path)?))?;
+    }
     Ok(())
 }
 
 fn main() -> ExitCode {
     let Some(options) = options() else {
-        eprintln!("usage: second_receiver [--reads FILE] [--candidates FILE] < INPUT");
+        eprintln!(
+            "usage: second_receiver [--reads FILE] [--candidates FILE] [--four FILE] < INPUT"
+        );
         return ExitCode::from(2);
     };
     match run(&options) {

@@ -1,6 +1,7 @@
 //! The calls of 01 over the whole state. Each gives its numbers in 01's order of checks.
 
 use crate::chain::Chain;
+use crate::four;
 use crate::gather::{nma_status, Dsm, DsmStore, Gathered, Hkroot, HKROOT_LEN};
 use crate::kroot;
 use crate::mack::{self, Layout, Missing, Section, SECTION_LEN};
@@ -413,6 +414,19 @@ impl Receiver {
             key_id: public.id,
             key_type: public.key_type,
         }
+    }
+
+    /// Whether at least four satellites have an authentic set whose tag came within `limit`
+    /// sub-frames of the last one noted (02, P5).
+    pub fn four(&self, limit: u32) -> bool {
+        four::met(self.least_limit(), limit)
+    }
+
+    /// The least limit with which [`Receiver::four`] says yes, if there is one.
+    pub fn least_limit(&self) -> Option<u64> {
+        // Candidates do not count (B33).
+        let sets = (1..=SATELLITES as u8).filter_map(|prn| self.authentic_set(prn));
+        four::least_limit(self.last_subframe, sets.map(|held| held.time))
     }
 }
 

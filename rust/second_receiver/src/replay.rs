@@ -123,6 +123,16 @@ pub fn write_candidates(receiver: &Receiver, mut output: impl Write) -> io::Resu
     output.flush()
 }
 
+/// Writes `F LIMIT`, the least limit with which four satellites have a recent authentic set, or `F -` where no limit is
+/// enough.
+pub fn write_four(receiver: &Receiver, mut output: impl Write) -> io::Result<()> {
+    match receiver.least_limit() {
+        Some(limit) => writeln!(output, "F {limit}")?,
+        None => writeln!(output, "F -")?,
+    }
+    output.flush()
+}
+
 /// Writes what every read gives: `A PRN 0 SET IODnav GST_SF` or `A PRN 16` for PRN 1 to 36, then
 /// `W 0 KEYID MESSAGE SIGNATURE TYPE KEY` or `W 14`; `no start` alone before an accepted start.
 pub fn write_reads(receiver: &Receiver, mut output: impl Write) -> io::Result<()> {

@@ -1,6 +1,6 @@
-//! Every replay input under tests/cases gives the lines, the reads and the candidates beside it.
+//! Every replay input under tests/cases gives the lines, the reads, the candidates and the least limit beside it.
 
-use second_receiver::replay::{replay, write_candidates, write_reads};
+use second_receiver::replay::{replay, write_candidates, write_four, write_reads};
 use std::fs;
 use std::path::Path;
 
@@ -29,23 +29,29 @@ fn all_cases() {
             continue;
         }
         count += 1;
-        let (mut lines, mut reads, mut candidates) = (Vec::new(), Vec::new(), Vec::new());
+        let [mut lines, mut reads, mut candidates, mut four] = [const { Vec::new() }; 4];
         let receiver = replay(&fs::read(&path).unwrap()[..], &mut lines).unwrap();
         write_reads(&receiver, &mut reads).unwrap();
         write_candidates(&receiver, &mut candidates).unwrap();
-        for (extension, got) in [("out", lines), ("reads", reads), ("candidates", candidates)] {
+        write_four(&receiver, &mut four).unwrap();
+        for (extension, got) in [
+            ("out", lines),
+            ("reads", reads),
+            ("candidates", candidates),
+            ("four", four),
+        ] {
             let file = path.with_extension(extension);
-            // Where there are no candidates there is no file of them.
-            let want = if extension == "candidates" && !file.exists() {
-                Vec::new()
-            } else {
-                fs::read(file).unwrap()
+            // Where there are no candidates, or no limit is enough, there is no file of them.
+            let want = match extension {
+                "candidates" if !file.exists() => Vec::new(),
+                "four" if !file.exists() => b"F -\n".to_vec(),
+                _ => fs::read(file).unwrap(),
             };
             if let Some(difference) = first_difference(&got, &want) {
                 differences.push(format!("{} {extension} {difference}", path.display()));
             }
         }
     }
-    assert_eq!(count, 26, "inputs found");
+    assert_eq!(count, 27, "inputs found");
     assert!(differences.is_empty(), "{}", differences.join("\n"));
 }

@@ -4,7 +4,6 @@
 mod common;
 
 use common::*;
-use portable_hash::sha256;
 use second_receiver::Receiver;
 
 const T: u32 = 1000 << 20 | 36_000;
@@ -336,25 +335,6 @@ fn number_3_words() {
         assert_eq!(bench.receiver.word(5, later(T, 9), &other), 0);
     }
     assert_eq!(bench.receiver, before);
-}
-
-/// A tree whose leaf `at` is `leaf`: its root and a DSM-PKR of `blocks` blocks.
-fn tree_message(leaf: &[u8], at: u8, blocks: usize) -> (Vec<u8>, Vec<u8>) {
-    let nodes: Vec<[u8; 32]> = (0..4).map(|level| sha256(&[at, level])).collect();
-    let root = (0..4).fold(sha256(leaf), |hash, level| match at >> level & 1 {
-        1 => sha256(&[nodes[level], hash].concat()),
-        _ => sha256(&[hash, nodes[level]].concat()),
-    });
-    let mut dsm = [&[(blocks as u8 - 6) << 4 | at], &nodes.concat()[..], leaf].concat();
-    dsm.resize(blocks * 13, 0x5A);
-    (root.to_vec(), dsm)
-}
-
-/// A leaf with `len` bytes of key.
-fn leaf(key_type: u8, id: u8, len: usize) -> Vec<u8> {
-    let mut leaf = vec![key_type << 4 | id];
-    leaf.extend((0..len).map(|i| i as u8 ^ 0x3C));
-    leaf
 }
 
 /// A receiver whose tree proves `leaf`, and its HKROOT number for the DSM-PKR of `blocks` blocks.

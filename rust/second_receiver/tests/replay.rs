@@ -307,9 +307,11 @@ fn the_program() {
     assert_eq!(fs::read_to_string(&file).unwrap(), "no start\n");
     assert_eq!(run(&["--reads", path], &example()).0, Some(0));
     let reads = fs::read_to_string(&file).unwrap();
-    fs::remove_file(&file).unwrap();
     assert_eq!(
         (reads.lines().count(), reads.lines().last()),
         (37, Some("W 14"))
     );
+    assert_eq!(run(&["--four", path], &example()).0, Some(0));
+    assert_eq!(fs::read_to_string(&file).unwrap(), "F -\n");
+    fs::remove_file(&file).unwrap();
 }

@@ -113,6 +113,8 @@ pub struct Expects {
     pub outcomes: Vec<(usize, Vec<u8>)>,
     /// PRN, what a read of its authentic set gives at the end.
     pub reads: Vec<(u8, Read)>,
+    /// Place, the least limit with which four satellites then have a recent authentic set (02, P5), if any is enough.
+    pub least: Vec<(usize, Option<u64>)>,
     /// Outcomes that some tag record must have.
     pub some: Vec<u8>,
     /// Outcomes that no tag record may have.
@@ -164,6 +166,12 @@ impl Run {
     pub fn outcomes(&mut self, outcomes: &[u8]) {
         let place = self.places();
         self.expects.outcomes.push((place, outcomes.to_vec()));
+    }
+
+    /// States the least limit with which four satellites have a recent authentic set after the last record.
+    pub fn least(&mut self, least: Option<u64>) {
+        let place = self.places();
+        self.expects.least.push((place, least));
     }
 
     /// Compares what a replay program printed, and what its reads gave if known, with what the run intends. Reads are

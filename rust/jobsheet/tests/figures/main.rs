@@ -182,6 +182,10 @@ impl Reads for Given {
     fn message(&self) -> Option<WaitingMessage> {
         None
     }
+
+    fn four(&self, _: u32) -> bool {
+        false
+    }
 }
 
 // Other bits under the same IODnav are another set: it has an entry of its own. The read is made by
@@ -607,46 +611,140 @@ fn attribute(text: &str, name: &str) -> Option<usize> {
         .ok()
 }
 
-// The rows over the strips: how many satellites were marked in the last 5 and 10 minutes.
+/// A row over the strips, as it is drawn: of each cell how many satellites were marked lately, and whether four.
+fn drawn_lately(drawings: &str, limit: u64) -> Vec<Option<(usize, bool)>> {
+    let mut shown = Vec::new();
+    let mut rest = drawings;
+    while let Some((row, after)) = between(rest, &format!("data-lately=\"{limit}\""), "</g>") {
+        for rect in row.split("<rect ").skip(1) {
+            let count = attribute(rect, "data-count");
+            let four = between(rect, "data-four=\"", "\"").unwrap().0;
+            // Dark, light or with a border; in words where there is room.
+            let class = between(rect, "class=\"", "\"").unwrap().0;
+            let classes: &[&str] = match four {
+                "no" => &["few"],
+                "yes" => &["just", "enough"],
+                _ => &["none"],
+            };
+            assert!(classes.contains(&class), "{rect}");
+            assert_eq!(class == "just", four == "yes" && count == Some(4), "{rect}");
+            let told = between(rect, "<text ", "</text>").unwrap().0;
+            let told = told.split_once('>').unwrap().1;
+            let figure = count.map_or(String::new(), |n| n.to_string());
+            let cells = attribute(rect, "data-cells").unwrap();
+            let in_words = count.is_some() && told == format!("{four}, {figure}");
+            let in_short = (cells < 5 || count.is_none()) && told == figure;
+            assert!(in_words || in_short, "{rect}");
+            shown.extend(vec![count.map(|n| (n, four == "yes")); cells]);
+        }
+        rest = after;
+    }
+    shown
+}
+
+/// The same in the text.
+fn written_lately(text: &str, minutes: u64) -> (String, String) {
+    let (mut yes, mut figures) = (String::new(), String::new());
+    let mut lines = text.lines();
+    while let Some(line) = lines.next() {
+        let Some(row) = line.strip_prefix(&format!("  {minutes:>2}m  ")) else {
+            continue;
+        };
+        let end = format!("  4 marked, {minutes} min");
+        yes.push_str(row.strip_suffix(&end).unwrap());
+        let row = lines.next().unwrap().strip_prefix("       ").unwrap();
+        figures.push_str(row.strip_suffix("  so many").unwrap());
+    }
+    (yes, figures)
+}
+
+// The rows over the strips: whether four satellites were marked in the last 5 and 10 minutes, and how many. The core
+// says yes exactly where there are four by the second receiver's reads.
 #[test]
 fn marked_lately() {
-    let mut counts = BTreeSet::new();
+    let mut seen = BTreeSet::new();
     for (name, bytes, all) in shown() {
         for run in 0..all.runs.len() {
             let right = Expected::of_run(name, bytes, all, run);
-            let (page, _) = run_page(name, all, run);
+            let (page, text) = run_page(name, all, run);
             let step = sheet_of(name, all, run).runs[0].overview.step;
             let (front, detail) = drawings(&page);
-            for (drawings, step) in [(front, step), (detail, 1)] {
-                for limit in [10, 20] {
-                    let mut shown = Vec::new();
-                    let mut rest = drawings;
-                    while let Some((row, after)) =
-                        between(rest, &format!("data-lately=\"{limit}\""), "</g>")
-                    {
-                        for rect in row.split("<rect ").skip(1) {
-                            let count = attribute(rect, "data-count");
-                            let told = between(rect, "<text ", "</text>").unwrap().0;
-                            let told = told.split_once('>').unwrap().1;
-                            assert_eq!(told, count.map_or(String::new(), |n| n.to_string()));
-                            let few =
-                                rect.contains("class=\"few\"") || rect.contains("class=\"just\"");
-                            assert_eq!(few, count.is_some_and(|n| n <= 4), "{name}: {rect}");
-                            shown.extend(vec![count; attribute(rect, "data-cells").unwrap()]);
-                        }
-                        rest = after;
-                    }
-                    assert_eq!(
-                        shown,
-                        right.lately(limit, step),
-                        "{name}, run {run}, {limit}"
-                    );
-                    counts.extend(shown);
+            for limit in [10, 20] {
+                for (drawings, step) in [(front, step), (detail, 1)] {
+                    let with_four = |count: Option<usize>| count.map(|n| (n, n >= 4));
+                    let right = right.lately(limit, step).into_iter().map(with_four);
+                    let right = Vec::from_iter(right);
+                    let shown = drawn_lately(drawings, limit);
+                    assert_eq!(shown, right, "{name}, run {run}, {limit}");
+                    seen.extend(shown);
                 }
+                // Several half minutes a cell, then each.
+                let right = match step {
+                    1 => right.lately(limit, 1),
+                    _ => [right.lately(limit, step), right.lately(limit, 1)].concat(),
+                };
+                let sign = |count: &Option<usize>| match count {
+                    None => ' ',
+                    Some(0..4) => 'n',
+                    Some(_) => 'y',
+                };
+                let digit = |n: usize| char::from_digit(n as u32, 10).unwrap_or('+');
+                let figure = |count: &Option<usize>| count.map_or(' ', digit);
+                let right = (
+                    right.iter().map(sign).collect(),
+                    right.iter().map(figure).collect(),
+                );
+                assert_eq!(written_lately(&text, limit / 2), right, "{name}, run {run}");
             }
         }
     }
-    assert!(counts.len() > 8, "{counts:?}");
+    assert!(seen.len() > 8, "{seen:?}");
+    assert!(seen.contains(&Some((3, false))) && seen.contains(&Some((4, true))));
+}
+
+/// A core that says the contrary of four satellites.
+struct Contrary<'a>(&'a osnma::Core);
+
+impl Reads for Contrary<'_> {
+    fn set(&self, prn: u8) -> Option<AuthenticSet> {
+        self.0.set(prn)
+    }
+
+    fn message(&self) -> Option<WaitingMessage> {
+        self.0.message()
+    }
+
+    fn four(&self, limit: u32) -> bool {
+        !self.0.four(limit)
+    }
+}
+
+// Yes and no are the core's, not the count's: where the core says the contrary, rows and box say it too.
+#[test]
+fn four_is_the_cores_answer() {
+    let bytes = recording("fitter");
+    let (mut receiver, mut all) = (Receiver::new(), History::default());
+    for record in Reader::new(&bytes[..]) {
+        let record = record.unwrap();
+        let answer = receiver.answer(&record);
+        all.note(&record, &answer, &Contrary(receiver.core()));
+    }
+    let right = history(&bytes);
+    let (page, text) = run_page("fitter", &all, 0);
+    let (right_page, right_text) = run_page("fitter", &right, 0);
+    for limit in [10, 20] {
+        let row = drawn_lately(drawings(&page).0, limit).into_iter();
+        let contrary = row.map(|cell| cell.map(|(n, four)| (n, !four)));
+        let right = drawn_lately(drawings(&right_page).0, limit);
+        assert_eq!(Vec::from_iter(contrary), right);
+        let (yes, figures) = written_lately(&text, limit / 2);
+        let (right_yes, right_figures) = written_lately(&right_text, limit / 2);
+        let contrary = yes.replace('y', "-").replace('n', "y").replace('-', "n");
+        assert_eq!((contrary, figures), (right_yes, right_figures));
+    }
+    let words = sheet_of("fitter", &all, 0).runs[0].finding.text.join(" ");
+    let told = "it had them from 00:00:00 on, but in 58 half minutes";
+    assert!(words.contains(told), "{words}");
 }
 
 // The line under the cells: when the satellite was heard itself.

@@ -1,12 +1,14 @@
 /*
  * The calls of include/osnma.h from C: a start, words, sub-frames, what waits and its verdicts, reads,
  * and each refusal that they can give, but for those of a sub-frame that take a tree of public keys.
- * After every call all regions are compared with what they must hold. Stops with a message and a status
- * other than 0 at the first difference. Compiles as C99 and as C++.
+ * After every call all regions are compared with what they must hold, but after those questions of
+ * `test_any_four` that are answered yes. Stops with a message and a status other than 0 at the first
+ * difference. Compiles as C99 and as C++.
  *
  * Annex A of the specification gives the sub-frames that bring a root, a section and its tags. Before
- * them the test writes what only sub-frames bring into the core itself (`wait_for`, `tag_waits`,
- * `config[62]`).
+ * them, and where the answers of reads and questions are tried, the test writes what only sub-frames
+ * bring into the core itself (`wait_for`, `tag_waits`, `hold_sets`, `agree_before`, `mark` and `unmark`,
+ * `note`, `config[62]`).
  */
 #include <osnma.h>
 
@@ -965,6 +967,138 @@ static void test_key_messages(void)
     send_message(t + 120, 0x82, 15, dsm, 13, OSNMA_TREE_UNFIT);
 }
 
+/* ---- four satellites */
+
+static void check_four(uint32_t limit, int right, int line)
+{
+    int yes = osnma_four(&core, limit);
+    calls++;
+    checks++;
+    if (yes != right) {
+        fprintf(stderr, "calls.c:%d: four within %lu: %d, not %d\n", line, (unsigned long)limit, yes,
+                right);
+        exit(1);
+    }
+    check_regions(line);
+}
+
+/* The question with this limit is answered 1 or 0, and the core stays. */
+#define FOUR(limit, yes) check_four(limit, yes, __LINE__)
+
+/* What only tags do: the satellite has an authentic set whose tag came at `time`. */
+static void mark(unsigned prn, uint32_t time)
+{
+    core.arrivals[prn - 1] = want.arrivals[prn - 1] = time + 1;
+}
+
+/* It has none. */
+static void unmark(unsigned prn)
+{
+    core.arrivals[prn - 1] = want.arrivals[prn - 1] = 0;
+}
+
+/* What only sub-frames do: this is the last that was noted. */
+static void note(uint32_t time)
+{
+    core.clocks[0] = want.clocks[0] = time + 1;
+}
+
+/* Zeros from a satellite: the time is noted. */
+static void send_zeros(unsigned prn, uint32_t time)
+{
+    memset(fields, 0, sizeof fields);
+    want_noted(prn, time);
+    HALVES(prn, time, OSNMA_ALL_ZERO, OSNMA_ALL_ZERO, 0);
+}
+
+/* Any four of the 36, no other has a set: yes. Without one of the four: no. */
+static void test_any_four(uint32_t time)
+{
+    unsigned a, b, c, d, prn;
+    for (prn = 1; prn <= OSNMA_SATELLITES; prn++)
+        unmark(prn);
+    for (a = 1; a <= OSNMA_SATELLITES; a++) {
+        mark(a, time);
+        for (b = a + 1; b <= OSNMA_SATELLITES; b++) {
+            mark(b, time);
+            for (c = b + 1; c <= OSNMA_SATELLITES; c++) {
+                mark(c, time);
+                FOUR(0xFFFFFFFFu, 0);
+                for (d = c + 1; d <= OSNMA_SATELLITES; d++) {
+                    mark(d, time);
+                    CHECK(osnma_four(&core, 0) == 1);
+                    unmark(d);
+                }
+                unmark(c);
+            }
+            unmark(b);
+        }
+        unmark(a);
+    }
+}
+
+static void test_four(void)
+{
+    const uint32_t t = osnma_gst(947, 432000);
+    unsigned prn;
+    start();
+    FOUR(0, 0);
+    FOUR(0xFFFFFFFFu, 0);
+    /* Before the first sub-frame no set counts, and a word is none. */
+    hold_sets();
+    make_word(1, 0, 3);
+    want_word(5, t);
+    ANSWERS(osnma_word(&core, 5, t, word), OSNMA_DONE);
+    FOUR(0xFFFFFFFFu, 0);
+    /* Four sets, and candidates of every satellite: the fourth is the oldest. */
+    for (prn = 1; prn <= OSNMA_SATELLITES; prn++)
+        unmark(prn);
+    mark(1, t - 30);
+    mark(2, t - 300);
+    mark(35, t);
+    send_zeros(9, t);
+    FOUR(0xFFFFFFFFu, 0);
+    mark(36, t);
+    FOUR(9, 0);
+    FOUR(10, 1);
+    FOUR(0xFFFFFFFFu, 1);
+    /* Each sub-frame that is noted ages them, whoever sends it; one that is refused does not. */
+    HALVES(9, t, OSNMA_OUT_OF_ORDER, OSNMA_OUT_OF_ORDER, 0);
+    HALVES(8, t + 1, OSNMA_OUT_OF_RANGE, OSNMA_OUT_OF_RANGE, 0);
+    FOUR(10, 1);
+    send_zeros(9, t + 30);
+    FOUR(10, 0);
+    FOUR(11, 1);
+    /* A stopped core answers too, and its clock stays. */
+    core.config[62] = want.config[62] = 1;
+    HALVES(7, t + 60, OSNMA_STOPPED, OSNMA_STOPPED, 0);
+    FOUR(10, 0);
+    FOUR(11, 1);
+    /* Over the end of a week, to the last one; rounded down; a tag that is later than the clock. */
+    mark(2, osnma_gst(947, 604500));
+    note(osnma_gst(948, 0));
+    mark(1, osnma_gst(948, 0));
+    mark(35, osnma_gst(948, 0));
+    mark(36, osnma_gst(948, 0));
+    FOUR(9, 0);
+    FOUR(10, 1);
+    note(osnma_gst(948, 29));
+    FOUR(9, 0);
+    FOUR(10, 1);
+    note(osnma_gst(948, 30));
+    FOUR(10, 0);
+    FOUR(11, 1);
+    note(osnma_gst(4095, 604770));
+    mark(2, 0);
+    FOUR(4096u * 20160u - 2u, 0);
+    FOUR(4096u * 20160u - 1u, 1);
+    note(0);
+    FOUR(0, 1);
+    test_any_four(t);
+    start();
+    FOUR(0xFFFFFFFFu, 0);
+}
+
 /* ---- counts that are wrong, by the calls over single regions */
 
 enum { REGIONS = 16 };
@@ -979,6 +1113,7 @@ enum {
     WORD_REGIONS = 0x000F,    /* config, clocks, words, stamps */
     VERDICT_REGIONS = 0xBF01, /* config, pubkeys, offer, chain, numbers, heldkey, waiting, arrivals */
     SET_REGIONS = 0xC000,     /* sets, arrivals */
+    FOUR_REGIONS = 0x8002,    /* clocks, arrivals */
     MESSAGE_REGIONS = 0x0300  /* pubkeys, offer */
 };
 
@@ -1043,6 +1178,16 @@ static enum osnma_answer counted_read_set(const size_t *n)
     return answer;
 }
 
+/* Yes where the counts are right. */
+static enum osnma_answer counted_four(const size_t *n)
+{
+    uint8_t yes = 0x5A;
+    enum osnma_answer answer =
+        (enum osnma_answer)osnma_regions_four(core.clocks, n[1], core.arrivals, n[15], 0xFFFFFFFFu, &yes);
+    CHECK(yes == (answer == OSNMA_DONE ? 1 : 0));
+    return answer;
+}
+
 static enum osnma_answer counted_read_message(const size_t *n)
 {
     struct osnma_message got;
@@ -1096,6 +1241,10 @@ static void test_counts(void)
     static const size_t of_start[3] = {28, 32, 67}, of_word[1] = {16}, of_verdict[2] = {45, 132},
                         of_set[1] = {69}, of_subframe[2] = {75, 3240};
     static const size_t of_message[3] = {45, 132, 67};
+    start();
+    hold_sets();
+    note(osnma_gst(947, 432000));
+    short_counts(counted_four, FOUR_REGIONS, NULL, 0, OSNMA_DONE);
     start();
     make_message(1, 0, 0, 947, 120);
     wait_for(3);
@@ -1162,6 +1311,7 @@ int main(int argc, char **argv)
     }
     with_marks = 0;
     test_missing();
+    test_four();
     test_counts();
     printf("%lu calls, %lu checks\n", calls, checks);
     return 0;

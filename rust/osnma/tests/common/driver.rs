@@ -2,6 +2,7 @@
 
 use super::draw;
 use super::loose::{parts, refused, regions_of, WRONG};
+use super::stamps;
 use super::twin::{Answer, Call, Kind, Twin};
 use second_receiver::sets::{AuthenticSet, Candidate};
 use second_receiver::Receiver;
@@ -16,13 +17,14 @@ use std::fmt;
 use std::rc::Rc;
 
 /// The numbers that each call can answer, those of a sub-frame's HKROOT half.
-const ANSWERS: [(Kind, &[u32]); 6] = [
+const ANSWERS: [(Kind, &[u32]); 7] = [
     (Kind::Start, &[0, 1, 2]),
     (Kind::Word, &[0, 1, 2, 3, 4]),
     (Kind::Subframe, &[0, 1, 2, 3, 4, 5, 6, 7, 8, 9, 10, 17]),
     (Kind::Verdict, &[0, 1, 2, 4, 9, 11, 14, 15]),
     (Kind::ReadSet, &[0, 1, 2, 16]),
     (Kind::ReadMessage, &[0, 1, 14]),
+    (Kind::Four, &[0, 1]),
 ];
 
 /// The numbers that a sub-frame's MACK half can answer.
@@ -69,6 +71,8 @@ pub struct Tally {
     mack: BTreeMap<u32, u64>,
     outcomes: BTreeMap<u8, u64>,
     events: BTreeMap<&'static str, u64>,
+    /// Whether four satellites have a recent set: no, yes.
+    asked: [u64; 2],
     pub calls: u64,
     /// Most tag records of a sub-frame.
     pub records: usize,
@@ -84,7 +88,17 @@ impl Tally {
             *self.outcomes.entry(outcome).or_default() += 1;
         }
         self.records = self.records.max(answer.tags.len());
+        let [no, yes] = answer.asked;
+        self.asked = [self.asked[0] + no, self.asked[1] + yes];
+        self.question(0, no + yes);
         self.calls += 1;
+    }
+
+    /// Questions whether four satellites have a recent set; they are no calls of the sequence.
+    fn question(&mut self, number: u32, count: u64) {
+        if count > 0 {
+            *self.answers.entry((Kind::Four, number)).or_default() += count;
+        }
     }
 
     fn event(&mut self, event: &'static str) {
@@ -107,6 +121,9 @@ impl Tally {
         missing.extend(MACK.iter().filter(never).map(|n| format!("MACK {n}")));
         let never = |outcome: &u8| !self.outcomes.contains_key(outcome);
         missing.extend((1..=9).filter(never).map(|n| format!("outcome {n}")));
+        let told = ["four: no", "four: yes"].into_iter().zip(self.asked);
+        let never = told.filter(|(_, count)| *count == 0);
+        missing.extend(never.map(|(what, _)| what.to_string()));
         missing
     }
 
@@ -136,6 +153,8 @@ impl fmt::Display for Tally {
         writeln!(f, "{:>13}:{mack}", "its MACK half")?;
         let outcomes = counts(self.outcomes.iter().map(|(number, count)| (number, *count)));
         writeln!(f, "{:>13}:{outcomes}", "outcomes")?;
+        let [no, yes] = self.asked;
+        writeln!(f, "{:>13}:  no: {no}  yes: {yes}", "four")?;
         writeln!(f, "{:>13}  most records of a sub-frame", self.records)?;
         for (event, count) in &self.events {
             writeln!(f, "{count:>13}  {event}")?;
@@ -357,6 +376,8 @@ pub fn states(
 /// Draws calls and makes them.
 pub struct Driver {
     rng: Rng,
+    /// For what is asked between the calls.
+    asks: Rng,
     tree: Tree,
     functions: MacFunctions,
     pages: Pages,
@@ -387,6 +408,7 @@ impl Driver {
             state: State::new(&mut rng),
             left: 0,
             queue: Vec::new(),
+            asks: Rng::new(!seed),
             rng,
             tally: Tally::default(),
         })
@@ -422,9 +444,13 @@ impl Driver {
             0 => State::new(rng),
             _ => rng.pick(&self.states).clone(),
         };
+        self.state.twin.asks = Rng::new(self.asks.number());
     }
 
     fn step(&mut self) -> Result<Answer, String> {
+        if self.asks.once_in(64) {
+            self.wrong_question()?;
+        }
         if let Some(call) = self.queue.pop() {
             return self.call(&call);
         }
@@ -533,6 +559,18 @@ impl Driver {
         }
         self.tally.add(call.kind(), &answer);
         Ok(answer)
+    }
+}
+
+impl Driver {
+    /// Asks whether four satellites have a recent set, with one lent length wrong.
+    fn wrong_question(&mut self) -> Result<(), String> {
+        let (asks, regions) = (&mut self.asks, self.state.twin.core.regions());
+        let call = Call::Four(stamps::limit(asks, stamps::least_limit_of(regions)));
+        let (what, wrong) = (asks.pick(regions_of(&call)), *asks.pick(&WRONG));
+        refused(regions, &call, what, wrong).map_err(|error| format!("{error}, at {call:?}"))?;
+        self.tally.question(1, 1);
+        Ok(())
     }
 }
 

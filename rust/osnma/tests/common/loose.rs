@@ -89,6 +89,7 @@ pub fn regions_of(call: &Call) -> &'static [&'static str] {
         ],
         Call::ReadSet(_) => &["sets", "arrivals"],
         Call::ReadMessage => &["pubkeys", "offer"],
+        Call::Four(_) => &["clocks", "arrivals"],
     }
 }
 
@@ -101,6 +102,7 @@ pub fn parts(call: &Call) -> &'static [&'static str] {
         Call::Verdict { .. } => &["the message", "the signature"],
         Call::ReadSet(_) => &["the set"],
         Call::ReadMessage => &["the message", "the signature", "the public key"],
+        Call::Four(_) => &[],
     }
 }
 
@@ -198,6 +200,14 @@ fn answer(lent: &mut Loose, call: &Call, what: &str, wrong: Wrong) -> Result<u32
             match (id, kind) {
                 (0, 0) => stayed(&[&message, &signature, &key], number),
                 _ => Err("key ID and type are not 0"),
+            }
+        }
+        Call::Four(limit) => {
+            let mut yes = 0x5A;
+            let number = lent.view().four(*limit, &mut yes);
+            match yes {
+                0 => Ok(number),
+                _ => Err("the answer is not no"),
             }
         }
     }

@@ -4,6 +4,7 @@
 //! - `twin`: the same call into both, and all that is compared after it;
 //! - `loose`: calls with one lent length wrong;
 //! - `draw`: calls drawn at random, valid ones and ones to be refused;
+//! - `stamps`: clocks and arrivals of any contents, asked whether four tags are recent;
 //! - `driver`: long sequences of them from many states, with a tally of the answers.
 
 #![allow(dead_code)]
@@ -12,4 +13,5 @@ pub mod draw;
 pub mod driver;
 pub mod expected;
 pub mod loose;
+pub mod stamps;
 pub mod twin;

@@ -1,8 +1,10 @@
 //! The same call into the core and into the second receiver.
 
 use super::expected::{difference, write_candidates_that_stood, write_known, Block};
+use super::stamps::{least_limit_of, limit};
 use osnma::regions::Regions;
 use osnma::{Core, Gst, Marks, Records, Settings, TagRecord};
+use second_receiver::four::met;
 use second_receiver::received::Received;
 use second_receiver::Receiver;
 use signal::rng::Rng;
@@ -31,6 +33,8 @@ pub enum Call {
     },
     ReadSet(u8),
     ReadMessage,
+    /// Whether four satellites have an authentic set within this limit.
+    Four(u32),
 }
 
 #[derive(Clone, Copy, Debug, PartialEq, Eq, PartialOrd, Ord)]
@@ -41,6 +45,7 @@ pub enum Kind {
     Verdict,
     ReadSet,
     ReadMessage,
+    Four,
 }
 
 impl Call {
@@ -52,6 +57,7 @@ impl Call {
             Call::Verdict { .. } => Kind::Verdict,
             Call::ReadSet(_) => Kind::ReadSet,
             Call::ReadMessage => Kind::ReadMessage,
+            Call::Four(_) => Kind::Four,
         }
     }
 
@@ -65,12 +71,14 @@ impl Call {
 }
 
 /// What both answered: the number, for a sub-frame the HKROOT half's; the MACK half's, else 0; and of
-/// each tag judged the PRN authenticated and the outcome.
+/// each tag judged the PRN authenticated and the outcome. Then how often it was asked after the call whether four
+/// satellites have a recent set, by no and yes.
 #[derive(Clone, Debug, Default, PartialEq, Eq)]
 pub struct Answer {
     pub number: u32,
     pub mack: u32,
     pub tags: Vec<(u8, u8)>,
+    pub asked: [u64; 2],
 }
 
 impl From<u32> for Answer {
@@ -82,6 +90,9 @@ impl From<u32> for Answer {
     }
 }
 
+/// Questions after each call whether four satellites have a recent set.
+const QUESTIONS: usize = 3;
+
 /// A core, a second receiver, what the core's regions must hold, and both records areas.
 #[derive(Clone)]
 pub struct Twin {
@@ -90,6 +101,8 @@ pub struct Twin {
     pub want: Regions,
     area: Records,
     want_area: Records,
+    /// Limits are drawn from numbers of their own, so that calls are drawn as they would be without.
+    pub asks: Rng,
 }
 
 /// What a call that gives no read answers.
@@ -131,6 +144,7 @@ impl Twin {
             want,
             area,
             want_area: area,
+            asks: Rng::new(0x464F_5552),
         }
     }
 
@@ -140,13 +154,13 @@ impl Twin {
     }
 
     /// A call into both. Compares the answers, the tag records, every byte of every region and of the
-    /// record area, and what both reads give then; `prn` is the satellite that is read where the call
+    /// record area, and what the reads give then; `prn` is the satellite that is read where the call
     /// names none.
     ///
     /// Before a start the second receiver answers no call but a start; the core's answers are then
     /// those of its contents, and only starts are called.
     pub fn call(&mut self, call: &Call, prn: u8) -> Result<Answer, String> {
-        let answer = self.answers(call)?;
+        let mut answer = self.answers(call)?;
         if answer.number == 0 && call.kind() == Kind::Start {
             self.want = Regions::zeroed();
         }
@@ -154,8 +168,9 @@ impl Twin {
         if self.receiver.is_started() {
             self.read_set(call.prn().unwrap_or(prn))?;
             self.read_message()?;
-            self.compare()?;
         }
+        answer.asked = self.ask()?;
+        self.compare()?;
         Ok(answer)
     }
 
@@ -204,6 +219,7 @@ impl Twin {
             ),
             Call::ReadSet(prn) => return self.read_set(*prn).map(Answer::from),
             Call::ReadMessage => return self.read_message().map(Answer::from),
+            Call::Four(limit) => return self.four(*limit).map(|_| Answer::from(0)),
         };
         same("answer", &got, &u32::from(right))?;
         Ok(got.into())
@@ -254,6 +270,7 @@ impl Twin {
             number: hkroot,
             mack,
             tags: records.map(|record| (record[2], record[0])).collect(),
+            ..Answer::default()
         })
     }
 
@@ -326,6 +343,32 @@ impl Twin {
             Err(refusal) => same("Core::read_message", &refusal.number(), &got)?,
         }
         Ok(got)
+    }
+
+    /// The question by `Core`, and the one below it, which writes its answer over any byte. Before a
+    /// start it is about what the regions hold.
+    fn four(&mut self, limit: u32) -> Result<bool, String> {
+        let mut yes = self.asks.number() as u8;
+        let got = self.core.regions().view().four(limit, &mut yes);
+        let right = match self.receiver.is_started() {
+            true => self.receiver.four(limit),
+            false => met(least_limit_of(&self.want), limit),
+        };
+        let what = format!("four with limit {limit}");
+        same(&what, &(got, yes), &(0, right.into()))?;
+        same(&format!("Core::{what}"), &self.core.four(limit), &right)?;
+        Ok(right)
+    }
+
+    /// The question with drawn limits: how often the answer was no and yes.
+    fn ask(&mut self) -> Result<[u64; 2], String> {
+        let least = least_limit_of(&self.want);
+        let mut told = [0; 2];
+        for _ in 0..QUESTIONS {
+            let limit = limit(&mut self.asks, least);
+            told[usize::from(self.four(limit)?)] += 1;
+        }
+        Ok(told)
     }
 
     /// Any bytes wherever the second receiver knows of none: in the core's regions, and in the record

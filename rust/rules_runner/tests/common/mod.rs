@@ -2,9 +2,11 @@
 
 use rules_runner::machine::with_large_stack;
 use rules_runner::program::Hashes;
-use rules_runner::replay::replay;
-use rules_runner::rules::Rules;
+use rules_runner::replay::replay_and_ask;
+use rules_runner::rules::{Rules, Run};
+use second_receiver::receiver::RECORDS_LEN;
 use second_receiver::replay as second;
+use second_receiver::Receiver;
 use std::path::{Path, PathBuf};
 
 pub fn crates() -> PathBuf {
@@ -34,21 +36,61 @@ pub fn first_difference(got: &str, want: &str) -> Option<String> {
     None
 }
 
-/// Where the definitions and the second receiver part on an input: lines, reads after it, or candidates.
+/// Whether the definitions and the second receiver say the same of four satellites: with the least limit that is enough
+/// and the one below it, or with any where none is; with others too if all are asked.
+fn same_four(run: &Run, receiver: &Receiver, all: bool) -> Result<(), String> {
+    let least = receiver.least_limit().map(|limit| limit as u32);
+    let mut limits = vec![least.unwrap_or(u32::MAX)];
+    limits.extend(least.and_then(|limit| limit.checked_sub(1)));
+    if all {
+        limits.extend([0, 10, 20, u32::MAX]);
+    }
+    let differs = |limit: &u32| {
+        let told = run.four(*limit);
+        (told.number, told.yes) != (0, receiver.four(*limit).into())
+    };
+    match limits.into_iter().find(differs) {
+        None => Ok(()),
+        Some(limit) => Err(format!("four with limit {limit}, the least is {least:?}")),
+    }
+}
+
+/// The second receiver one record on.
+fn go_on(receiver: &mut Receiver, record: &[u8]) {
+    if let Ok(record) = record.try_into() {
+        second::answer(receiver, record, &mut [0; RECORDS_LEN]);
+    }
+}
+
+/// Where the definitions and the second receiver part on an input: lines, reads after it, candidates, or whether four
+/// satellites have a recent authentic set, after each record that can change it and at the end.
 #[allow(dead_code)]
 pub fn beside_second(rules: &Rules, input: &[u8]) -> Option<String> {
-    let got = replay(rules, input);
-    let (mut lines, mut reads, mut candidates) = (Vec::new(), Vec::new(), Vec::new());
+    let (mut beside, mut asked, mut place) = (Receiver::new(), Ok(()), 0);
+    let got = replay_and_ask(rules, input, |record, run| {
+        place += 1;
+        go_on(&mut beside, record);
+        if asked.is_ok() && record[0] != 2 {
+            asked = same_four(run, &beside, false).map_err(|e| format!("record {place}: {e}"));
+        }
+        if asked.is_ok() && place == input.len().div_ceil(256) {
+            asked = same_four(run, &beside, true);
+        }
+    });
+    let [mut lines, mut reads, mut candidates, mut four] = [const { Vec::new() }; 4];
     let receiver = second::replay(input, &mut lines).unwrap();
     second::write_reads(&receiver, &mut reads).unwrap();
     second::write_candidates(&receiver, &mut candidates).unwrap();
+    second::write_four(&receiver, &mut four).unwrap();
     let pairs = [
         ("lines", got.lines, lines),
         ("reads", got.reads, reads),
         ("candidates", got.candidates, candidates),
+        ("four", got.four, four),
     ];
-    pairs.into_iter().find_map(|(what, got, want)| {
+    let difference = pairs.into_iter().find_map(|(what, got, want)| {
         let difference = first_difference(&got, &String::from_utf8(want).unwrap())?;
         Some(format!("{what}, {difference}"))
-    })
+    });
+    difference.or(asked.err())
 }

@@ -289,6 +289,25 @@ pub fn dsm_kroot(key_id: u8, contents: &[u8], signature: &[u8]) -> Vec<u8> {
     dsm
 }
 
+/// A tree whose leaf `at` is `leaf`: its root and a DSM-PKR of `blocks` blocks.
+pub fn tree_message(leaf: &[u8], at: u8, blocks: usize) -> (Vec<u8>, Vec<u8>) {
+    let nodes: Vec<[u8; 32]> = (0..4).map(|level| sha256(&[at, level])).collect();
+    let root = (0..4).fold(sha256(leaf), |hash, level| match at >> level & 1 {
+        1 => sha256(&[nodes[level], hash].concat()),
+        _ => sha256(&[hash, nodes[level]].concat()),
+    });
+    let mut dsm = [&[(blocks as u8 - 6) << 4 | at], &nodes.concat()[..], leaf].concat();
+    dsm.resize(blocks * 13, 0x5A);
+    (root.to_vec(), dsm)
+}
+
+/// A leaf with `len` bytes of key.
+pub fn leaf(key_type: u8, id: u8, len: usize) -> Vec<u8> {
+    let mut leaf = vec![key_type << 4 | id];
+    leaf.extend((0..len).map(|i| i as u8 ^ 0x3C));
+    leaf
+}
+
 /// Who sends a section, when, under which NMA status.
 #[derive(Clone, Copy)]
 pub struct Sent {

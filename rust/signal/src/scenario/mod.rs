@@ -6,6 +6,7 @@
 mod bench;
 mod candidates;
 mod cmac;
+mod four;
 mod gathering;
 mod lost;
 mod parameters;
@@ -399,6 +400,31 @@ const ALL: &[Scenario] = &[
         "thin_tags",
         "half an hour, tags of 10 bits, data that changes often and goes back",
         candidates::thin_tags,
+    ),
+    scenario(
+        "four_ages",
+        "four sets that grow old while only refused sections note the time",
+        four::ages,
+    ),
+    scenario(
+        "four_week_end",
+        "four sets of a week's end, seen from the next weeks",
+        four::week_end,
+    ),
+    scenario(
+        "four_candidates",
+        "four satellites with candidates alone, and beside their sets",
+        four::candidates,
+    ),
+    scenario(
+        "four_stopped",
+        "four sets and an emergency message, whose time is noted",
+        four::stopped,
+    ),
+    scenario(
+        "four_starts",
+        "four sets, refused starts and accepted ones",
+        four::starts,
     ),
 ];
 
