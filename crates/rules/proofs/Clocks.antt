@@ -217,9 +217,9 @@ subframe-timely s area sub l v =
 
 -- ---- the other calls
 
-word-clock : (s : State) (w : Word) → lastSubframe ((step s (word w)) .state .clocks) ≡ lastSubframe (s .clocks)
+word-last : (s : State) (w : Word) → lastSubframe ((step s (word w)) .state .clocks) ≡ lastSubframe (s .clocks)
 unfolding step wordCall wordTaken lastSubframe
-word-clock s w =
+word-last s w =
     let P : State → Type 0 = λ s'. getD (s' .clocks) 0 0 ≡ getD (s .clocks) 0 0 in
     by-number P (firstOf (wordChecks s w))
     (λ _. by-test P (heldType (wordType (w .bytes))) (λ _. getD-set-other (s .clocks) (36 + w .prn) 0 (stampOf (w .time)) 0 (λ e. absurd (omega (arith, e)))) (λ _. refl))
@@ -241,20 +241,38 @@ ask-section : (q : Question) (n : ℕ) → subframeAnswered n (ask q) ≡ none
 ask-section q zero = refl
 ask-section q (suc n) = refl
 
--- a call that is no accepted start
-pub clock-step : (s : State) (l : Log) (c : Call) → ((x : Start) → c ≡ start x → (step s c) .reply .code ≢ 0) → ClockIs (s .clocks) l → ClockIs ((step s c) .state .clocks) (entry s c ∷ l)
-unfolding step
-clock-step s l (start x) h v = unnoted (s .clocks) _ _ l (ap (λ (s' : State). lastSubframe (s' .clocks)) (start-kept s x (h x refl))) refl refl v
-clock-step s l (word w) h v = unnoted (s .clocks) _ _ l (word-clock s w) refl refl v
-clock-step s l (subframe area sub) h v = subframe-timely s area sub l v
-clock-step s l (verdict d) h v = unnoted (s .clocks) _ _ l (ap lastSubframe (verdict-clocks s d)) refl refl v
-clock-step s l (ask q) h v = unnoted (s .clocks) _ _ l refl refl (ask-section q ((asked s q) .mack)) v
+-- ---- the clock after each call
+
+-- it is by the log, with this call in it
+abbrev pub ClockAfter : State → Log → Call → Type 0
+ClockAfter s l c = ClockIs ((step s c) .state .clocks) (entry s c ∷ l)
+
+module _ (s : State) (l : Log) (v : ClockIs (s .clocks) l) where
+  pub refused-start-clock : (x : Start) → (step s (start x)) .reply .code ≢ 0 → ClockAfter s l (start x)
+  unfolding step
+  refused-start-clock x h = unnoted (s .clocks) _ _ l (ap (λ (s' : State). lastSubframe (s' .clocks)) (start-kept s x h)) refl refl v
+
+  pub word-clock : (w : Word) → ClockAfter s l (word w)
+  unfolding step
+  word-clock w = unnoted (s .clocks) _ _ l (word-last s w) refl refl v
+
+  pub subframe-clock : (area : List ℕ) (sub : Subframe) → ClockAfter s l (subframe area sub)
+  unfolding step
+  subframe-clock area sub = subframe-timely s area sub l v
+
+  pub verdict-clock : (d : Verdict) → ClockAfter s l (verdict d)
+  unfolding step
+  verdict-clock d = unnoted (s .clocks) _ _ l (ap lastSubframe (verdict-clocks s d)) refl refl v
+
+  pub ask-clock : (q : Question) → ClockAfter s l (ask q)
+  unfolding step
+  ask-clock q = unnoted (s .clocks) _ _ l refl refl (ask-section q ((asked s q) .mack)) v
 
 some-entry : {P : Entry → Log → Type 0} {l : Log} → Once P l → 1 ≤ length l
 some-entry (here {l = l} p) = omega arith
 some-entry (earlier {l = l} o) = omega arith
 
 -- an accepted start
-pub clock-start : (s : State) (x : Start) → (startCall s x) .state ≡ fresh x → ClockIs ((startCall s x) .state .clocks) []
+pub start-clock : (s : State) (x : Start) → (startCall s x) .state ≡ fresh x → ClockIs ((startCall s x) .state .clocks) []
 unfolding fresh lastSubframe
-clock-start s x e = rw e (record { last = getD-zeros clocksLength 0; last-valid = λ t h. none-some refl h; sections = λ sub o. absurd (omega (arith, some-entry o)) })
+start-clock s x e = rw e (record { last = getD-zeros clocksLength 0; last-valid = λ t h. none-some refl h; sections = λ sub o. absurd (omega (arith, some-entry o)) })

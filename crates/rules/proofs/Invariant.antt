@@ -108,7 +108,7 @@ stampNoted (some t) = stampOf t
 abbrev pub SectionOf : Subframe → Entry → Log → Type 0
 SectionOf sub x older = sectionIn x ≡ some sub
 
--- it is the last time that was noted, and no section answered 0 has a later one
+-- it is the last time that was noted, and no section answered 0 has a later one; Sound has it beside `Inv`
 pub record ClockIs (clocks : List ℕ) (l : Log) : Type 0 where
   pub last : lastSubframe clocks ≡ stampNoted (lastNoted l)
   pub last-valid : (t : ℕ) → lastNoted l ≡ some t → timeValid t ≡ true

@@ -5,9 +5,10 @@ use mathlib.Core.Logic.{_≢_}
 use mathlib.Core.Bool.{true}
 use mathlib.Core.List.{List, [], _∷_}
 use native.Mathlib.Omega.{arith}
+use lib.Dec.{T}
 use lib.ListN.{length, getD}
-use borrow.Author.Tests.{eqb-false, not-false}
-use Rattle.laws.specs.Refusal.{firstOf, unless}
+use borrow.Author.Tests.{eq-eqb, eqb-false, not-false}
+use Rattle.laws.specs.Refusal.{firstOf, unless, neb}
 use Rattle.laws.proofs.Refusal.{clear}
 use Rattle.laws.proofs.Tests.{and-left}
 use Rattle.rules.specs.Calls.{Start, SetRead, OfferRead, setRead, setReadChecks, offerRead, offerReadChecks, authStamp, authSet}
@@ -77,25 +78,23 @@ module _ (o : Start) (b : State) (x : Entry) (l : Log) where
   pub no-marks : x .reply .records ≡ [] → (k : ℕ) → 12 * k < length (x .reply .records) → MarkBacked o b k x l
   no-marks e k h = let z : length (x .reply .records) ≡ 0 = ap length e in absurd (omega arith)
 
+  -- it asks question n, and so none of another number
   module _ (n : ℕ) (is : asks (x .call) ≡ n) where
-    no-set : n ≢ 1 → (prn : ℕ) (out : List ℕ) → x .call ≡ ask (set prn out) → x .reply .code ≡ 0 → SetBacked o b prn (x .reply .time) (x .reply .out) l
-    no-set d prn out e ok = absurd (d (sym is ∙ ap asks e))
+    other : {A : Type 0} (q : Question) → T (neb n (asks (ask q))) → x .call ≡ ask q → A
+    other q d e = absurd (rw (sym is ∙ ap asks e, eq-eqb (asks (ask q)) _ refl) at d)
 
-    no-hand : n ≢ 2 → (m g k : List ℕ) → x .call ≡ ask (offer m g k) → x .reply .code ≡ 0 → HandedFairly o b (x .reply .handed) l
-    no-hand d m g k e ok = absurd (d (sym is ∙ ap asks e))
+    no-set : T (neb n 1) → (prn : ℕ) (out : List ℕ) → x .call ≡ ask (set prn out) → x .reply .code ≡ 0 → SetBacked o b prn (x .reply .time) (x .reply .out) l
+    no-set d prn out e ok = other (set prn out) d e
 
-    no-four : n ≢ 3 → (limit : ℕ) → x .call ≡ ask (four limit) → x .reply .yes ≢ 0 → FourBacked o b limit l
-    no-four d limit e said = absurd (d (sym is ∙ ap asks e))
+    no-hand : T (neb n 2) → (m g k : List ℕ) → x .call ≡ ask (offer m g k) → x .reply .code ≡ 0 → HandedFairly o b (x .reply .handed) l
+    no-hand d m g k e ok = other (offer m g k) d e
+
+    no-four : T (neb n 3) → (limit : ℕ) → x .call ≡ ask (four limit) → x .reply .yes ≢ 0 → FourBacked o b limit l
+    no-four d limit e said = other (four limit) d e
 
   -- one that asks nothing
   pub no-question : asks (x .call) ≡ 0 → ((k : ℕ) → 12 * k < length (x .reply .records) → getD (x .reply .records) (12 * k) 0 ≡ 1 → MarkBacked o b k x l) → Fair o b x l
-  no-question is m =
-      record {
-        marks = m;
-        reads = no-set 0 is (λ z. absurd (omega (arith, z)));
-        hands = no-hand 0 is (λ z. absurd (omega (arith, z)));
-        fours = no-four 0 is (λ z. absurd (omega (arith, z)));
-      }
+  no-question is m = record { marks = m; reads = no-set 0 is tt; hands = no-hand 0 is tt; fours = no-four 0 is tt }
 
   -- and that wrote no record
   pub plain-fair : x .reply .records ≡ [] → asks (x .call) ≡ 0 → Fair o b x l
@@ -134,8 +133,8 @@ set-fair o b s l prn out v =
           let z : prn ≡ p = ap (λ (c : Call). prnAsked (asking (set prn out) c)) e in
           rw (← z) (set-backed o b s l v prn out ok)
           );
-      hands = no-hand o b x l 1 refl (λ z. absurd (omega (arith, z)));
-      fours = no-four o b x l 1 refl (λ z. absurd (omega (arith, z)));
+      hands = no-hand o b x l 1 refl tt;
+      fours = no-four o b x l 1 refl tt;
     }
 
 -- ---- a read of what waits
@@ -170,9 +169,9 @@ offer-fair o b s l m g k v =
     let x = entry s (ask (offer m g k)) in
     record {
       marks = λ j i z. no-marks o b x l refl j i;
-      reads = no-set o b x l 2 refl (λ z. absurd (omega (arith, z)));
+      reads = no-set o b x l 2 refl tt;
       hands = λ m' g' k' e ok. hand-fair o b s l v m g k ok;
-      fours = no-four o b x l 2 refl (λ z. absurd (omega (arith, z)));
+      fours = no-four o b x l 2 refl tt;
     }
 
 -- ---- the question for four satellites
@@ -183,8 +182,8 @@ four-fair o b s l limit v t =
     let x = entry s (ask (four limit)) in
     record {
       marks = λ j i z. no-marks o b x l refl j i;
-      reads = no-set o b x l 3 refl (λ z. absurd (omega (arith, z)));
-      hands = no-hand o b x l 3 refl (λ z. absurd (omega (arith, z)));
+      reads = no-set o b x l 3 refl tt;
+      hands = no-hand o b x l 3 refl tt;
       fours = λ n e said. (
           let z : limit ≡ n = ap (λ (c : Call). limitAsked (asking (four limit) c)) e in
           rw (← z) (four-backed o b s l v t limit said)
