@@ -46,10 +46,10 @@
  *     stays inside the memory that it is lent and returns, but its answer means nothing.
  *
  * How long a call takes: a sub-frame's section walks the key chain from its keys down to the held one, a
- * hash of one block for each slot between (docs/BENCHMARK.md counts such a step): NS times NMACK slots,
- * at most 108, for each half minute since the held key. That is the last key that an accepted section
- * brought, or the root if a verdict put one in force since; it may lie days back. What else a call does
- * does not grow with this gap.
+ * hash of one block for each slot between (docs/BENCHMARK.md counts such a step; by SHA3 it takes about
+ * twice as long as by SHA-256): NS times NMACK slots, at most 108, for each half minute since the held key.
+ * That is the last key that an accepted section brought, or the root if a verdict put one in force since;
+ * it may lie days back. What else a call does does not grow with this gap.
  *   - A section walks at most 1,000,000 slots. A key that lies further is refused and not walked.
  *   - A section with a wrong key walks as far before it is refused with OSNMA_KEY_UNFIT, and the held
  *     key stays: each of 36 satellites may bring one in a half minute. Once a key of that half minute
@@ -76,7 +76,7 @@ extern "C" {
 /* ---- version and layout */
 
 /** The version of this header and of the calls (CHANGELOG.md). */
-#define OSNMA_VERSION "0.3.0"
+#define OSNMA_VERSION "0.4.0"
 
 /**
  * The number of the layout: it rises whenever a region of struct osnma_core, in size or in meaning, or
@@ -164,8 +164,9 @@ enum osnma_answer {
     OSNMA_BLOCK_UNFIT = 6,
     /** Sub-frame: a DSM-KROOT under a public key that is not held. */
     OSNMA_KEY_NOT_HELD = 7,
-    /** Sub-frame: a DSM-KROOT with parameters that are not taken. The MAC function may be HMAC-SHA-256 with
-       every key size, or CMAC-AES with keys of 128, 192 or 256 bits. */
+    /** Sub-frame: a DSM-KROOT with parameters that are not taken. The hash of the chain may be SHA-256 or
+       SHA3-256 with every key size, or SHA3-224 with keys of up to 224 bits; the MAC function HMAC-SHA-256
+       with every key size, or CMAC-AES with keys of 128, 192 or 256 bits. */
     OSNMA_PARAMETERS_UNFIT = 8,
     /** Verdict: a root that is not newer. Sub-frame: a public key with an ID not above all held. */
     OSNMA_NOT_NEWER = 9,
@@ -392,7 +393,8 @@ struct osnma_tag_record {
  * A message that waits for a verdict of the signature chip. Short parts are followed by zeros, which are
  * not signed: a chip is handed osnma_message_length bytes of the message, osnma_signature_length of the
  * signature (r and s, of equal lengths) and osnma_key_length of the key (a compressed point). Key types
- * 0 to 3 are P-224 with SHA-224, P-256 with SHA-256, P-384 with SHA-384 and P-521 with SHA-512.
+ * 0 to 3 are P-224 with SHA-224, P-256 with SHA-256, P-384 with SHA-384 and P-521 with SHA-512, whatever
+ * the hash of the chain is.
  */
 struct osnma_message {
     uint8_t message[OSNMA_MESSAGE];     /**< what is signed: NMA header, then CIDKR through KROOT */

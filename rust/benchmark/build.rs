@@ -10,7 +10,7 @@ const OPENSSL: &str = "
 #include <openssl/hmac.h>
 #include <openssl/sha.h>
 _Static_assert(sizeof(SHA256_CTX) == 112, \"the context in src/openssl.rs\");
-int main(void) { return HMAC_CTX_new() == 0 || EVP_sha256() == 0 || CMAC_CTX_new() == 0; }
+int main(void) { return HMAC_CTX_new() == 0 || EVP_sha256() == 0 || EVP_MD_fetch(0, \"SHA3-256\", 0) == 0 || CMAC_CTX_new() == 0; }
 ";
 
 const BEARSSL: &str = "

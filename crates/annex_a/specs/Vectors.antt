@@ -20,7 +20,7 @@ dsmKroot = 0x20 ∷ 0x20 ∷ 0x41 ∷ 0x0B ∷ 0x03 ∷ 0xB3 ∷ 0x78 ∷ 0xF1 �
 
 -- the chain that it puts in force: NS 36, NMACK 2, KS 128, MS 12, root at 947, hour 120
 abbrev pub chain : Chain
-chain = record { ns = 36; nmack = 2; root = 947 * 604800 + 432000; alpha = 0xF1 ∷ 0xCA ∷ 0x38 ∷ 0x56 ∷ 0xA9 ∷ 0x75 ∷ []; mf = 0; width = 16; ms = 12; fields = 4 }
+chain = record { ns = 36; nmack = 2; root = 947 * 604800 + 432000; alpha = 0xF1 ∷ 0xCA ∷ 0x38 ∷ 0x56 ∷ 0xA9 ∷ 0x75 ∷ []; hf = 0; mf = 0; width = 16; ms = 12; fields = 4 }
 
 -- ---- A.1.3: key 2 to key 1 to the root
 

@@ -40,12 +40,17 @@ sent-bound c g b p w h k =
 
 -- ---- a chain in force
 
--- parameters that are not bad: NMACK is not 0, and a block holds a field and the key
+-- a key that HF takes is part of a digest
+width-taken : (d : List ℕ) → K.hfBad d ≡ false → K.keyWidth (K.ksOf d) ≤ S.hashBytes (K.hfOf d)
+unfolding K.hfBad
+width-taken d e = ltb-false _ _ ((neither (ltb 2 (K.hfOf d)) _ e) .1)
+
+-- parameters that are not bad: HF takes the key, NMACK is not 0, and a block holds a field and the key
 params-good : (config d : List ℕ) → K.parametersBad config d ≡ false
-    → (K.nmackOf d ≡ 0 → ⊥) × (8 * K.keyWidth (K.ksOf d) + K.tagWidth (K.msOf d) + 16 ≤ K.blockBits (K.nmackOf d))
+    → (K.hfBad d ≡ false) × ((K.nmackOf d ≡ 0 → ⊥) × (8 * K.keyWidth (K.ksOf d) + K.tagWidth (K.msOf d) + 16 ≤ K.blockBits (K.nmackOf d)))
 unfolding K.parametersBad
 params-good config d e =
-    let e1 = neither (neb (K.hfOf d) 0) _ e in
+    let e1 = neither (K.hfBad d) _ e in
     let e2 = neither (K.mfBad d) _ (e1 .1) in
     let e3 = neither (neb (K.moOf d) 0) _ (e2 .1) in
     let e4 = neither (eqb (K.nmackOf d) 0) _ (e3 .1) in
@@ -53,7 +58,7 @@ params-good config d e =
     let e6 = neither (ltb 9 (K.msOf d)) _ (e5 .1) in
     let e7 = neither (neb (K.macltFieldOf d) (macltOf config)) _ (e6 .1) in
     let e8 = neither (ltb (K.blockBits (K.nmackOf d)) (8 * K.keyWidth (K.ksOf d) + K.tagWidth (K.msOf d) + 16)) _ (e7 .1) in
-    (eqb-false _ _ (e4 .0), ltb-false _ _ (e8 .0))
+    (e1 .0, (eqb-false _ _ (e4 .0), ltb-false _ _ (e8 .0)))
 
 nmack-below : (d : List ℕ) → K.nmackOf d < 4
 unfolding K.nmackOf
@@ -73,13 +78,14 @@ chain-sound ns config d h k e =
       walks = record {
         ns-low = h;
         ns-high = k;
-        nmack-low = positive (K.nmackOf d) (g .0);
+        nmack-low = positive (K.nmackOf d) (g .1 .0);
         nmack-high = omega arith;
         root-high = omega (arith, hour-bound (bits d 28 12) (bits d 40 8) (bits-lt d 28 12) (bits-lt d 40 8));
         width-low = w .0;
         width-high = w .1;
+        width-fits = width-taken d (g .0);
       };
       ms-high = tag-width-bound (K.msOf d);
       fields-are = refl;
-      block-fits = g .1;
+      block-fits = g .1 .1;
     }

@@ -16,23 +16,24 @@ use Rattle.laws.proofs.Numbers.{length-be4}
 use Rattle.laws.proofs.Splice.{splice-start, splice-end, length-splice, below?}
 use Rattle.times.proofs.Times.{be4-low}
 use Rattle.sha256.specs.Sha256 as H
-use Rattle.sha256.proofs.Continued.{one-block, length-sha256}
+use Rattle.sha3.specs.Sha3 as S3
 use Rattle.rules.specs.Chain as S
 use Rattle.rules.specs.declared.Chain.{Chain}
 use Rattle.laws.proofs.Same.{same-true, same-equal, same-false, same-differ}
 use Rattle.rules.proofs.Walks.{walk-add}
-use Rattle.chain.specs.Sound.{Framed, Met, OnWay}
+use Rattle.chain.specs.Sound.{Hashes, ByCompress, Sponge, Framed, Met, OnWay, spongeTail, laidOut}
 use Rattle.chain.specs.declared.Way.{Way}
+use Rattle.chain.proofs.Hashes.{length-hash, length-key, key-short}
 
 -- ---- lengths
 
-pub length-step : (c : Chain) (m : ℕ) (k : List ℕ) → c .width ≤ 32 → length (S.keyStep c m k) ≡ c .width
+pub length-step : (c : Chain) (m : ℕ) (k : List ℕ) → c .width ≤ S.hashBytes (c .hf) → length (S.keyStep c m k) ≡ c .width
 unfolding S.keyStep
 length-step c m k h =
-    let d = H.sha256 (k ++ (be4 (S.slotTime c m) ++ c .alpha)) in
-    length-take-le (c .width) d (omega (arith, length-sha256 (k ++ (be4 (S.slotTime c m) ++ c .alpha))))
+    let x = k ++ (be4 (S.slotTime c m) ++ c .alpha) in
+    length-take-le (c .width) (S.chainHash (c .hf) x) (omega (arith, length-hash (c .hf) x))
 
-pub length-walk : (c : Chain) (n m : ℕ) (k : List ℕ) → c .width ≤ 32 → length k ≡ c .width → length (S.walk c n m k) ≡ c .width
+pub length-walk : (c : Chain) (n m : ℕ) (k : List ℕ) → c .width ≤ S.hashBytes (c .hf) → length k ≡ c .width → length (S.walk c n m k) ≡ c .width
 unfolding S.walk
 length-walk c zero m k h e = e
 length-walk c (suc n) m k h e = length-walk c n m (S.keyStep c (m + n) k) h (length-step c (m + n) k h)
@@ -44,19 +45,32 @@ pub walk-none : (c : Chain) (n m : ℕ) (k : List ℕ) → n ≡ 0 → S.walk c 
 unfolding S.walk
 walk-none c n m k e = rw e
 
+-- What holds before each turn of a walk's loop, for every hash: i of the n steps are left, and from the key in the block they give what all steps
+-- give from the first key.
+pub record Walking (c : Chain) (padding : List ℕ) (n m : ℕ) (key : List ℕ) (i : ℕ) (b : List ℕ) : Type 0 where
+  pub leads : S.walk c i m (take (c .width) b) ≡ S.walk c n m (take (c .width) key)
+  pub framed : Framed c padding b
+
+pub begins : (c : Chain) (padding : List ℕ) (n m : ℕ) (key b : List ℕ) → (take (c .width) b ≡ take (c .width) key) × Framed c padding b → Walking c padding n m key n b
+begins c padding n m key b f = record { leads = ap (S.walk c n m) (f .0); framed = f .1 }
+
 -- the first step of those that are left
-pub walk-one : (c : Chain) (i m : ℕ) (k l : List ℕ) → 0 < i → l ≡ S.keyStep c (m + (i - 1)) k → S.walk c (i - 1) m l ≡ S.walk c i m k
+walk-one : (c : Chain) (i m : ℕ) (k l : List ℕ) → 0 < i → l ≡ S.keyStep c (m + (i - 1)) k → S.walk c (i - 1) m l ≡ S.walk c i m k
 unfolding S.walk
 walk-one c zero m k l h e = absurd (omega arith)
 walk-one c (suc j) m k l h e =
     let f : suc j - 1 ≡ j = omega arith in
     rw f (ap (S.walk c j m) (e ∙ rw f))
 
+pub goes-on : (c : Chain) (padding : List ℕ) (n m : ℕ) (key b b2 : List ℕ) (i : ℕ) → 0 < i → Walking c padding n m key i b
+    → (take (c .width) b2 ≡ S.keyStep c (m + (i - 1)) (take (c .width) b)) × Framed c padding b2 → Walking c padding n m key (i - 1) b2
+goes-on c padding n m key b b2 i h w s = record { leads = walk-one c i m _ _ h (s .0) ∙ w .leads; framed = s .1 }
+
 -- no step is left, and the key is copied out of the block
-pub walked : (c : Chain) (n m i : ℕ) (b key out : List ℕ) → i ≤ 0 → S.walk c i m (take (c .width) b) ≡ S.walk c n m (take (c .width) key)
-    → out ≡ splice key 0 (part b 0 (c .width)) → out ≡ splice key 0 (S.walk c n m (take (c .width) key))
+pub ends : (c : Chain) (padding : List ℕ) (n m : ℕ) (key b out : List ℕ) (i : ℕ) → i ≤ 0 → Walking c padding n m key i b → out ≡ splice key 0 (part b 0 (c .width))
+    → out ≡ splice key 0 (S.walk c n m (take (c .width) key))
 unfolding part
-walked c n m i b key out h e p = p ∙ ap (splice key 0) (sym (walk-none c i m (take (c .width) b) (omega arith)) ∙ e)
+ends c padding n m key b out i h w p = p ∙ ap (splice key 0) (sym (walk-none c i m (take (c .width) b) (omega arith)) ∙ w .leads)
 
 -- a walk goes on from the key of a slot on its way
 pub walk-on : (c : Chain) (h : S.Held) (at m : ℕ) → m ≤ at → at ≤ h .slot → S.keyOfSlot c (S.held at (S.keyOfSlot c h at)) m ≡ S.keyOfSlot c h m
@@ -112,7 +126,9 @@ met-on c h at m key t f =
     (below? at m)
 
 -- ---- a step in a framed block: the time, then the hash value's first bytes
-module _ (c : Chain) (w : c .width ≤ 32) (a : length (c .alpha) ≡ 6) where
+
+-- One proof for every hash: `block` hashes a message that stands in 64 bytes with this padding.
+module _ (c : Chain) (w : c .width ≤ S.hashBytes (c .hf)) (a : length (c .alpha) ≡ 6) (padding : List ℕ) (block : List ℕ → List ℕ) (hashes : Hashes c padding block) where
   -- what is hashed for a key and a time
   abbrev message : List ℕ → ℕ → List ℕ
   message k t = k ++ (be4 t ++ c .alpha)
@@ -121,29 +137,29 @@ module _ (c : Chain) (w : c .width ≤ 32) (a : length (c .alpha) ≡ 6) where
   length-message k t e = simp (length-append, length-be4) (omega arith)
 
   -- with the time set it is the padded message
-  timed : (b : List ℕ) (t : ℕ) → length b ≡ 64 → Framed c b → splice b (c .width) (be4 t) ≡ H.pad (message (take (c .width) b) t)
-  unfolding splice H.pad
-  timed b t e f =
-      let n : length (take (c .width) b) ≡ c .width = length-take-le (c .width) b (omega arith) in
-      rw (length-be4 t, drop-drop 4 (c .width) b, f, length-message (take (c .width) b) t n) (simp append-assoc)
+  timed : (b : List ℕ) (t : ℕ) → Framed c padding b → splice b (c .width) (be4 t) ≡ message (take (c .width) b) t ++ padding
+  unfolding splice
+  timed b t f = rw (length-be4 t, drop-drop 4 (c .width) b, f) (simp append-assoc)
 
-  pub step-is : (m t : ℕ) (b b1 g h d b2 : List ℕ) → length b ≡ 64 → Framed c b → t ≡ S.slotTime c m % 2 ^ 32 → b1 ≡ splice b (c .width) (be4 t)
-      → g ≡ H.H0 → h ≡ H.compress g b1 → d ≡ H.bytes h → b2 ≡ splice b1 0 (part d 0 (c .width))
-      → (take (c .width) b2 ≡ S.keyStep c m (take (c .width) b)) × Framed c b2
+  pub step-is : (m t : ℕ) (b b1 d b2 : List ℕ) → length b ≡ 64 → Framed c padding b → t ≡ S.slotTime c m % 2 ^ 32 → b1 ≡ splice b (c .width) (be4 t)
+      → d ≡ block b1 → b2 ≡ splice b1 0 (part d 0 (c .width))
+      → (take (c .width) b2 ≡ S.keyStep c m (take (c .width) b)) × Framed c padding b2
   unfolding S.keyStep splice part
-  step-is m t b b1 g h d b2 e f p q r s u v =
+  step-is m t b b1 d b2 e f p q u v =
       let k = take (c .width) b in
+      let s = key-short c w in
       let n : length k ≡ c .width = length-take-le (c .width) b (omega arith) in
       let x = S.slotTime c m in
       let t4 : be4 t ≡ be4 x = ap be4 p ∙ be4-low x in
-      let q2 : b1 ≡ H.pad (message k x) = q ∙ ap (splice b (c .width)) t4 ∙ timed b x e f in
+      let q2 : b1 ≡ message k x ++ padding = q ∙ ap (splice b (c .width)) t4 ∙ timed b x f in
       let o : length (message k x) ≡ c .width + 10 = length-message k x n in
-      let hash : H.sha256 (message k x) ≡ d = one-block (message k x) (omega arith) ∙ rw (u, s, r, q2) in
-      let l : length (take (c .width) d) ≡ c .width = length-take-le (c .width) d (omega (arith, length-sha256 (message k x), ap length hash)) in
+      let hash : take (c .width) d ≡ take (c .width) (S.chainHash (c .hf) (message k x)) = ap (take (c .width)) (u ∙ ap block q2) ∙ hashes (message k x) o in
+      let l : length (take (c .width) d) ≡ c .width =
+      ap length hash ∙ length-take-le (c .width) (S.chainHash (c .hf) (message k x)) (omega (arith, length-hash (c .hf) (message k x))) in
       let rest : drop (c .width) b1 ≡ be4 t ++ drop 4 (drop (c .width) b) =
       rw (q, length-be4 t) (drop-at k (be4 t ++ drop 4 (drop (c .width) b)) (c .width) n) in
       let v2 : b2 ≡ take (c .width) d ++ drop (c .width) b1 = v ∙ ap (λ (j : ℕ). take (c .width) d ++ drop j b1) l in (
-        rw (v2, hash) (take-at (take (c .width) d) (drop (c .width) b1) (c .width) l),
+        ap (take (c .width)) v2 ∙ take-at (take (c .width) d) (drop (c .width) b1) (c .width) l ∙ hash,
         sym (drop-drop 4 (c .width) b2)
             ∙ ap (drop 4) (ap (drop (c .width)) v2 ∙ drop-at (take (c .width) d) (drop (c .width) b1) (c .width) l ∙ rest)
             ∙ drop-at (be4 t) (drop 4 (drop (c .width) b)) 4 (length-be4 t)
@@ -177,49 +193,88 @@ tail-is w h =
     let low : 8 * (w + 10) % 256 ^ 4 ≡ 8 * (w + 10) = omega arith in
     rw (z, high, low, zero-bytes, zeros-split (49 - w) (45 - w) 4 (omega arith)) (simp append-assoc)
 
-pub framed-is : (c : Chain) (key z b1 b2 b4 : List ℕ) → c .width ≤ 32 → length (c .alpha) ≡ 6 → length key ≡ 32 → z ≡ zs 64
+-- the key and α, by the code's writes
+pub laid-is : (c : Chain) (key z b1 b2 : List ℕ) → c .width ≤ 32 → length (c .alpha) ≡ 6 → length key ≡ 32 → z ≡ zs 64
     → b1 ≡ splice z 0 (part key 0 (c .width))
     → b2 ≡ splice b1 (c .width + 4) (part (c .alpha) 0 6)
-    → b4 ≡ splice (set b2 (c .width + 10) 0x80) 60 (be4 (8 * (c .width + 10)))
-    → (take (c .width) b4 ≡ take (c .width) key) × Framed c b4
+    → b2 ≡ laidOut c key
 unfolding part
-framed-is c key z b1 b2 b4 h a e p q r s =
+laid-is c key z b1 b2 h a e p q r =
     let w = c .width in
     let k = take w key in
-    let x = be4 (8 * (w + 10)) in
     let n : length k ≡ w = length-take-le w key (omega arith) in
     let n4 : length (k ++ zs 4) ≡ w + 4 = simp (length-append, length-replicate) (omega arith) in
-    let n10 : length (k ++ zs 4 ++ c .alpha) ≡ w + 10 = simp (length-append, length-replicate) (omega arith) in
     let q2 : b1 ≡ k ++ zs 4 ++ (zs 6 ++ zs (54 - w)) =
     q ∙ ap (λ (l : List ℕ). splice l 0 k) p
     ∙ splice-start 64 0 k
     ∙ ap (λ (j : ℕ). k ++ zs (64 - j)) n
     ∙ rw (zeros-split (64 - w) 4 (60 - w) (omega arith), zeros-split (60 - w) 6 (54 - w) (omega arith)) (sym (append-assoc k (zs 4) (zs 6 ++ zs (54 - w)))) in
-    let r2 : b2 ≡ k ++ zs 4 ++ (c .alpha ++ zs (54 - w)) =
-    r ∙ ap (splice b1 (w + 4)) (take-all 6 (c .alpha) (omega arith)) ∙ ap (λ (l : List ℕ). splice l (w + 4) (c .alpha)) q2 ∙ splice-middle (k ++ zs 4) (zs 6) (zs (54 - w)) (w + 4) (c .alpha) n4 (sym a) in
-    let one : 54 - w ≡ suc (53 - w) = omega arith in
-    let r3 : set b2 (w + 10) 0x80 ≡ k ++ zs 4 ++ c .alpha ++ (0x80 ∷ zs (53 - w)) =
-    ap (λ (l : List ℕ). set l (w + 10) 0x80) (r2 ∙ ap (λ (j : ℕ). k ++ zs 4 ++ (c .alpha ++ zs j)) one ∙ sym (append-assoc (k ++ zs 4) (c .alpha) (0 ∷ zs (53 - w))))
-    ∙ set-at (k ++ zs 4 ++ c .alpha) 0 (zs (53 - w)) 0x80 (w + 10) n10 in
-    let r4 : set b2 (w + 10) 0x80 ≡ k ++ zs 4 ++ c .alpha ++ (0x80 ∷ zs (49 - w)) ++ zs 4 =
-    r3 ∙ rw (zeros-split (53 - w) (49 - w) 4 (omega arith)) (sym (append-assoc (k ++ zs 4 ++ c .alpha) (0x80 ∷ zs (49 - w)) (zs 4))) in
-    let n60 : length (k ++ zs 4 ++ c .alpha ++ (0x80 ∷ zs (49 - w))) ≡ 60 = simp (length-append, length-replicate) (omega arith) in
-    let s2 : b4 ≡ k ++ (zs 4 ++ (c .alpha ++ H.tail (w + 10))) =
-    s ∙ ap (λ (l : List ℕ). splice l 60 x) r4
-    ∙ splice-end (k ++ zs 4 ++ c .alpha ++ (0x80 ∷ zs (49 - w))) (zs 4) 60 x n60 (sym (length-be4 (8 * (w + 10))))
-    ∙ rw (tail-is w h) (simp append-assoc) in (
-      ap (take w) s2 ∙ take-at k (zs 4 ++ (c .alpha ++ H.tail (w + 10))) w n,
-      ap (drop (w + 4)) (s2 ∙ sym (append-assoc k (zs 4) (c .alpha ++ H.tail (w + 10))))
-          ∙ drop-at (k ++ zs 4) (c .alpha ++ H.tail (w + 10)) (w + 4) n4,
-    )
+    r ∙ ap (splice b1 (w + 4)) (take-all 6 (c .alpha) (omega arith)) ∙ ap (λ (l : List ℕ). splice l (w + 4) (c .alpha)) q2 ∙ splice-middle (k ++ zs 4) (zs 6) (zs (54 - w)) (w + 4) (c .alpha) n4 (sym a)
 
--- a framed block has 64 bytes
-pub framed-length : (c : Chain) (b : List ℕ) → c .width ≤ 32 → length (c .alpha) ≡ 6 → Framed c b → length b ≡ 64
-framed-length c b h a f =
-    let n : length (c .alpha ++ H.tail (c .width + 10)) ≡ 60 - c .width =
-    rw (tail-is (c .width) h) (simp (length-append, length-replicate, length-be4) (omega arith)) in
+module _ (c : Chain) (key b2 b : List ℕ) (h : c .width ≤ 32) (a : length (c .alpha) ≡ 6) (r : b2 ≡ laidOut c key) (e : length b2 ≡ 64) where
+  -- the key fills its bytes
+  wide : length (take (c .width) key) ≡ c .width
+  wide =
+      let l : length (laidOut c key) ≡ length (take (c .width) key) + 4 + (length (c .alpha) + (54 - c .width)) = simp (length-append, length-replicate) in
+      omega (arith, ap length r, l)
+
+  -- a key, α and a padding
+  padded : (padding : List ℕ) → b ≡ take (c .width) key ++ (zs 4 ++ (c .alpha ++ padding)) → (take (c .width) b ≡ take (c .width) key) × Framed c padding b
+  padded padding s =
+      let w = c .width in
+      let k = take w key in
+      let n : length k ≡ w = wide in
+      let n4 : length (k ++ zs 4) ≡ w + 4 = simp (length-append, length-replicate) (omega arith) in (
+        ap (take w) s ∙ take-at k (zs 4 ++ (c .alpha ++ padding)) w n,
+        ap (drop (w + 4)) (s ∙ sym (append-assoc k (zs 4) (c .alpha ++ padding))) ∙ drop-at (k ++ zs 4) (c .alpha ++ padding) (w + 4) n4,
+      )
+
+  -- the padding's first byte
+  byte-put : (x : ℕ) → set b2 (c .width + 10) x ≡ take (c .width) key ++ zs 4 ++ c .alpha ++ (x ∷ zs (53 - c .width))
+  byte-put x =
+      let w = c .width in
+      let k = take w key in
+      let n : length k ≡ w = wide in
+      let n10 : length (k ++ zs 4 ++ c .alpha) ≡ w + 10 = simp (length-append, length-replicate) (omega arith) in
+      let one : 54 - w ≡ suc (53 - w) = omega arith in
+      ap (λ (l : List ℕ). set l (w + 10) x) (r ∙ ap (λ (j : ℕ). k ++ zs 4 ++ (c .alpha ++ zs j)) one ∙ sym (append-assoc (k ++ zs 4) (c .alpha) (0 ∷ zs (53 - w))))
+      ∙ set-at (k ++ zs 4 ++ c .alpha) 0 (zs (53 - w)) x (w + 10) n10
+
+  -- the padding of SHA-256
+  pub framed-is : b ≡ splice (set b2 (c .width + 10) 0x80) 60 (be4 (8 * (c .width + 10)))
+      → (take (c .width) b ≡ take (c .width) key) × Framed c (H.tail (c .width + 10)) b
+  framed-is s =
+      let w = c .width in
+      let k = take w key in
+      let x = be4 (8 * (w + 10)) in
+      let n : length k ≡ w = wide in
+      let r4 : set b2 (w + 10) 0x80 ≡ k ++ zs 4 ++ c .alpha ++ (0x80 ∷ zs (49 - w)) ++ zs 4 =
+      byte-put 0x80 ∙ rw (zeros-split (53 - w) (49 - w) 4 (omega arith)) (sym (append-assoc (k ++ zs 4 ++ c .alpha) (0x80 ∷ zs (49 - w)) (zs 4))) in
+      let n60 : length (k ++ zs 4 ++ c .alpha ++ (0x80 ∷ zs (49 - w))) ≡ 60 = simp (length-append, length-replicate) (omega arith) in
+      padded (H.tail (w + 10))
+      (s ∙ ap (λ (l : List ℕ). splice l 60 x) r4
+      ∙ splice-end (k ++ zs 4 ++ c .alpha ++ (0x80 ∷ zs (49 - w))) (zs 4) 60 x n60 (sym (length-be4 (8 * (w + 10))))
+      ∙ rw (tail-is w h) (simp append-assoc))
+
+  -- the padding of a sponge
+  pub sponge-framed-is : b ≡ set b2 (c .width + 10) 6 → (take (c .width) b ≡ take (c .width) key) × Framed c (spongeTail (c .width + 10)) b
+  sponge-framed-is s =
+      let w = c .width in
+      let z : 63 - (w + 10) ≡ 53 - w = omega arith in
+      padded (spongeTail (w + 10)) (s ∙ byte-put 6 ∙ rw z (simp append-assoc))
+
+-- a framed block has 64 bytes, where the padding fills it
+pub framed-length : (c : Chain) (padding b : List ℕ) → length padding ≡ 54 - c .width → c .width ≤ 32 → length (c .alpha) ≡ 6 → Framed c padding b → length b ≡ 64
+framed-length c padding b e h a f =
+    let n : length (c .alpha ++ padding) ≡ 60 - c .width = length-append (c .alpha) padding ∙ omega arith in
     let m : length b - (c .width + 4) ≡ 60 - c .width = sym (length-drop (c .width + 4) b) ∙ ap length f ∙ n in
     omega arith
+
+pub length-tail : (w : ℕ) → w ≤ 32 → length (H.tail (w + 10)) ≡ 54 - w
+length-tail w h = rw (tail-is w h) (simp (length-append, length-replicate, length-be4) (omega arith))
+
+pub length-sponge-tail : (w : ℕ) → w ≤ 32 → length (spongeTail (w + 10)) ≡ 54 - w
+length-sponge-tail w h = simp length-replicate (omega arith)
 
 -- ---- the key's bytes of 32
 
@@ -236,21 +291,22 @@ splice-front d w =
     (below? w (length d))
 
 -- the 32 bytes of a key that was walked
-pub walked-length : (c : Chain) (n m : ℕ) (key out : List ℕ) → c .width ≤ 32 → length key ≡ 32 → out ≡ splice key 0 (S.walk c n m (take (c .width) key)) → length out ≡ 32
+pub walked-length : (c : Chain) (n m : ℕ) (key out : List ℕ) → c .width ≤ S.hashBytes (c .hf) → length key ≡ 32 → out ≡ splice key 0 (S.walk c n m (take (c .width) key)) → length out ≡ 32
 walked-length c n m key out h e p =
-    let l = length-walk c n m (take (c .width) key) h (length-take-le (c .width) key (omega arith)) in
+    let l = length-walk c n m (take (c .width) key) h (length-key c key h e) in
+    let s = key-short c h in
     ap length p ∙ length-splice key 0 (S.walk c n m (take (c .width) key)) (omega arith) ∙ e
 
 -- the key's bytes of a key that was walked down to slot m
-pub walked-key : (c : Chain) (slot m : ℕ) (key out : List ℕ) → c .width ≤ 32 → length key ≡ 32 → out ≡ splice key 0 (S.keyOfSlot c (S.held slot (take (c .width) key)) m)
+pub walked-key : (c : Chain) (slot m : ℕ) (key out : List ℕ) → c .width ≤ S.hashBytes (c .hf) → length key ≡ 32 → out ≡ splice key 0 (S.keyOfSlot c (S.held slot (take (c .width) key)) m)
     → take (c .width) out ≡ S.keyOfSlot c (S.held slot (take (c .width) key)) m
 unfolding S.keyOfSlot
 walked-key c slot m key out w n e =
     ap (take (c .width)) e
-    ∙ front-splice key (S.walk c (slot - m) m (take (c .width) key)) (c .width) (length-walk c (slot - m) m (take (c .width) key) w (length-take-le (c .width) key (omega arith)))
+    ∙ front-splice key (S.walk c (slot - m) m (take (c .width) key)) (c .width) (length-walk c (slot - m) m (take (c .width) key) w (length-key c key w n))
 
 -- the key's bytes and the length of a key of slot m that was walked down to from a key that was met
-pub met-walked : (c : Chain) (h : S.Held) (at m : ℕ) (key out : List ℕ) → c .width ≤ 32 → length key ≡ 32 → Met c h at key → (at < m → at ≡ h .slot)
+pub met-walked : (c : Chain) (h : S.Held) (at m : ℕ) (key out : List ℕ) → c .width ≤ S.hashBytes (c .hf) → length key ≡ 32 → Met c h at key → (at < m → at ≡ h .slot)
     → out ≡ splice key 0 (S.keyOfSlot c (S.held at (take (c .width) key)) m) → (length out ≡ 32) × (take (c .width) out ≡ S.keyOfSlot c h m)
 unfolding S.keyOfSlot
 met-walked c h at m key out w n t f e =
@@ -272,7 +328,7 @@ same-turned xs ys = go (same ys xs) refl
     go false e = same-differ xs ys (λ p. same-false ys xs e (sym p))
 
 -- the key at the end of a way that was walked in two parts
-pub two-parts : (c : Chain) (high stop low : ℕ) (top here last end : List ℕ) (f : Bool) → c .width ≤ 32 → length top ≡ 32 → low ≤ stop → stop ≤ high
+pub two-parts : (c : Chain) (high stop low : ℕ) (top here last end : List ℕ) (f : Bool) → c .width ≤ S.hashBytes (c .hf) → length top ≡ 32 → low ≤ stop → stop ≤ high
     → here ≡ splice top 0 (S.keyOfSlot c (S.held high (take (c .width) top)) stop)
     → last ≡ splice here 0 (S.keyOfSlot c (S.held stop (take (c .width) here)) low)
     → f ≡ same (part last 0 (c .width)) (part end 0 (c .width))

@@ -9,6 +9,7 @@
 //   sent_slot    the slot of the key that a satellite sends
 //   key_slot     the slot of the key that a tag uses
 // A step hashes one block, which stays filled from step to step: only the key and the time in it change.
+// The hash is the one that HF names (02, P6). It is chosen once a walk: SHA-256 and the sponges of SHA3 have a loop each.
 use rules::Chain;
 ghost use mathlib.Core.Path.{_≡_};
 ghost use mathlib.Core.Bool.{cond};
@@ -17,7 +18,8 @@ ghost use lib.ListN.{length, take};
 ghost use Rattle.laws.specs.Lists.{splice, same};
 ghost use Rattle.rules.specs.Chain as S;
 ghost use Rattle.rules.specs.declared.Chain.{Chain};
-ghost use Rattle.chain.specs.Sound.{Walks, Framed, Met, OnWay};
+ghost use Rattle.sha256.specs.Sha256.{tail};
+ghost use Rattle.chain.specs.Sound.{Walks, ByCompress, Sponge, Framed, Met, OnWay, spongeTail, laidOut};
 
 // Keys that were met on the way down from the held one: `met`, of slot `near`, and `own`, of slot `low`. Which keys these are changes no answer.
 pub struct Way {
@@ -27,9 +29,25 @@ pub struct Way {
     pub own: [u8; 32],
 }
 
-// The key of slot m + n becomes the key of slot m: n steps.
+// The key of slot m + n becomes the key of slot m: n steps, by the hash that HF names.
 pub fn walk(c: Chain, n: u64, m: u64, key: &mut [u8; 32])
     requires { ⌜ Walks c × (m + n ≤ 2 ^ 34) ⌝ }
+    ensures { λ _. ⌜ now (key .exit) ≡ splice (now (key .entry)) 0 (S.walk c n m (take (c .width) (now (key .entry)))) ⌝ }
+{
+    if c.hf == 1 {
+        walk_sponge(c, 144, n, m, key);
+        return;
+    }
+    if c.hf == 2 {
+        walk_sponge(c, 136, n, m, key);
+        return;
+    }
+    walk_sha256(c, n, m, key);
+}
+
+// The walk with SHA-256.
+fn walk_sha256(c: Chain, n: u64, m: u64, key: &mut [u8; 32])
+    requires { ⌜ (Walks c × ByCompress c) × (m + n ≤ 2 ^ 34) ⌝ }
     ensures { λ _. ⌜ now (key .exit) ≡ splice (now (key .entry)) 0 (S.walk c n m (take (c .width) (now (key .entry)))) ⌝ }
 {
     let width = c.width;
@@ -43,6 +61,22 @@ pub fn walk(c: Chain, n: u64, m: u64, key: &mut [u8; 32])
     buffer::copy_part(key, 0, &b, 0, width);
 }
 
+// The walk with a sponge of this rate: SHA3-224 or SHA3-256.
+fn walk_sponge(c: Chain, rate: usize, n: u64, m: u64, key: &mut [u8; 32])
+    requires { ⌜ (Walks c × Sponge c rate) × (m + n ≤ 2 ^ 34) ⌝ }
+    ensures { λ _. ⌜ now (key .exit) ≡ splice (now (key .entry)) 0 (S.walk c n m (take (c .width) (now (key .entry)))) ⌝ }
+{
+    let width = c.width;
+    let mut b = sponge_framed(c, key);
+    let mut left = n;
+    while 0 < left {
+        let j = left - 1;
+        sponge_step(c, rate, m + j, &mut b);
+        left = j;
+    }
+    buffer::copy_part(key, 0, &b, 0, width);
+}
+
 // The GST_SF of slot m, in 32 bits.
 fn slot_time(c: Chain, m: u64) -> u32
     requires { ⌜ Walks c × (m ≤ 2 ^ 34) ⌝ }
@@ -51,29 +85,61 @@ fn slot_time(c: Chain, m: u64) -> u32
     times::gst_of(times::slot_seconds(c.ns, c.nmack, c.root, m))
 }
 
-// The block of a step from this key: its time is still to be set.
-fn framed(c: Chain, key: &[u8; 32]) -> [u8; 64]
+// The block of a step from this key, with no time and no padding.
+fn laid(c: Chain, key: &[u8; 32]) -> [u8; 64]
     requires { ⌜ Walks c ⌝ }
-    ensures { λ r. ⌜ (take (c .width) r ≡ take (c .width) (now (key .entry))) × Framed c r ⌝ }
+    ensures { λ r. ⌜ r ≡ laidOut c (now (key .entry)) ⌝ }
 {
     let width = c.width;
     let alpha = c.alpha;
     let mut b = [0u8; 64];
     buffer::copy_part(&mut b, 0, key, 0, width);
     buffer::copy_part(&mut b, width + 4, &alpha, 0, 6);
+    b
+}
+
+// The block of a step with SHA-256: its time is still to be set.
+fn framed(c: Chain, key: &[u8; 32]) -> [u8; 64]
+    requires { ⌜ Walks c ⌝ }
+    ensures { λ r. ⌜ (take (c .width) r ≡ take (c .width) (now (key .entry))) × Framed c (tail (c .width + 10)) r ⌝ }
+{
+    let width = c.width;
+    let mut b = laid(c, key);
     b[width + 10] = 0x80;
     buffer::put_u32(&mut b, 60, (8 * (width + 10)) as u32);
     b
 }
 
-// One step, in the block: the key of slot m + 1 becomes the key of slot m.
+// The block of a step with a sponge: its time is still to be set.
+fn sponge_framed(c: Chain, key: &[u8; 32]) -> [u8; 64]
+    requires { ⌜ Walks c ⌝ }
+    ensures { λ r. ⌜ (take (c .width) r ≡ take (c .width) (now (key .entry))) × Framed c (spongeTail (c .width + 10)) r ⌝ }
+{
+    let width = c.width;
+    let mut b = laid(c, key);
+    b[width + 10] = 6;
+    b
+}
+
+// One step with SHA-256, in the block: the key of slot m + 1 becomes the key of slot m.
 fn step(c: Chain, m: u64, b: &mut [u8; 64])
-    requires { ⌜ Walks c × ((m ≤ 2 ^ 34) × Framed c (now b)) ⌝ }
-    ensures { λ _. ⌜ (take (c .width) (now (b .exit)) ≡ S.keyStep c m (take (c .width) (now (b .entry)))) × Framed c (now (b .exit)) ⌝ }
+    requires { ⌜ (Walks c × ByCompress c) × ((m ≤ 2 ^ 34) × Framed c (tail (c .width + 10)) (now b)) ⌝ }
+    ensures { λ _. ⌜ (take (c .width) (now (b .exit)) ≡ S.keyStep c m (take (c .width) (now (b .entry)))) × Framed c (tail (c .width + 10)) (now (b .exit)) ⌝ }
 {
     let width = c.width;
     buffer::put_u32(b, width, slot_time(c, m));
     let d = sha256::bytes(sha256::compress(sha256::initial(), b));
+    buffer::copy_part(b, 0, &d, 0, width);
+}
+
+// One step with a sponge.
+fn sponge_step(c: Chain, rate: usize, m: u64, b: &mut [u8; 64])
+    requires { ⌜ (Walks c × Sponge c rate) × ((m ≤ 2 ^ 34) × Framed c (spongeTail (c .width + 10)) (now b)) ⌝ }
+    ensures { λ _. ⌜ (take (c .width) (now (b .exit)) ≡ S.keyStep c m (take (c .width) (now (b .entry)))) × Framed c (spongeTail (c .width + 10)) (now (b .exit)) ⌝ }
+{
+    let width = c.width;
+    buffer::put_u32(b, width, slot_time(c, m));
+    let d = sha3::one_block(rate, b);
     buffer::copy_part(b, 0, &d, 0, width);
 }
 

@@ -81,7 +81,7 @@ matches-is c h e set t r p q u = u ∙ rw (p, q)
 -- ---- a walk goes on
 
 -- the key after a walk from slot `at` to slot m
-pub key-after : (c : Chain) (h : S.Held) (at m : ℕ) (key out : List ℕ) → c .width ≤ 32 → length key ≡ 32 → m ≤ at → at ≤ h .slot
+pub key-after : (c : Chain) (h : S.Held) (at m : ℕ) (key out : List ℕ) → c .width ≤ S.hashBytes (c .hf) → length key ≡ 32 → m ≤ at → at ≤ h .slot
     → take (c .width) key ≡ S.keyOfSlot c h at → out ≡ splice key 0 (S.keyOfSlot c (S.held at (take (c .width) key)) m)
     → take (c .width) out ≡ S.keyOfSlot c h m
 key-after c h at m key out w n p q e o =
@@ -89,7 +89,7 @@ key-after c h at m key out w n p q e o =
     ∙ ap (λ (k : List ℕ). S.keyOfSlot c (S.held at k) m) e
     ∙ walk-on c h at m p q
 
-pub key-long : (c : Chain) (at m : ℕ) (key out : List ℕ) → c .width ≤ 32 → length key ≡ 32
+pub key-long : (c : Chain) (at m : ℕ) (key out : List ℕ) → c .width ≤ S.hashBytes (c .hf) → length key ≡ 32
     → out ≡ splice key 0 (S.keyOfSlot c (S.held at (take (c .width) key)) m) → length out ≡ 32
 unfolding S.keyOfSlot
 key-long c at m key out w n o = walked-length c (at - m) m key out w n o

@@ -1,5 +1,6 @@
-// The published examples of SHA-256 (FIPS 180-4's example values and NIST's additional ones) and of HMAC (RFC 4231).
-// Each line names the example and gives the code; the expected output is the documents'.
+// The published examples of SHA-256 (FIPS 180-4's example values and NIST's additional ones), of HMAC (RFC 4231), and of SHA3-224 and
+// SHA3-256 (NIST's example values for FIPS 202). Each line names the example and gives the code; the expected output is the documents', and
+// for SHA-3's lengths about a block's end that of another implementation.
 use libc::STDOUT_FILENO;
 ghost use Prim.Native.Nat.{_<_, _≤_, _^_};
 ghost use lib.ListN.{length};
@@ -10,6 +11,9 @@ fn main() {
     sha_in_parts();
     hmac_short_keys();
     hmac_long_keys();
+    sha3_messages();
+    sha3_lengths();
+    sha3_blocks();
 }
 
 // The first n bytes of d in hexadecimal, and an end of line.
@@ -169,4 +173,75 @@ fn hmac_long_keys() {
         b"This is a test using a larger than block-size key and a larger than block-size data. The key needs to be hashed before being used by the HMAC algorithm.",
         32,
     );
+}
+
+// Both SHA-3 digests of m.
+fn both(label: &[u8], m: &[u8]) {
+    io::write_all(STDOUT_FILENO, b"sha3-224 ");
+    io::write_all(STDOUT_FILENO, label);
+    let d = sha3::sha3_224(m);
+    print(&d, 28);
+    io::write_all(STDOUT_FILENO, b"sha3-256 ");
+    io::write_all(STDOUT_FILENO, label);
+    let e = sha3::sha3_256(m);
+    print(&e, 32);
+}
+
+fn sha3_messages() {
+    both(b"empty ", b"");
+    both(b"abc ", b"abc");
+    both(
+        b"448 bits ",
+        b"abcdbcdecdefdefgefghfghighijhijkijkljklmklmnlmnomnopnopq",
+    );
+    both(
+        b"896 bits ",
+        b"abcdefghbcdefghicdefghijdefghijkefghijklfghijklmghijklmnhijklmnoijklmnopjklmnopqklmnopqrlmnopqrsmnopqrstnopqrstu",
+    );
+    let m = [0xa3u8; 200];
+    both(b"1600 bits ", &m);
+}
+
+// Messages that end about the end of a block, of 136 and of 144 bytes.
+fn sha3_lengths() {
+    let m = [0x61u8; 300];
+    both(b"134 a ", &m[..134]);
+    both(b"135 a ", &m[..135]);
+    both(b"136 a ", &m[..136]);
+    both(b"142 a ", &m[..142]);
+    both(b"143 a ", &m[..143]);
+    both(b"144 a ", &m[..144]);
+    both(b"271 a ", &m[..271]);
+    both(b"272 a ", &m[..272]);
+    both(b"287 a ", &m[..287]);
+    both(b"288 a ", &m[..288]);
+}
+
+// "abc", and 42 bytes a, in a block of their own.
+fn sha3_blocks() {
+    let mut b = [0u8; 64];
+    b[0] = 0x61;
+    b[1] = 0x62;
+    b[2] = 0x63;
+    b[3] = 6;
+    in_block(b"abc in a block ", &b);
+    let mut c = [0u8; 64];
+    let mut i: usize = 0;
+    while i < 42 {
+        c[i] = 0x61;
+        i += 1;
+    }
+    c[42] = 6;
+    in_block(b"42 a in a block ", &c);
+}
+
+fn in_block(label: &[u8], b: &[u8; 64]) {
+    io::write_all(STDOUT_FILENO, b"sha3-224 ");
+    io::write_all(STDOUT_FILENO, label);
+    let d = sha3::one_block(144, b);
+    print(&d, 28);
+    io::write_all(STDOUT_FILENO, b"sha3-256 ");
+    io::write_all(STDOUT_FILENO, label);
+    let e = sha3::one_block(136, b);
+    print(&e, 32);
 }

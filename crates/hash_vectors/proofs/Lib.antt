@@ -1,5 +1,6 @@
 -- The published examples, computed.
 mod Sha
+mod Sha3
 mod Mac
 mod Aes
 mod Cmac

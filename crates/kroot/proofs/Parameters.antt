@@ -79,7 +79,7 @@ and-groups true true true true true true true true true = refl
 pub bad-is : (config c : List ℕ) → G.functionsBad c || (G.widthsBad config c || G.rootTimeBad c) ≡ S.parametersBad config c
 unfolding S.parametersBad G.functionsBad G.widthsBad G.rootTimeBad
 bad-is config c =
-    or-groups (neb (S.hfOf c) 0) (S.mfBad c) (neb (S.moOf c) 0) (eqb (S.nmackOf c) 0)
+    or-groups (S.hfBad c) (S.mfBad c) (neb (S.moOf c) 0) (eqb (S.nmackOf c) 0)
     (ltb 8 (S.ksOf c)) (ltb 9 (S.msOf c)) (neb (S.macltFieldOf c) (macltOf config))
     (ltb (S.blockBits (S.nmackOf c)) (8 * S.keyWidth (S.ksOf c) + S.tagWidth (S.msOf c) + 16))
     (ltb 167 (S.rootHourOf c)) (eqb (S.rootWeekOf c) 0 && eqb (S.rootHourOf c) 0)

@@ -8,9 +8,9 @@ use Rattle.laws.specs.Refusal.{neb}
 use Rattle.rules.specs.Kroot as S
 use Rattle.rules.specs.State.{macltOf}
 
--- HF or MO not 0; MF as `mfBad` says; NMACK 0
+-- HF as `hfBad` and MF as `mfBad` says; MO not 0; NMACK 0
 unfoldable pub functionsBad : List ℕ → Bool
-functionsBad c = neb (S.hfOf c) 0 || (S.mfBad c || (neb (S.moOf c) 0 || eqb (S.nmackOf c) 0))
+functionsBad c = S.hfBad c || (S.mfBad c || (neb (S.moOf c) 0 || eqb (S.nmackOf c) 0))
 
 -- "KS code above 8, MS code above 9; other MACLT; block shorter than KS + MS + 16"
 unfoldable pub widthsBad : List ℕ → List ℕ → Bool

@@ -12,6 +12,7 @@ ghost use Prim.Native.Nat.{ℕ, _+_, _≤_, _<_};
 ghost use lib.ListN.{length};
 ghost use Rattle.laws.specs.Lists.{part};
 ghost use Rattle.rules.specs.Bits.{filled};
+ghost use Rattle.rules.specs.Chain.{hashBytes};
 ghost use Rattle.rules.specs.Kroot as S;
 ghost use Rattle.rules.specs.State.{configLength, pubkeysLength, offerLength, chainLength, contentsLength};
 ghost use Rattle.rules.specs.Verdict.{namesOffer, chainUnchanged};
@@ -109,12 +110,14 @@ pub fn chain_with(ns: u64, c: &[u8]) -> Chain
     let root = root_seconds(c);
     let fields = fields_for(blocks, 8 * (width as u64), bits);
     let alpha = alpha(c);
+    let hf = hf(c);
     let mf = mf(c);
     Chain {
         ns: ns,
         nmack: blocks as u64,
         root: root,
         alpha: alpha,
+        hf: hf,
         mf: mf,
         width: width,
         ms: bits,
@@ -176,12 +179,29 @@ fn parameters_bad(config: &[u8], c: &[u8]) -> bool
     functions_bad(c) | (widths_bad(config, c) | root_time_bad(c))
 }
 
-// HF or MO not 0; MF that is refused; NMACK 0.
+// HF or MF that is refused; MO not 0; NMACK 0.
 fn functions_bad(c: &[u8]) -> bool
     requires { ⌜ contentsLength ≤ length (now c) ⌝ }
     ensures { λ r. ⌜ r ≡ G.functionsBad (now (c .entry)) ⌝ }
 {
-    (hf(c) != 0) | (mf_bad(c) | ((mo(c) != 0) | (nmack(c) == 0)))
+    hf_bad(c) | (mf_bad(c) | ((mo(c) != 0) | (nmack(c) == 0)))
+}
+
+// HF above 2, or a key that is longer than a digest.
+fn hf_bad(c: &[u8]) -> bool
+    requires { ⌜ contentsLength ≤ length (now c) ⌝ }
+    ensures { λ r. ⌜ r ≡ S.hfBad (now (c .entry)) ⌝ }
+{
+    let f = hf(c);
+    let width = key_width(ks(c));
+    (2 < f) | (hash_bytes(f) < width)
+}
+
+// Bytes of a digest, by HF.
+fn hash_bytes(hf: u8) -> usize
+    ensures { λ r. ⌜ r ≡ hashBytes hf ⌝ }
+{
+    if hf == 1 { 28 } else { 32 }
 }
 
 // MF above 1, or 1 with a key that is none of AES.

@@ -12,7 +12,7 @@ use borrow.Author.Tests.{leb-true, eqb-true}
 use Rattle.laws.proofs.Refusal.{by-test}
 use Rattle.rules.specs.Calls.{Start, Subframe}
 use Rattle.rules.specs.Chain.{Held, walk, keyOfSlot, keySlot}
-use Rattle.rules.specs.Claim.{Arrived, Disclosed, Vouched, FourThings, tagName, NoneOf, contentsBy, chainBy, rootBy, slotOfTag}
+use Rattle.rules.specs.Claim.{Arrived, Disclosed, Vouched, HashNamed, FourThings, tagName, NoneOf, contentsBy, chainBy, rootBy, slotOfTag}
 use Rattle.rules.specs.Kroot.{chainWith, rootSecondsOf}
 use Rattle.rules.specs.Log.{Entry, Log, Once, sectionIn, chainIn, chainTurns}
 use Rattle.rules.specs.State.{State, entryLength, waitingLength}
@@ -33,6 +33,7 @@ pub record SectionIs (o : Start) (b : State) (said : Verdict) (h : Held) (x : En
   pub in-force : chainIn l ≡ some said
   pub vouched : Once (Vouched o b said) l
   pub held-is : HeldIs (chainBy o said) (rootBy said) h (x ∷ l)
+  pub hash-named : HashNamed (chainBy o said) (contentsBy said)
 
 -- the seconds of a chain's sub-frame 0 are those of its contents
 pub root-seconds : (ns : ℕ) (c : List ℕ) → (chainWith ns c) .root ≡ rootSecondsOf c
@@ -73,6 +74,7 @@ module _ (o : Start) (b : State) (said : Verdict) (h : Held) (x : Entry) (l : Lo
         of-slot = record { from-slot = h .slot; from-key = h .key; disclosed = disclosed-of (v .held-is .from) (omega arith); reached = le; key-is = refl };
         matches = eqb-true _ (t .bits) m;
         to-root = walk-through chain (h .slot) (slotOfTag chain t) (h .key) le ∙ v .held-is .down;
+        hash-named = v .hash-named;
         vouched = v .vouched;
       }
 

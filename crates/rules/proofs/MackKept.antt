@@ -7,20 +7,20 @@ use mathlib.Core.List.{List, [], _∷_}
 use mathlib.Core.Option.{none, some}
 use native.Mathlib.Nat.{le-refl}
 use native.Mathlib.Omega.{arith}
-use lib.Dec.{ltb}
+use lib.Dec.{ltb, eqb}
 use lib.ListN.{length, getD, take, drop}
 use lib.Seq.{take-at}
-use borrow.Author.Tests.{ltb-false, not-false}
+use borrow.Author.Tests.{ltb-false, not-true, not-false}
 use Rattle.laws.specs.Lists.{part, splice}
 use Rattle.laws.specs.Refusal.{unless}
-use Rattle.laws.proofs.Tests.{neither}
+use Rattle.laws.proofs.Tests.{neither, and-right}
 use Rattle.rules.specs.Bits.{filled, within}
 use Rattle.rules.specs.Calls.{Start, Subframe, MackDone, fieldsOf, chainOf, heldOf, sectionUnfit, sectionProved, tagsWorked, sectionTaken, mackHalf}
 use Rattle.rules.specs.Candidates.{pairAt}
-use Rattle.rules.specs.Chain.{Held, sentSlot}
-use Rattle.rules.specs.Claim.{Counted, Agreed, AgreedUpTo, MarkBacked, contentsBy, chainBy, sectionOf}
+use Rattle.rules.specs.Chain.{Held, hashBytes, sentSlot}
+use Rattle.rules.specs.Claim.{HashNamed, Counted, Agreed, AgreedUpTo, MarkBacked, contentsBy, chainBy, sectionOf}
 use Rattle.rules.specs.Gather.{hkrootOf, mackOf, headerOf, statusOf, cidOf}
-use Rattle.rules.specs.Kroot.{krootOf, chainWith, chainContents, inForce, nmackOf, rootSecondsOf}
+use Rattle.rules.specs.Kroot.{krootOf, chainWith, chainContents, inForce, nmackOf, hfOf, ksOf, keyWidth, hfBad, parametersBad, rootSecondsOf}
 use Rattle.rules.specs.Log.{Entry, Log, here, earlier, sectionIn, verdictIn, chainTurns}
 use Rattle.rules.specs.Mack.{Proved}
 use Rattle.rules.specs.Navdata.{setIssue}
@@ -111,6 +111,22 @@ held-small : (s : State) → (heldOf s) .slot < 2 ^ 34
 unfolding heldOf
 held-small s = held-bound (s .tesla .numbers)
 
+-- ---- the hash of a chain in force
+
+good : (config chain : List ℕ) → inForce config chain ≡ true → parametersBad config (chainContents chain) ≡ false
+unfolding inForce
+good config chain h = not-true _ (and-right (eqb (getD chain 0 0) 1) _ h)
+
+hash-of : (config contents : List ℕ) (ns : ℕ) → parametersBad config contents ≡ false → HashNamed (chainWith ns contents) contents
+unfolding parametersBad hfBad chainWith
+hash-of config contents ns h =
+    let t = neither (ltb 2 (hfOf contents)) _ ((neither (hfBad contents) _ h) .0) in
+    record {
+      hf-is = refl;
+      named = ltb-false 2 (hfOf contents) (t .0);
+      key-fits = ltb-false (hashBytes (hfOf contents)) (keyWidth (ksOf contents)) (t .1);
+    }
+
 -- records that were written at the start of the area read back
 pub records-back : (area records : List ℕ) (n : ℕ) → length records ≡ n * 12 → part (splice area 0 records) 0 (12 * (length records / 12)) ≡ records
 unfolding part splice
@@ -149,6 +165,7 @@ module _ (o : Start) (b s : State) (x : Entry) (l : Log) (sub : Subframe) (U : L
         in-force = force .in-force;
         vouched = force .vouched;
         held-is = rw (← chain-is, ← (force .contents-are)) (proves .held-is);
+        hash-named = hash-of (s .config) (contentsBy (force .said)) (o .ns) (rw (force .contents-are) at (good (s .config) (s .chain) (f .force)));
       }
 
   root-before : rootSecondsOf (contentsBy (force .said)) ≤ secondsOf (sub .time)

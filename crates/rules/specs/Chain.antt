@@ -2,10 +2,11 @@
 use Prim.Native.Nat.{ℕ, zero, suc, _+_, _-_}
 use mathlib.Core.Bool.{Bool, cond}
 use mathlib.Core.List.{List, _++_}
-use lib.Dec.{ltb}
+use lib.Dec.{ltb, eqb}
 use lib.ListN.{take}
 use Rattle.laws.specs.Bytes.{be4}
 use Rattle.sha256.specs.Sha256.{sha256}
+use Rattle.sha3.specs.Sha3.{sha3-224, sha3-256}
 use Rattle.rules.specs.Bits.{same}
 use Rattle.rules.specs.Times.{gstOf, slotOf, slotSeconds, tagSlot, subframeAt, secondsOf}
 use Rattle.rules.specs.declared.Chain.{Chain}
@@ -14,9 +15,17 @@ use Rattle.rules.specs.declared.Chain.{Chain}
 unfoldable pub slotTime : Chain → ℕ → ℕ
 slotTime c m = gstOf (slotSeconds (c .ns) (c .nmack) (c .root) m)
 
--- "Key m is the first KS bits of SHA-256(key m+1, GST_SF of slot m, α)."
+-- the hash that HF names (000, table 10; 02, P6): 0 SHA-256, 1 SHA3-224, 2 SHA3-256; row 8 refuses 3
+unfoldable pub chainHash : ℕ → List ℕ → List ℕ
+chainHash hf message = cond (eqb hf 1) (sha3-224 message) (cond (eqb hf 2) (sha3-256 message) (sha256 message))
+
+-- bytes of its digests
+unfoldable pub hashBytes : ℕ → ℕ
+hashBytes hf = cond (eqb hf 1) 28 32
+
+-- "Key m is the first KS bits of SHA-256(key m+1, GST_SF of slot m, α).", SHA-256 or what HF names in its place (02, P6)
 unfoldable pub keyStep : Chain → ℕ → List ℕ → List ℕ
-keyStep c m key = take (c .width) (sha256 (key ++ (be4 (slotTime c m) ++ c .alpha)))
+keyStep c m key = take (c .width) (chainHash (c .hf) (key ++ (be4 (slotTime c m) ++ c .alpha)))
 
 -- n steps down: the key of slot m, from that of slot m + n
 unfoldable pub walk : Chain → ℕ → ℕ → List ℕ → List ℕ

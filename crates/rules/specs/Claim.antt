@@ -18,9 +18,9 @@ use Rattle.laws.specs.Lists.{part}
 use Rattle.laws.specs.Refusal.{firstOf, unless}
 use Rattle.rules.specs.Bits.{filled, anyOf}
 use Rattle.rules.specs.Calls.{Start, Word, Subframe, OfferRead, startCall, offerRead, authStamp, authSet, fieldsOf, subframeChecks, noted, hkrootReceived}
-use Rattle.rules.specs.Chain.{walk, sentSlot, keySlot}
+use Rattle.rules.specs.Chain.{hashBytes, walk, sentSlot, keySlot}
 use Rattle.rules.specs.Gather.{hkrootOf, mackOf, headerOf, statusOf, dsmIdOf, blockIdOf, blockOf, totalOf}
-use Rattle.rules.specs.Kroot.{chainWith, krootOf}
+use Rattle.rules.specs.Kroot.{chainWith, krootOf, hfOf}
 use Rattle.rules.specs.Log.{Call, start, word, subframe, verdict, Question, set, offer, four, ask, Handed, Entry, Log, Once, Always, History, ranFrom, stateAt, step, hkrootIn, sectionIn, verdictIn, lastWord, lastNoted, chainIn, chainTurns}
 use Rattle.rules.specs.Mack.{blockKey}
 use Rattle.rules.specs.Navdata.{setUsable, setBytes, setIssue}
@@ -172,6 +172,13 @@ pub record KeyOfSlot (c : Chain) (slot : ℕ) (key : List ℕ) (l : Log) : Type 
 abbrev pub slotOfTag : Chain → Tag → ℕ
 slotOfTag c t = keySlot c (t .time) (t .block) (t .adkd)
 
+-- "whichever hash the signed root names" (02, P6): the chain's steps are those of the HF of its contents, which names one (000, table 10), and a key is
+-- part of its digest
+pub record HashNamed (c : Chain) (contents : List ℕ) : Type 0 where
+  pub hf-is : c .hf ≡ hfOf contents
+  pub named : c .hf ≤ 2
+  pub key-fits : c .width ≤ hashBytes (c .hf)
+
 -- ---- the four things
 
 -- a tag and a set for which they hold, where the tag was judged: at this entry
@@ -193,6 +200,8 @@ pub record FourThings (origin : Start) (began : State) (t : Tag) (navdata : List
   pub matches : macBits ((chainBy origin force) .mf) ((chainBy origin force) .ms) key (cond first (firstMessage t navdata) (tagMessage t navdata)) ≡ t .bits
   -- "That key hashes, in exactly as many steps as its slot number, to the root of the chain in force when the tag was judged."
   pub to-root : walk (chainBy origin force) (slotOfTag (chainBy origin force) t) 0 key ≡ rootBy force
+  -- "The chain steps promised to the user are steps of whichever hash the signed root names." (02, P6)
+  pub hash-named : HashNamed (chainBy origin force) (contentsBy force)
   -- "That root was vouched for by a good verdict on its exact message, under a public key given at that start or proved by its tree nodes."
   pub vouched : Once (Vouched origin began force) older
 

@@ -8,6 +8,7 @@ use lib.Dec.{leb, ltb, eqb}
 use lib.ListN.{length, getD, replicate}
 use Rattle.laws.specs.Lists.{part}
 use Rattle.laws.specs.Refusal.{Check, refuse, firstOf, unless, neb}
+use Rattle.rules.specs.Chain.{hashBytes}
 use Rattle.rules.specs.Bits.{bits, filled, anyOf}
 use Rattle.rules.specs.PublicKeys.{keyHeld, keyType, signatureLength}
 use Rattle.rules.specs.State.{macltOf, offerLength, contentsLength}
@@ -79,12 +80,16 @@ aesWidth width = eqb width 16 || (eqb width 24 || eqb width 32)
 unfoldable pub mfBad : List ℕ → Bool
 mfBad c = ltb 1 (mfOf c) || (eqb (mfOf c) 1 && not (aesWidth (keyWidth (ksOf c))))
 
--- row 8 of the table, its MF as above: "HF, MF or MO not 0; NMACK 0; KS code above 8, MS code above 9; other MACLT; block shorter than KS + MS + 16; hour
+-- HF 0, 1 and 2 name a hash (000, table 10), 3 none; a key is part of a digest: "KS 256 with HF 1 is answered 8." (02, P6)
+unfoldable pub hfBad : List ℕ → Bool
+hfBad c = ltb 2 (hfOf c) || ltb (hashBytes (hfOf c)) (keyWidth (ksOf c))
+
+-- row 8 of the table, its HF and MF as above: "HF, MF or MO not 0; NMACK 0; KS code above 8, MS code above 9; other MACLT; block shorter than KS + MS + 16; hour
 -- above 167; week 0 hour 0"
 unfoldable pub parametersBad : List ℕ → List ℕ → Bool
 parametersBad config c =
     anyOf
-    (neb (hfOf c) 0
+    (hfBad c
     ∷ mfBad c
     ∷ neb (moOf c) 0
     ∷ eqb (nmackOf c) 0
@@ -171,6 +176,7 @@ chainWith ns c =
       nmack = nmackOf c;
       root = rootSecondsOf c;
       alpha = alphaOf c;
+      hf = hfOf c;
       mf = mfOf c;
       width = keyWidth (ksOf c);
       ms = tagWidth (msOf c);

@@ -61,7 +61,7 @@ abbrev pub blockNumber : ℕ → ℕ
 blockNumber second =
     firstOf
     (blockChecks
-    (record { ns = 36; nmack = 2; root = 604800; alpha = replicate 6 0; mf = 0; width = 16; ms = 12; fields = 4 })
+    (record { ns = 36; nmack = 2; root = 604800; alpha = replicate 6 0; hf = 0; mf = 0; width = 16; ms = 12; fields = 4 })
     (gst 1 second) 1 0 (replicate 60 255) (held 0 (replicate 16 0)) 1)
 
 -- such a section with these marks at this second of week 4; a root of week 2 hour 1 is in force where `root` is 1, dropped where it is 2
@@ -95,10 +95,11 @@ orders =
     ∷ point (wordNumber 1 15 1 570 1) 4
     ∷ point (wordNumber 0 15 1 570 6) 3
     ∷ point (wordNumber 0 15 1 600 1) 0
-    -- KROOT: no key and bad parameters; bad parameters and a wrong size; a wrong size
-    ∷ point (firstOf (krootChecks [] [] (0x20 ∷ (contents 0x24 1 ++ replicate 59 0)))) 7
-    ∷ point (firstOf (krootChecks (1 ∷ []) [] (0x20 ∷ (contents 0x24 1 ++ replicate 59 0)))) 8
+    -- KROOT: no key and bad parameters (HF 3); bad parameters and a wrong size; a wrong size; a wrong size with HF 1, which was 8 before 02's P6
+    ∷ point (firstOf (krootChecks [] [] (0x20 ∷ (contents 0x2C 1 ++ replicate 59 0)))) 7
+    ∷ point (firstOf (krootChecks (1 ∷ []) [] (0x20 ∷ (contents 0x2C 1 ++ replicate 59 0)))) 8
     ∷ point (firstOf (krootChecks (1 ∷ []) [] (0x20 ∷ (contents 0x20 1 ++ replicate 59 0)))) 6
+    ∷ point (firstOf (krootChecks (1 ∷ []) [] (0x20 ∷ (contents 0x24 1 ++ replicate 59 0)))) 6
     -- PKR: a wrong size, and nodes that do not give the root; nodes that do not give the root, and an ID not above all held
     ∷ point (firstOf (pkrChecks [] [] (replicate 91 0))) 6
     ∷ point (pkrNumber []) 10

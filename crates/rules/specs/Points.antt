@@ -51,9 +51,14 @@ abbrev pub numberForFunction : ℕ → ℕ → ℕ
 numberForFunction mf ks =
     firstOf (take 2 (krootChecks (1 ∷ []) [] (0x10 ∷ (0x10 + mf) ∷ (ks * 16) ∷ 0 ∷ 0x03 ∷ 0xB3 ∷ 0x78 ∷ replicate 84 0)))
 
+-- the same with this HF and KS code
+abbrev pub numberForHash : ℕ → ℕ → ℕ
+numberForHash hf ks =
+    firstOf (take 2 (krootChecks (1 ∷ []) [] (0x10 ∷ (0x10 + 4 * hf) ∷ (ks * 16) ∷ 0 ∷ 0x03 ∷ 0xB3 ∷ 0x78 ∷ replicate 84 0)))
+
 -- a chain with NS 36, NMACK 2 and the root of week 1 hour 0
 abbrev pub gapChain : Chain
-gapChain = record { ns = 36; nmack = 2; root = hourSeconds 1 0; alpha = replicate 6 0; mf = 0; width = 16; ms = 12; fields = 4 }
+gapChain = record { ns = 36; nmack = 2; root = hourSeconds 1 0; alpha = replicate 6 0; hf = 0; mf = 0; width = 16; ms = 12; fields = 4 }
 
 -- the slot of the key in block 2 of E`prn` at 1/416640
 abbrev pub slotForGap : ℕ → ℕ
@@ -199,6 +204,15 @@ points =
     ∷ point (fourOf (stampOf (gst 1 0)) 4) 1
     ∷ point (fourOf (stampOf (gst 1 0)) 36) 1
     ∷ point (fourOf 0 4) 0
+    -- 02, P6: "HF 1 (SHA3-224) and HF 2 (SHA3-256)"; "KS 256 with HF 1 is answered 8."; KS 224 with HF 1 is the whole digest, HF 3 has no KS
+    ∷ point (numberForHash 0 8) 0
+    ∷ point (numberForHash 1 0) 0
+    ∷ point (numberForHash 1 7) 0
+    ∷ point (numberForHash 1 8) 8
+    ∷ point (numberForHash 2 0) 0
+    ∷ point (numberForHash 2 8) 0
+    ∷ point (numberForHash 3 0) 8
+    ∷ point (numberForHash 3 4) 8
     ∷ []
 
 abbrev pub Right : Point → Type 0

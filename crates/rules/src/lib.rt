@@ -12,6 +12,8 @@ pub struct Chain {
     pub root: u64,
     // the chain's pattern
     pub alpha: [u8; 6],
+    // the hash of the chain's steps: 0 SHA-256, 1 SHA3-224, 2 SHA3-256
+    pub hf: u8,
     // the function of tags and MACSEQ: 0 HMAC-SHA-256, 1 CMAC-AES
     pub mf: u8,
     // bytes of a key

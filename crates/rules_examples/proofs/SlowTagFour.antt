@@ -12,7 +12,7 @@ use borrow.Author.Tests.{ltb-true, leb-true, eqb-false}
 use Rattle.laws.specs.Lists.{part}
 use Rattle.rules.proofs.Agreements.{each-map}
 use Rattle.rules.specs.Bits.{anyOf}
-use Rattle.rules.specs.Claim.{Arrived, Disclosed, Vouched, given, FourThings, Counted, Agreed, AgreedUpTo, names, Distinct, Each, FortyBits, Marked, SetBacked, chainBy, sectionOf}
+use Rattle.rules.specs.Claim.{Arrived, Disclosed, Vouched, given, HashNamed, FourThings, Counted, Agreed, AgreedUpTo, names, Distinct, Each, FortyBits, Marked, SetBacked, contentsBy, chainBy, sectionOf}
 use Rattle.rules.specs.Log.{Entry, Log, Once, here, earlier}
 use Rattle.rules.specs.Navdata.{setIssue}
 use Rattle.rules.specs.Received.{tagCame, infoCame}
@@ -80,6 +80,11 @@ unfolding opened
 disclosed-2 =
     record { sub = keySection; section-is = refl; block = 0; in-section = ltb-true 0 _ refl; not-before = leb-true _ _ refl; slot-is = refl; key-is = refl; key-came = refl }
 
+-- HF is 0
+by-sha256 : HashNamed chain (contentsBy said)
+unfolding opened
+by-sha256 = record { hf-is = refl; named = leb-true _ 2 refl; key-fits = leb-true _ _ refl }
+
 four-things : FourThings begin began slowTag oldSet keyEntry beforeKey
 unfolding opened macBits
 four-things =
@@ -95,6 +100,7 @@ four-things =
       of-slot = record { from-slot = 2; from-key = key2; disclosed = here disclosed-2; reached = leb-true _ 2 refl; key-is = refl };
       matches = refl;
       to-root = refl;
+      hash-named = by-sha256;
       vouched = before-key (earlier vouched-before-tag);
     }
 
@@ -136,6 +142,7 @@ agreed field bits a record-is matches =
             of-slot = record { from-slot = 1; from-key = key1; disclosed = here disclosed-1; reached = leb-true _ 1 refl; key-is = refl };
             matches = matches;
             to-root = refl;
+            hash-named = by-sha256;
             vouched = vouched-before-tag;
           };
       size-is = refl;

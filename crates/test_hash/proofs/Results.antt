@@ -4,15 +4,25 @@ use mathlib.Core.Path.{_≡_, refl, sym, ap, _∙_}
 use mathlib.Core.List.{List, [], _∷_, _++_}
 use Prim.Native.Nat.{ℕ, _+_}
 use native.Mathlib.Omega.{arith}
+use borrow.Author.Tests.{eq-eqb, ne-eqb}
 use lib.ListN.{length, getD, length-append}
 use Rattle.laws.specs.Lists.{part, splice}
 use Rattle.laws.proofs.Elements.{written-out}
 use Rattle.laws.proofs.Splice.{splice-whole, splice-append}
 use Rattle.hmac.specs.declared.HmacKey.{HmacKey}
-use Rattle.test_hash.specs.Calls.{words, keyIn}
+use Rattle.test_hash.specs.Calls.{answer, digestCall, words, keyIn}
 
 pub written : (n : ℕ) (out d x r : List ℕ) → length out ≡ n → length d ≡ n → d ≡ x → r ≡ splice out 0 d → r ≡ x
 written n out d x r e f p q = q ∙ splice-whole out d (omega arith) ∙ p
+
+-- a call that writes a digest of n bytes
+pub digest-refused : (n : ℕ) (d out : List ℕ) → (length out ≡ n → ⊥) → answer 1 out ≡ digestCall n d out
+unfolding digestCall
+digest-refused n d out h = simp (ne-eqb (length out) n h)
+
+pub digest-written : (n : ℕ) (out d x r : List ℕ) → length out ≡ n → length d ≡ n → d ≡ x → r ≡ splice out 0 d → answer 0 r ≡ digestCall n x out
+unfolding digestCall
+digest-written n out d x r e f p q = simp (eq-eqb (length out) n e, written n out d x r e f p q)
 
 pub words-written : (s : List ℕ) (k : HmacKey) (d r : List ℕ) → length s ≡ 16 → length (k .inner) ≡ 8 → length (k .outer) ≡ 8
     → d ≡ splice s 0 (k .inner) → r ≡ splice d 8 (k .outer) → r ≡ words k

@@ -41,6 +41,10 @@ sha256OfTwoCall a b out =
     (sha256 (a ++ b))
     out
 
+-- the digest d, of n bytes, of a hash that takes messages of any length
+unfoldable pub digestCall : ℕ → List ℕ → List ℕ → Answer
+digestCall n d out = answered (refuse (neb (length out) n) 1 ∷ []) d out
+
 unfoldable pub hmacCall : List ℕ → List ℕ → List ℕ → Answer
 hmacCall k m out =
     answered

@@ -1,21 +1,26 @@
-// SHA-256 and HMAC as exported functions. Each call lends everything and keeps nothing; a slice is a pointer and a count of elements.
+// SHA-256, SHA-3 and HMAC as exported functions. Each call lends everything and keeps nothing; a slice is a pointer and a count of elements.
 // Each answers 0, or 1 where a length is not as it must be, and then leaves everything as it was (specs/Calls.antt).
 // For the tests and the benchmark; it is no part of the receiver's own boundary.
 //   osnma_sha256          the digest of m, into 32 bytes
 //   osnma_sha256_of_two   the digest of a and then b, into 32 bytes
+//   osnma_sha3_224        the digest of m, into 28 bytes
+//   osnma_sha3_256        the digest of m, into 32 bytes
 //   osnma_hmac            the code of m under a key, into 32 bytes
 //   osnma_hmac_key        what is kept of a key, into 16 words
 //   osnma_hmac_with       the code of m under a kept key, into 32 bytes
 //   osnma_compress        one block; no length can be wrong, and there is no answer
+//   osnma_keccak          the permutation of a state, likewise
 ghost use mathlib.Core.Path.{_≡_};
 ghost use Prim.Native.Nat.{_+_, _≤_};
 ghost use lib.ListN.{length};
 ghost use Rattle.laws.specs.Lists.{splice};
 ghost use Rattle.sha256.specs.Sha256.{compress};
+ghost use Rattle.sha3.specs.Sha3.{keccakF, sha3-224, sha3-256};
 ghost use Rattle.test_hash.specs.Calls.{
   answer,
   sha256Call,
   sha256OfTwoCall,
+  digestCall,
   hmacCall,
   hmacKeyCall,
   hmacWithCall,
@@ -63,6 +68,30 @@ pub extern "C" fn osnma_sha256_of_two(a: &[u8], b: &[u8], out: &mut [u8]) -> u32
         return REFUSED;
     }
     let d = sha256::sha256_of_two(a, b);
+    buffer::copy_at(out, 0, &d);
+    WRITTEN
+}
+
+#[no_mangle]
+pub extern "C" fn osnma_sha3_224(m: &[u8], out: &mut [u8]) -> u32
+    ensures { λ r. ⌜ answer r (now (out .exit)) ≡ digestCall 28 (sha3-224 (now (m .entry))) (now (out .entry)) ⌝ }
+{
+    if out.len() != 28 {
+        return REFUSED;
+    }
+    let d = sha3::sha3_224(m);
+    buffer::copy_at(out, 0, &d);
+    WRITTEN
+}
+
+#[no_mangle]
+pub extern "C" fn osnma_sha3_256(m: &[u8], out: &mut [u8]) -> u32
+    ensures { λ r. ⌜ answer r (now (out .exit)) ≡ digestCall 32 (sha3-256 (now (m .entry))) (now (out .entry)) ⌝ }
+{
+    if out.len() != 32 {
+        return REFUSED;
+    }
+    let d = sha3::sha3_256(m);
     buffer::copy_at(out, 0, &d);
     WRITTEN
 }
@@ -124,6 +153,15 @@ pub extern "C" fn osnma_compress(h: &mut [u32; 8], block: &[u8; 64])
     let g = *h;
     let v = sha256::compress(g, block);
     *h = v;
+}
+
+#[no_mangle]
+pub extern "C" fn osnma_keccak(s: &mut [u64; 25])
+    ensures { λ _. ⌜ now (s .exit) ≡ keccakF (now (s .entry)) ⌝ }
+{
+    let g = *s;
+    let v = sha3::permute(g);
+    *s = v;
 }
 
 // A kept key, as sixteen words.

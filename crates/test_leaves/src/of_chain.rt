@@ -9,7 +9,7 @@ ghost use Rattle.rules.specs.Bits.{within};
 ghost use Rattle.rules.specs.Chain.{held, keyFits};
 ghost use Rattle.chain.specs.Sound.{Walks};
 ghost use Rattle.test_leaves.specs.Numbers.{chainOf};
-ghost use Rattle.test_leaves.specs.Walk.{gave, osnmaWalk};
+ghost use Rattle.test_leaves.specs.Walk.{gave, longestKey, osnmaWalk};
 
 // The key of slot m + n becomes the key of slot m: n steps. 0, or 1 where a number is out of range, and the key is then as it was.
 // `alpha` is read; of the 32 bytes of `key` the first `width` are the key, the others stay.
@@ -19,20 +19,22 @@ pub extern "C" fn osnma_walk(
     nmack: u64,
     root: u64,
     alpha: &[u8; 6],
+    hf: u8,
     width: usize,
     n: u64,
     m: u64,
     key: &mut [u8; 32],
 ) -> u32
-    ensures { λ r. ⌜ gave r (now (key .exit)) ≡ osnmaWalk (chainOf ns nmack root (now (alpha .entry)) width 0 0) n m (now (key .entry)) ⌝ }
+    ensures { λ r. ⌜ gave r (now (key .exit)) ≡ osnmaWalk (chainOf ns nmack root (now (alpha .entry)) hf width) n m (now (key .entry)) ⌝ }
 {
+    let longest = longest_key(hf);
     if !in_range(1, 36, ns) {
         return 1;
     }
     if !in_range(1, 3, nmack) {
         return 1;
     }
-    if !in_range(12, 32, width as u64) {
+    if !in_range(12, longest, width as u64) {
         return 1;
     }
     if 8589934592 <= root {
@@ -47,6 +49,7 @@ pub extern "C" fn osnma_walk(
         nmack: nmack,
         root: root,
         alpha: a,
+        hf: hf,
         mf: 0,
         width: width,
         ms: 0,
@@ -54,6 +57,19 @@ pub extern "C" fn osnma_walk(
     };
     chain::walk(c, n, m, key);
     0
+}
+
+// Bytes of the longest key, by HF; none has HF 3 or more.
+fn longest_key(hf: u8) -> u64
+    ensures { λ r. ⌜ r ≡ longestKey hf ⌝ }
+{
+    if 2 < hf {
+        return 0;
+    }
+    if hf == 1 {
+        return 28;
+    }
+    32
 }
 
 // Whether x lies from low to high.
@@ -79,15 +95,16 @@ pub extern "C" fn leaf_key_fits(
     nmack: u64,
     root: u64,
     alpha: &[u8; 6],
+    hf: u8,
     width: usize,
     slot: u64,
     known: &[u8; 32],
     sent: u64,
     key: &[u8; 32],
 ) -> u32
-    requires { ⌜ Walks (chainOf ns nmack root (now alpha) width 0 0) × ((slot ≤ 2 ^ 34) × (sent ≤ 2 ^ 34)) ⌝ }
+    requires { ⌜ Walks (chainOf ns nmack root (now alpha) hf width) × ((slot ≤ 2 ^ 34) × (sent ≤ 2 ^ 34)) ⌝ }
     ensures { λ r. ⌜ r ≡ cond
-        (keyFits (chainOf ns nmack root (now (alpha .entry)) width 0 0) (held slot (take width (now (known .entry)))) sent
+        (keyFits (chainOf ns nmack root (now (alpha .entry)) hf width) (held slot (take width (now (known .entry)))) sent
         (take width (now (key .entry)))) 1 0 ⌝ }
 {
     let a = *alpha;
@@ -96,6 +113,7 @@ pub extern "C" fn leaf_key_fits(
         nmack: nmack,
         root: root,
         alpha: a,
+        hf: hf,
         mf: 0,
         width: width,
         ms: 0,

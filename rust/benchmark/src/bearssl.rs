@@ -75,8 +75,9 @@ fn tag_kept(n: u64) -> [u8; 32] {
 pub const BEARSSL: Contender = Contender {
     name: "bearssl",
     run: |row, n| match row {
-        Row::Block => block(n),
-        Row::TagNewKey => tag_new(n),
-        Row::TagKeptKey => tag_kept(n),
+        Row::Block => Some(block(n)),
+        Row::TagNewKey => Some(tag_new(n)),
+        Row::TagKeptKey => Some(tag_kept(n)),
+        Row::Sha3Block => None,
     },
 };

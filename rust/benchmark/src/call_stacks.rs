@@ -47,23 +47,28 @@ struct Memory {
     area: Records,
 }
 
-/// The deepest stack of the sub-frames of these runs: every message and refusal, and 270 tags of one section.
-fn subframes() -> usize {
-    let runs = [
-        "nominal",
-        "new_public_key",
-        "emergencies",
-        "key_messages",
-        "root_messages",
-        "outcomes",
-        "places_full",
-    ];
+/// Every message and refusal, and 270 tags of one section.
+const RUNS: [&str; 7] = [
+    "nominal",
+    "new_public_key",
+    "emergencies",
+    "key_messages",
+    "root_messages",
+    "outcomes",
+    "places_full",
+];
+
+/// Chains of either SHA3.
+const SHA3_RUNS: [&str; 2] = ["sha3_224", "sha3_256"];
+
+/// The deepest stack of the sub-frames of these runs.
+fn subframes(runs: &[&'static str]) -> usize {
     let mut memory = Box::new(Memory {
         core: Regions::zeroed(),
         area: NO_RECORDS,
     });
     let mut deepest = 0;
-    for call in runs.into_iter().flat_map(calls) {
+    for call in runs.iter().copied().flat_map(calls) {
         let mut lent = memory.core.lend();
         match call[0] {
             1 => {
@@ -150,7 +155,8 @@ pub fn stacks() {
     for (name, bytes) in [
         ("start", start),
         ("word", word),
-        ("sub-frame", subframes()),
+        ("sub-frame", subframes(&RUNS)),
+        ("sub-frame, chain of SHA3", subframes(&SHA3_RUNS)),
         ("verdict", verdicts(core)),
         ("read of an authentic set", read_set),
         ("read of what waits", read_message),

@@ -112,6 +112,7 @@ fn leaf(chain: &chain::Chain) -> Chain {
             root: chain.slots.start,
         },
         alpha: chain.parameters.alpha,
+        hf: chain.parameters.hf,
         width: chain.held.as_slice().len(),
         ms: 10,
     }

@@ -1,19 +1,22 @@
-//! SHA-256 and HMAC. Each row is a chain of the same work from the same input, so that the results of
-//! all contenders can be compared and nothing can be left out.
+//! SHA-256, HMAC and SHA3. Each row is a chain of the same work from the same input, so that the results
+//! of all contenders can be compared and nothing can be left out.
 //!
-//! - `hash names`: the contenders found when this was built
+//! - `hash rows`: the rows
+//! - `hash names [ROW]`: the contenders found when this was built, or those of them that have this row
 //! - `hash time SLICES TURNS`: times as ratios
 //! - `hash count ROW CONTENDER TURNS`: the work alone, to be counted by callgrind
 //! - `hash stack`: the deepest stack of each export
 //!
 //! Results of all contenders are compared before anything is measured.
 
+use crate::sponge::{add, digest, end, State};
 use crate::stack;
 use crate::time::{by_turns, timed, Work};
 use leaves::{hash, raw};
 use std::hint::black_box;
 
-pub const USAGE: &str = "hash names | time SLICES TURNS | count ROW CONTENDER TURNS | stack";
+pub const USAGE: &str =
+    "hash rows | names [ROW] | time SLICES TURNS | count ROW CONTENDER TURNS | stack";
 
 /// One kind of work.
 #[derive(Clone, Copy, Debug, PartialEq, Eq)]
@@ -24,25 +27,33 @@ pub enum Row {
     TagNewKey,
     /// HMAC of 76 bytes under one key, kept.
     TagKeptKey,
+    /// One block of 136 bytes into the state of SHA3-256: 17 lanes added, and the permutation.
+    Sha3Block,
 }
 
 impl Row {
-    pub const ALL: [Row; 3] = [Row::Block, Row::TagNewKey, Row::TagKeptKey];
+    pub const ALL: [Row; 4] = [Row::Block, Row::TagNewKey, Row::TagKeptKey, Row::Sha3Block];
 
     pub fn name(self) -> &'static str {
         match self {
             Row::Block => "block",
             Row::TagNewKey => "tag-new-key",
             Row::TagKeptKey => "tag-kept-key",
+            Row::Sha3Block => "sha3-block",
         }
+    }
+
+    fn of(name: &str) -> Option<Row> {
+        Row::ALL.into_iter().find(|row| row.name() == name)
     }
 }
 
-/// Somebody's SHA-256 and HMAC: `run` does a row's work so many times and gives the last result.
+/// Somebody's SHA-256, HMAC and SHA3: `run` does a row's work so many times and gives the last result; none
+/// where it does not have the row.
 #[derive(Clone, Copy)]
 pub struct Contender {
     pub name: &'static str,
-    pub run: fn(Row, u64) -> [u8; 32],
+    pub run: fn(Row, u64) -> Option<[u8; 32]>,
 }
 
 /// FIPS 180-4, 5.3.3.
@@ -50,6 +61,9 @@ pub const INITIAL: [u32; 8] = portable_hash::INITIAL;
 
 /// The block of every compression.
 pub static BLOCK: [u8; 64] = counting(1);
+
+/// The block of every permutation.
+pub static SHA3_BLOCK: [u8; 136] = counting(1);
 
 /// The key that is kept, and the first of the new ones: 16 bytes, as of a chain of KS 128.
 pub static KEY: [u8; 16] = counting(101);
@@ -96,40 +110,59 @@ pub fn tags_kept(n: u64, mut mac: impl FnMut(&[u8]) -> [u8; 32]) -> [u8; 32] {
     last
 }
 
+/// SHA3-256 of `n` blocks and the padding, which is one more.
+fn sha3_blocks(n: u64, permute: impl Fn(&mut State)) -> [u8; 32] {
+    let mut state = [0; 25];
+    for _ in 0..n {
+        add(&mut state, &SHA3_BLOCK);
+        permute(&mut state);
+    }
+    add(&mut state, &[6, 0, 0, 0, 0, 0, 0, 0]);
+    end(&mut state, SHA3_BLOCK.len());
+    permute(&mut state);
+    digest(&state)
+}
+
 /// The proved library.
 pub const PROVED: Contender = Contender {
     name: "proved",
-    run: |row, n| match row {
-        Row::Block => {
-            let mut h = INITIAL;
-            for _ in 0..n {
-                hash::compress(&mut h, &BLOCK);
+    run: |row, n| {
+        Some(match row {
+            Row::Block => {
+                let mut h = INITIAL;
+                for _ in 0..n {
+                    hash::compress(&mut h, &BLOCK);
+                }
+                words_to_bytes(&h)
             }
-            words_to_bytes(&h)
-        }
-        Row::TagNewKey => tags_new(n, |key, m| hash::hmac(key, m).unwrap_or_default()),
-        Row::TagKeptKey => hash::HmacKey::new(&KEY).map_or([0; 32], |kept| {
-            tags_kept(n, |m| kept.mac(m).unwrap_or_default())
-        }),
+            Row::TagNewKey => tags_new(n, |key, m| hash::hmac(key, m).unwrap_or_default()),
+            Row::TagKeptKey => hash::HmacKey::new(&KEY).map_or([0; 32], |kept| {
+                tags_kept(n, |m| kept.mac(m).unwrap_or_default())
+            }),
+            Row::Sha3Block => sha3_blocks(n, hash::keccak),
+        })
     },
 };
 
 /// The best portable Rust.
 pub const PORTABLE: Contender = Contender {
     name: "portable",
-    run: |row, n| match row {
-        Row::Block => {
-            let mut h = INITIAL;
-            for _ in 0..n {
-                portable_hash::compress(&mut h, &BLOCK);
+    run: |row, n| {
+        Some(match row {
+            Row::Block => {
+                let mut h = INITIAL;
+                for _ in 0..n {
+                    portable_hash::compress(&mut h, &BLOCK);
+                }
+                words_to_bytes(&h)
             }
-            words_to_bytes(&h)
-        }
-        Row::TagNewKey => tags_new(n, portable_hash::hmac_sha256),
-        Row::TagKeptKey => {
-            let kept = portable_hash::HmacKey::new(&KEY);
-            tags_kept(n, |m| kept.mac(m))
-        }
+            Row::TagNewKey => tags_new(n, portable_hash::hmac_sha256),
+            Row::TagKeptKey => {
+                let kept = portable_hash::HmacKey::new(&KEY);
+                tags_kept(n, |m| kept.mac(m))
+            }
+            Row::Sha3Block => sha3_blocks(n, portable_hash::keccak_f),
+        })
     },
 };
 
@@ -143,12 +176,17 @@ pub const CONTENDERS: &[Contender] = &[
     crate::bearssl::BEARSSL,
 ];
 
+/// Those that have the row.
+fn contenders(row: Row) -> impl Iterator<Item = &'static Contender> {
+    CONTENDERS.iter().filter(move |c| (c.run)(row, 0).is_some())
+}
+
 /// Compares the results of all contenders in every row.
 pub fn compare() -> Result<(), String> {
     for row in Row::ALL {
         for n in [1, 2, 50] {
             let right = (PORTABLE.run)(row, n);
-            for contender in CONTENDERS {
+            for contender in contenders(row) {
                 if (contender.run)(row, n) != right {
                     return Err(format!("{} differs in {}", contender.name, row.name()));
                 }
@@ -172,8 +210,8 @@ fn times(slices: usize, turns: u64) {
                 })
             })
         };
-        let mut all: Vec<Work<'_>> = CONTENDERS.iter().map(work).collect();
-        for (contender, told) in CONTENDERS.iter().zip(by_turns(slices, &mut all)) {
+        let mut all: Vec<Work<'_>> = contenders(row).map(work).collect();
+        for (contender, told) in contenders(row).zip(by_turns(slices, &mut all)) {
             println!(
                 "| {} | {} | {:.0} | {:.2} | {:.2} |",
                 row.name(),
@@ -190,11 +228,12 @@ fn times(slices: usize, turns: u64) {
 fn stacks() {
     let bytes = [7u8; 256];
     let mut state = [7u32; 16];
+    let mut lanes: State = [7; 25];
     let mut out = [0u8; 32];
     let (p, o) = (bytes.as_ptr() as usize, out.as_mut_ptr() as usize);
-    let s = state.as_mut_ptr() as usize;
+    let (s, l) = (state.as_mut_ptr() as usize, lanes.as_mut_ptr() as usize);
     type Arguments<'a> = &'a dyn Fn(usize, usize) -> [usize; 6];
-    let exports: [(&str, *const (), Arguments<'_>); 6] = [
+    let exports: [(&str, *const (), Arguments<'_>); 9] = [
         (
             "osnma_compress",
             raw::osnma_compress as *const (),
@@ -221,6 +260,19 @@ fn stacks() {
             raw::osnma_hmac_with as *const (),
             &|_, m| [s, 16, p, m, o, 32],
         ),
+        ("osnma_keccak", raw::osnma_keccak as *const (), &|_, _| {
+            [l, 0, 0, 0, 0, 0]
+        }),
+        (
+            "osnma_sha3_224",
+            raw::osnma_sha3_224 as *const (),
+            &|_, m| [p, m, o, 28, 0, 0],
+        ),
+        (
+            "osnma_sha3_256",
+            raw::osnma_sha3_256 as *const (),
+            &|_, m| [p, m, o, 32, 0, 0],
+        ),
     ];
     println!("| Export | Stack, bytes |");
     println!("|---|---|");
@@ -240,8 +292,20 @@ fn stacks() {
 
 pub fn command(words: &[&str]) -> Option<Result<(), String>> {
     match words {
+        ["rows"] => {
+            for row in Row::ALL {
+                println!("{}", row.name());
+            }
+            Some(Ok(()))
+        }
         ["names"] => {
             for contender in CONTENDERS {
+                println!("{}", contender.name);
+            }
+            Some(Ok(()))
+        }
+        ["names", row] => {
+            for contender in contenders(Row::of(row)?) {
                 println!("{}", contender.name);
             }
             Some(Ok(()))
@@ -251,8 +315,8 @@ pub fn command(words: &[&str]) -> Option<Result<(), String>> {
             Some(compare().map(|()| times(slices, u64::max(turns, 1))))
         }
         ["count", row, contender, turns] => {
-            let row = Row::ALL.into_iter().find(|r| r.name() == *row)?;
-            let contender = CONTENDERS.iter().find(|c| c.name == *contender)?;
+            let row = Row::of(row)?;
+            let contender = contenders(row).find(|c| c.name == *contender)?;
             let turns = turns.parse().ok()?;
             Some(compare().map(|()| println!("{:02x?}", (contender.run)(row, turns))))
         }

@@ -18,6 +18,7 @@ mod openssl_mac;
 mod replay;
 mod set;
 mod sky;
+mod sponge;
 mod stack;
 mod tag;
 mod time;

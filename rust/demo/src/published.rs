@@ -1,12 +1,12 @@
-//! Published values, computed anew by the proved library: SHA-256, HMAC, AES, CMAC, and those of 000's
-//! Annex A that are hashes. Where our copy of 000 prints a value wrongly, it stands here repaired
+//! Published values, computed anew by the proved library: SHA-256, SHA3, HMAC, AES, CMAC, and those of
+//! 000's Annex A that are hashes. Where our copy of 000 prints a value wrongly, it stands here repaired
 //! (docs/DECISIONS.md).
 
-use leaves::hash::{hmac, sha256, sha256_of_two, HmacKey};
+use leaves::hash::{hmac, sha256, sha256_of_two, sha3_224, sha3_256, HmacKey};
 use leaves::mac::{cmac, AesKey, CmacKey};
 use leaves::vectors::{
-    hex, Coded, Enciphered, Hashed, Keyed, FIPS_180_4, FIPS_197, FIPS_198_1, NIST_ADDITIONAL,
-    NIST_SHORT, RFC_4231, SP_800_38A, SP_800_38B, SP_800_38_MESSAGE,
+    hex, Coded, Enciphered, Hashed, Keyed, Sponged, FIPS_180_4, FIPS_197, FIPS_198_1, FIPS_202,
+    NIST_ADDITIONAL, NIST_SHORT, RFC_4231, SP_800_38A, SP_800_38B, SP_800_38_MESSAGE,
 };
 
 /// How many of some published values came out right.
@@ -48,6 +48,12 @@ fn hashes(message: &[u8], digest: &str) -> bool {
     [sha256(message), sha256_of_two(a, b)]
         .iter()
         .all(|found| found.is_ok_and(|found| hex(&found) == digest))
+}
+
+/// Whether the message has these two digests by SHA3.
+fn has_sha3(v: &Sponged) -> bool {
+    let message = v.message.bytes();
+    hex(&sha3_224(&message)) == v.sha3_224 && hex(&sha3_256(&message)) == v.sha3_256
 }
 
 /// Whether the message has an HMAC that begins so, under a key that is new and under one kept.
@@ -156,6 +162,10 @@ pub fn checks() -> Vec<Check> {
         digest_list("SHA-256, NIST's examples (FIPS 180-4)", FIPS_180_4),
         digest_list("SHA-256, NIST's additional examples", NIST_ADDITIONAL),
         digest_list("SHA-256, NIST's short messages", NIST_SHORT),
+        Check::new(
+            "SHA3-224 and SHA3-256, NIST's examples (FIPS 202)",
+            FIPS_202.iter().map(has_sha3),
+        ),
         code_list("HMAC, RFC 4231", RFC_4231),
         code_list("HMAC, NIST's examples (FIPS 198-1)", FIPS_198_1),
         Check::new("AES, FIPS 197", FIPS_197.iter().map(enciphers)),
@@ -195,6 +205,9 @@ mod tests {
         let mut wrong = FIPS_180_4[0];
         wrong.digest = FIPS_180_4[1].digest;
         assert!(!digest_list("", &[FIPS_180_4[0], wrong]).ok());
+        let mut wrong = FIPS_202[1];
+        wrong.sha3_224 = FIPS_202[0].sha3_224;
+        assert!(!has_sha3(&wrong));
         let mut wrong = RFC_4231[4];
         wrong.code = RFC_4231[3].code;
         assert!(!code_list("", &[wrong]).ok());

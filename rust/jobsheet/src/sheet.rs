@@ -522,7 +522,7 @@ fn chain_told(clock: Clock, root: &Root, vouch: Vouch) -> [(&'static str, String
             format!(
                 "CID {}, {}, {}, keys of {} bits, tags of {} bits, {} a section, α {}",
                 chain.cid,
-                name(chain.hf, &["SHA-256"]),
+                name(chain.hf, &["SHA-256", "SHA3-224", "SHA3-256"]),
                 name(chain.mf, &["HMAC-SHA-256", "CMAC-AES"]),
                 chain.key_bits,
                 chain.tag_bits,

@@ -20,7 +20,7 @@ pub struct Chain {
     pub cid: u8,
     /// Blocks a section.
     pub nmack: u8,
-    /// The hash function's code; only 0, SHA-256, is taken.
+    /// The code of the hash of the chain's steps: 0, SHA-256, 1, SHA3-224, or 2, SHA3-256; 3 is not taken.
     pub hf: u8,
     /// The MAC function's code: 0, HMAC-SHA-256, or 1, CMAC-AES; others are not taken.
     pub mf: u8,

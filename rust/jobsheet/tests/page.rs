@@ -508,10 +508,12 @@ fn events_have_a_line_each() {
         told[2].starts_with("2017-10-20 00:04:30 New keys in force: tags are judged again"),
         "{told:?}"
     );
-    says(
-        &events("chain_renewal"),
-        &["New keys in force, in place of the old ones."],
-    );
+    for name in ["chain_renewal", "mf_changes", "hf_changes"] {
+        says(
+            &events(name),
+            &["New keys in force, in place of the old ones."],
+        );
+    }
     says(
         &events("floating_root"),
         &["The system signed the keys in force anew."],
@@ -892,6 +894,22 @@ fn cut_short() {
     assert!(page.contains("@bottom-left { content: \"CUT SHORT in record 72 "));
     assert!(text::sheet(&sheet).starts_with("CUT SHORT in record 72."));
     assert!(!html::page(&Sheet::of("whole", &history(&whole), None)).contains("CUT SHORT"));
+}
+
+// The hash of a chain's steps is the one that its root names; its tags are under HMAC-SHA-256 whatever that is.
+#[test]
+fn hash_of_the_chain() {
+    for (name, hash) in [
+        ("nominal", "SHA-256"),
+        ("sha3_224", "SHA3-224"),
+        ("sha3_256", "SHA3-256"),
+    ] {
+        let sheet = sheet(name);
+        let told = format!(", {hash}, HMAC-SHA-256, keys of ");
+        assert!(html::page(&sheet).contains(&told), "{name}");
+        let text = text::sheet(&sheet).replace(['\n', ' '], "");
+        assert!(text.contains(&told.replace(' ', "")), "{name}");
+    }
 }
 
 // Which recording it is: SHA-256 of all its bytes, also those of a record that is not whole.

@@ -11,6 +11,8 @@ pub const LAST_SLOT: u64 = 1 << 34;
 pub struct Chain {
     pub slots: Slots,
     pub alpha: [u8; 6],
+    /// The hash of its steps: 0 SHA-256, 1 SHA3-224, 2 SHA3-256.
+    pub hf: u8,
     /// Bytes of a key.
     pub width: usize,
     /// Bits of a tag.
@@ -19,14 +21,21 @@ pub struct Chain {
 
 impl Chain {
     pub(crate) fn walks(&self) -> bool {
-        self.slots.in_range() && (12..=32).contains(&self.width)
+        let longest = match self.hf {
+            0 | 2 => 32,
+            1 => 28,
+            _ => 0,
+        };
+        self.slots.in_range() && (12..=longest).contains(&self.width)
     }
 
     /// The key of slot `m + n` becomes the key of slot `m`.
     pub fn walk(&self, n: u64, m: u64, key: &mut [u8; 32]) -> Option<()> {
         let Slots { ns, nmack, root } = self.slots;
         // SAFETY: both arrays are lent; nothing is required.
-        let code = unsafe { raw::osnma_walk(ns, nmack, root, &self.alpha, self.width, n, m, key) };
+        let code = unsafe {
+            raw::osnma_walk(ns, nmack, root, &self.alpha, self.hf, self.width, n, m, key)
+        };
         (code == 0).then_some(())
     }
 
@@ -40,6 +49,7 @@ impl Chain {
                 nmack,
                 root,
                 &self.alpha,
+                self.hf,
                 self.width,
                 slot,
                 held,

@@ -1,9 +1,9 @@
-//! SHA-256 and HMAC-SHA-256 (crates/sha256, crates/hmac).
+//! SHA-256, HMAC-SHA-256, SHA3-224 and SHA3-256 (crates/sha256, crates/hmac, crates/sha3).
 //!
-//! The contracts are in `crates/test_hash/specs/Calls.antt`: every call is total, equals FIPS 180-4
-//! or FIPS 198-1, and changes nothing where a length is not as it must be. The functions here lend
-//! what is needed with lengths that are right, so that the only refusal left is a message too long
-//! for SHA-256. Nothing allocates and nothing panics.
+//! The contracts are in `crates/test_hash/specs/Calls.antt`: every call is total, equals FIPS 180-4,
+//! FIPS 198-1 or FIPS 202, and changes nothing where a length is not as it must be. The functions here
+//! lend what is needed with lengths that are right, so that the only refusal left is a message too long
+//! for SHA-256; SHA3 takes every length. Nothing allocates and nothing panics.
 
 use crate::raw;
 
@@ -110,4 +110,26 @@ impl HmacKey {
 pub fn compress(state: &mut [u32; 8], block: &[u8; 64]) {
     // SAFETY: both are live arrays of the lengths that the call takes.
     unsafe { raw::osnma_compress(state, block) }
+}
+
+/// SHA3-224 of a message (FIPS 202, 6.1).
+pub fn sha3_224(message: &[u8]) -> [u8; 28] {
+    let mut out = [0; 28];
+    // SAFETY: each pointer is of a live slice and has its length beside it.
+    unsafe { raw::osnma_sha3_224(message.as_ptr(), message.len(), out.as_mut_ptr(), out.len()) };
+    out
+}
+
+/// SHA3-256 of a message (FIPS 202, 6.1).
+pub fn sha3_256(message: &[u8]) -> [u8; 32] {
+    let mut out = [0; 32];
+    // SAFETY: each pointer is of a live slice and has its length beside it.
+    unsafe { raw::osnma_sha3_256(message.as_ptr(), message.len(), out.as_mut_ptr(), out.len()) };
+    out
+}
+
+/// KECCAK-f\[1600\] of a state, lane (x, y) at 5 y + x (FIPS 202, 3.3 and 3.4).
+pub fn keccak(state: &mut [u64; 25]) {
+    // SAFETY: a live array of the length that the call takes.
+    unsafe { raw::osnma_keccak(state) }
 }

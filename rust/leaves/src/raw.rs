@@ -41,6 +41,9 @@ extern "C" {
         out_count: usize,
     ) -> u32;
     pub fn osnma_compress(h: *mut [u32; 8], block: *const [u8; 64]);
+    pub fn osnma_sha3_224(m: *const u8, m_count: usize, out: *mut u8, out_count: usize) -> u32;
+    pub fn osnma_sha3_256(m: *const u8, m_count: usize, out: *mut u8, out_count: usize) -> u32;
+    pub fn osnma_keccak(s: *mut [u64; 25]);
 
     // crates/test_mac: total, 1 where a length is not as it must be; n is the length of the key that w is of
     pub fn osnma_aes_expand(
@@ -164,6 +167,7 @@ extern "C" {
         nmack: u64,
         root: u64,
         alpha: *const [u8; 6],
+        hf: u8,
         width: usize,
         n: u64,
         m: u64,
@@ -174,6 +178,7 @@ extern "C" {
         nmack: u64,
         root: u64,
         alpha: *const [u8; 6],
+        hf: u8,
         width: usize,
         slot: u64,
         known: *const [u8; 32],

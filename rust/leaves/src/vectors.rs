@@ -1,4 +1,4 @@
-//! Published examples of SHA-256, HMAC-SHA-256, AES and CMAC, as data.
+//! Published examples of SHA-256, SHA3, HMAC-SHA-256, AES and CMAC, as data.
 
 /// Bytes of a published message or key.
 #[derive(Clone, Copy, Debug)]
@@ -29,6 +29,17 @@ pub struct Hashed {
     pub message: Bytes,
     /// Its SHA-256, in hexadecimal.
     pub digest: &'static str,
+}
+
+/// A message and its digests by SHA3.
+#[derive(Clone, Copy, Debug)]
+pub struct Sponged {
+    /// The message.
+    pub message: Bytes,
+    /// Its SHA3-224, in hexadecimal.
+    pub sha3_224: &'static str,
+    /// Its SHA3-256, in hexadecimal.
+    pub sha3_256: &'static str,
 }
 
 /// A key, a message and their code.
@@ -85,6 +96,14 @@ const fn hashed(message: Bytes, digest: &'static str) -> Hashed {
     Hashed { message, digest }
 }
 
+const fn sponged(message: Bytes, sha3_224: &'static str, sha3_256: &'static str) -> Sponged {
+    Sponged {
+        message,
+        sha3_224,
+        sha3_256,
+    }
+}
+
 const fn coded(key: Bytes, message: &'static [u8], code: &'static str) -> Coded {
     let message = Bytes::Plain(message);
     Coded { key, message, code }
@@ -92,26 +111,65 @@ const fn coded(key: Bytes, message: &'static [u8], code: &'static str) -> Coded 
 
 use Bytes::{Counting, Plain, Repeated};
 
+const ABC: Bytes = Plain(b"abc");
+const BITS_448: Bytes = Plain(b"abcdbcdecdefdefgefghfghighijhijkijkljklmklmnlmnomnopnopq");
+const BITS_896: Bytes = Plain(
+    b"abcdefghbcdefghicdefghijdefghijkefghijklfghijklmghijklmn\
+      hijklmnoijklmnopjklmnopqklmnopqrlmnopqrsmnopqrstnopqrstu",
+);
+const MILLION: Bytes = Repeated(b'a', 1_000_000);
+
 /// NIST's examples to FIPS 180-4: one block, two blocks, and the long ones of FIPS 180-2.
 pub const FIPS_180_4: &[Hashed] = &[
     hashed(
-        Plain(b"abc"),
+        ABC,
         "ba7816bf8f01cfea414140de5dae2223b00361a396177a9cb410ff61f20015ad",
     ),
     hashed(
-        Plain(b"abcdbcdecdefdefgefghfghighijhijkijkljklmklmnlmnomnopnopq"),
+        BITS_448,
         "248d6a61d20638b8e5c026930c3e6039a33ce45964ff2167f6ecedd419db06c1",
     ),
     hashed(
-        Plain(
-            b"abcdefghbcdefghicdefghijdefghijkefghijklfghijklmghijklmn\
-              hijklmnoijklmnopjklmnopqklmnopqrlmnopqrsmnopqrstnopqrstu",
-        ),
+        BITS_896,
         "cf5b16a778af8380036ce59e7b0492370b249b11e8f07a51afac45037afee9d1",
     ),
     hashed(
-        Repeated(b'a', 1_000_000),
+        MILLION,
         "cdc76e5c9914fb9281a1c7e284d73e67f1809a48a497200e046d39ccc7112cd0",
+    ),
+];
+
+/// NIST's examples to FIPS 202, of 0 and 1,600 bits, and those of FIPS 180 by SHA3.
+pub const FIPS_202: &[Sponged] = &[
+    sponged(
+        Plain(b""),
+        "6b4e03423667dbb73b6e15454f0eb1abd4597f9a1b078e3f5b5a6bc7",
+        "a7ffc6f8bf1ed76651c14756a061d662f580ff4de43b49fa82d80a4b80f8434a",
+    ),
+    sponged(
+        Repeated(0xA3, 200),
+        "9376816aba503f72f96ce7eb65ac095deee3be4bf9bbc2a1cb7e11e0",
+        "79f38adec5c20307a98ef76e8324afbfd46cfd81b22e3973c65fa1bd9de31787",
+    ),
+    sponged(
+        ABC,
+        "e642824c3f8cf24ad09234ee7d3c766fc9a3a5168d0c94ad73b46fdf",
+        "3a985da74fe225b2045c172d6bd390bd855f086e3e9d525b46bfe24511431532",
+    ),
+    sponged(
+        BITS_448,
+        "8a24108b154ada21c9fd5574494479ba5c7e7ab76ef264ead0fcce33",
+        "41c0dba2a9d6240849100376a8235e2c82e1b9998a999e21db32dd97496d3376",
+    ),
+    sponged(
+        BITS_896,
+        "543e6868e1666c1a643630df77367ae5a62a85070a51c14cbf665cbc",
+        "916f6061fe879741ca6469b43971dfdb28b1a32dc36cb3254e812be27aad1d18",
+    ),
+    sponged(
+        MILLION,
+        "d69335b93325192e516a912e6d19a15cb51c6ed5c15243e7a7fd653c",
+        "5c8875ae474a3634ba4fd55ec85bffd661f32aca75c6d699d0cdcb6c115891c1",
     ),
 ];
 

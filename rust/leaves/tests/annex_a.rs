@@ -23,6 +23,7 @@ fn annex_chain() -> Chain {
             root: 947 * 604_800 + 120 * 3_600,
         },
         alpha: hex(ALPHA).try_into().unwrap(),
+        hf: 0,
         width: 16,
         ms: 12,
     }

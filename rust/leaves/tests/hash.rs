@@ -120,22 +120,54 @@ fn blocks() {
     }
 }
 
+// Lengths on both sides of the ends of four blocks, of either rate.
+#[test]
+fn sha3_of_every_length_to_600() {
+    for seed in seeds() {
+        let mut rng = Rng::new(700 + seed);
+        for len in 0..=600 {
+            let m = rng.bytes(len);
+            assert_eq!(hash::sha3_224(&m), portable::sha3_224(&m), "{len} bytes");
+            assert_eq!(hash::sha3_256(&m), portable::sha3_256(&m), "{len} bytes");
+        }
+    }
+}
+
+#[test]
+fn permutations() {
+    for seed in seeds() {
+        let mut rng = Rng::new(800 + seed);
+        for _ in 0..2000 {
+            let mut state = std::array::from_fn(|_| rng.number());
+            let mut right = state;
+            portable::keccak_f(&mut right);
+            hash::keccak(&mut state);
+            assert_eq!(state, right);
+        }
+    }
+}
+
 /// What is written and what is lent lie in one array with marks on both sides.
 #[test]
 fn nothing_beside_the_output_is_written() {
     let mut rng = Rng::new(400);
     let m = rng.bytes(100);
     let before: [u8; 96] = rng.array();
-    let mut area = before;
-    let out = area[32..].as_mut_ptr();
-    // SAFETY: 32 bytes of `area` from place 32 are lent to be written.
-    assert_eq!(
-        unsafe { raw::osnma_sha256(m.as_ptr(), m.len(), out, 32) },
-        0
-    );
-    assert_eq!(area[..32], before[..32]);
-    assert_eq!(area[32..64], portable::sha256(&m));
-    assert_eq!(area[64..], before[64..]);
+    type Hash = unsafe extern "C" fn(*const u8, usize, *mut u8, usize) -> u32;
+    let hashes: [(Hash, &[u8]); 3] = [
+        (raw::osnma_sha256, &portable::sha256(&m)),
+        (raw::osnma_sha3_224, &portable::sha3_224(&m)),
+        (raw::osnma_sha3_256, &portable::sha3_256(&m)),
+    ];
+    for (hash, digest) in hashes {
+        let mut area = before;
+        let (out, end) = (area[32..].as_mut_ptr(), 32 + digest.len());
+        // SAFETY: the digest's bytes of `area` from place 32 are lent to be written.
+        assert_eq!(unsafe { hash(m.as_ptr(), m.len(), out, digest.len()) }, 0);
+        assert_eq!(area[..32], before[..32]);
+        assert_eq!(area[32..end], *digest);
+        assert_eq!(area[end..], before[end..]);
+    }
 }
 
 /// Lengths that are not `right`.
@@ -160,10 +192,17 @@ fn wrong_lengths_are_refused_and_change_nothing() {
                 raw::osnma_sha256_of_two(k, kn, p, n, out, len),
                 raw::osnma_hmac(k, kn, p, n, out, len),
                 raw::osnma_hmac_with(words.as_ptr(), 16, p, n, out, len),
+                raw::osnma_sha3_256(p, n, out, len),
             ]
         };
-        assert_eq!(answers, [1; 4], "{len} bytes of output");
+        assert_eq!(answers, [1; 5], "{len} bytes of output");
         assert_eq!(area, before, "{len} bytes of output");
+    }
+    for len in wrong(28) {
+        let mut area = before;
+        // SAFETY: `area` is longer than any length given here.
+        let answer = unsafe { raw::osnma_sha3_224(p, n, area.as_mut_ptr(), len) };
+        assert_eq!((answer, area), (1, before), "{len} bytes of output");
     }
     for len in wrong(16) {
         let (mut area, mut state) = (before, words);

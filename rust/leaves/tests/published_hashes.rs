@@ -1,8 +1,8 @@
 //! The published examples of hashes, at the proved library.
 
-use leaves::hash::{hmac, sha256, sha256_of_two, HmacKey};
+use leaves::hash::{hmac, sha256, sha256_of_two, sha3_224, sha3_256, HmacKey};
 use leaves::vectors::{
-    hex, Coded, Hashed, FIPS_180_4, FIPS_198_1, NIST_ADDITIONAL, NIST_SHORT, RFC_4231,
+    hex, Coded, Hashed, FIPS_180_4, FIPS_198_1, FIPS_202, NIST_ADDITIONAL, NIST_SHORT, RFC_4231,
 };
 
 fn digests(list: &[Hashed]) {
@@ -59,4 +59,13 @@ fn rfc_4231() {
 #[test]
 fn fips_198_1() {
     codes(FIPS_198_1);
+}
+
+#[test]
+fn fips_202() {
+    for (place, vector) in FIPS_202.iter().enumerate() {
+        let message = vector.message.bytes();
+        assert_eq!(hex(&sha3_224(&message)), vector.sha3_224, "{place}");
+        assert_eq!(hex(&sha3_256(&message)), vector.sha3_256, "{place}");
+    }
 }

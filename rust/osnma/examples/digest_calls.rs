@@ -1,19 +1,20 @@
-//! A digest of all that the core answers and leaves: `digest_calls COUNT SEED [whole]`.
+//! A digest of all that the core answers and leaves: `digest_calls COUNT SEED [sha256] [whole]`.
 //!
 //! Makes every call of the named runs and COUNT calls drawn at random, and prints a digest of every answer, tag record
-//! and byte of every region: of each run, then of the random calls so far after every 10,000. With `whole` no sub-frame has marks,
-//! for an archive that does not know them.
+//! and byte of every region: of each run, then of the random calls so far after every 10,000. With `sha256` no root names
+//! SHA3, for an archive that does not know it: a named run's roots that do name HF 3, and its line says so. With `whole`
+//! no sub-frame has marks, for an archive that does not know them.
 //! Two archives of the core print the same lines only if they do the same; `side_by_side` compares them.
 
 #[path = "../tests/common/mod.rs"]
 mod common;
 
-use common::driver::{call_of, input_without_marks, Driver};
+use common::driver::{call_of, input_without_marks, restrict_input, Driver};
 use common::twin::{Answer, Twin};
 use osnma::regions::Regions;
 use signal::replay::RECORD;
 use signal::rng::Rng;
-use signal::scenario::{self, MacFunctions, Pages};
+use signal::scenario::{self, Functions, Pages};
 use std::process::ExitCode;
 
 const EVERY: u64 = 10_000;
@@ -111,10 +112,15 @@ fn replay(input: &[u8], digest: &mut Digest) -> Result<(), String> {
     Ok(())
 }
 
-fn run(count: u64, seed: u64, pages: Pages) -> Result<(), String> {
+fn run(count: u64, seed: u64, functions: Functions, pages: Pages) -> Result<(), String> {
     for scenario in scenario::all() {
         let mut digest = Digest::new();
         let mut run = scenario.run(scenario::SEED);
+        let whole = run.bytes.clone();
+        restrict_input(&mut run.bytes, functions);
+        if run.bytes != whole {
+            run.name += " with HF 3 for SHA3";
+        }
         if pages == Pages::Whole {
             input_without_marks(&mut run.bytes);
         }
@@ -122,7 +128,7 @@ fn run(count: u64, seed: u64, pages: Pages) -> Result<(), String> {
         digest.print(&run.name);
     }
     let mut digest = Digest::new();
-    let mut driver = Driver::new(seed, 60, MacFunctions::Both, pages)?;
+    let mut driver = Driver::new(seed, 60, functions, pages)?;
     for _ in 0..count.div_ceil(EVERY) {
         driver.run_and_show(EVERY, |answer, twin| digest.call(answer, twin))?;
         digest.print("random");
@@ -135,14 +141,19 @@ fn main() -> ExitCode {
     let words: Vec<String> = std::env::args().skip(1).collect();
     let numbers: Vec<u64> = words.iter().map_while(|word| word.parse().ok()).collect();
     let [count, seed] = numbers[..] else {
-        eprintln!("digest_calls COUNT SEED [whole]");
+        eprintln!("digest_calls COUNT SEED [sha256] [whole]");
         return ExitCode::from(2);
     };
-    let pages = match words.last().is_some_and(|word| word == "whole") {
+    let says = |wanted: &str| words.iter().any(|word| word == wanted);
+    let functions = Functions {
+        sha3: !says("sha256"),
+        ..Functions::ALL
+    };
+    let pages = match says("whole") {
         true => Pages::Whole,
         false => Pages::Lost,
     };
-    match run(count, seed, pages) {
+    match run(count, seed, functions, pages) {
         Ok(()) => ExitCode::SUCCESS,
         Err(error) => {
             println!("DIFFERENCE from the second receiver: {error}");

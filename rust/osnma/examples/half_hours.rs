@@ -63,6 +63,7 @@ fn main() -> ExitCode {
             2 => "cmac_192",
             3 => "cmac_256",
             4 => ["trees", "trees_1", "trees_3"][(at / 8 % 3) as usize],
+            5 => ["sha3_224", "sha3_256", "sha3_cmac"][(at / 8 % 3) as usize],
             _ => "fitter",
         };
         let run = find(name).expect("a scenario").run(rng.number());

@@ -1,21 +1,21 @@
-//! Random calls into the core and the second receiver: `random_calls COUNT SEED [hmac] [whole]`. Stops at
-//! the first difference; prints how often each answer came for each call. With `hmac` no root names
-//! CMAC-AES, with `whole` no sub-frame has marks.
+//! Random calls into the core and the second receiver: `random_calls COUNT SEED [hmac] [sha256] [whole]`.
+//! Stops at the first difference; prints how often each answer came for each call. With `hmac` no root
+//! names CMAC-AES, with `sha256` none names SHA3, with `whole` no sub-frame has marks.
 
 #[path = "../tests/common/mod.rs"]
 mod common;
 
 use common::driver::Driver;
-use signal::scenario::{MacFunctions, Pages};
+use signal::scenario::{Functions, Pages};
 use std::process::ExitCode;
 use std::time::Instant;
 
 fn main() -> ExitCode {
     let words: Vec<String> = std::env::args().skip(1).collect();
     let says = |wanted: &str| words.iter().any(|word| word == wanted);
-    let functions = match says("hmac") {
-        true => MacFunctions::Hmac,
-        false => MacFunctions::Both,
+    let functions = Functions {
+        cmac: !says("hmac"),
+        sha3: !says("sha256"),
     };
     let pages = match says("whole") {
         true => Pages::Whole,
@@ -23,7 +23,7 @@ fn main() -> ExitCode {
     };
     let numbers: Vec<u64> = words.iter().map_while(|word| word.parse().ok()).collect();
     let [count, seed] = numbers[..] else {
-        eprintln!("random_calls COUNT SEED [hmac] [whole]");
+        eprintln!("random_calls COUNT SEED [hmac] [sha256] [whole]");
         return ExitCode::from(2);
     };
     let began = Instant::now();

@@ -273,9 +273,9 @@ impl Core {
     ///
     /// A half that is refused changes no public key, chain, held key, authentic set or candidate.
     ///
-    /// The section walks one hash step for each slot from its key down to the held one, at most 1,000,000,
-    /// also where it is then refused with [`Refusal::KeyUnfit`] (`docs/INTEGRATION.md`, "Threads, room
-    /// and time").
+    /// The section walks one step of the chain's hash for each slot from its key down to the held one, at
+    /// most 1,000,000, also where it is then refused with [`Refusal::KeyUnfit`] (`docs/INTEGRATION.md`,
+    /// "Threads, room and time").
     ///
     /// # Refusals
     /// In this order, each in both halves, and the core is as before:

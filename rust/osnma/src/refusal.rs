@@ -22,8 +22,9 @@ pub enum Refusal {
     BlockUnfit,
     /// 7: a DSM-KROOT under a public key that is not held.
     KeyNotHeld,
-    /// 8: a DSM-KROOT with parameters that are not taken. The MAC function may be HMAC-SHA-256 with
-    /// every key size, or CMAC-AES with keys of 128, 192 or 256 bits.
+    /// 8: a DSM-KROOT with parameters that are not taken. The hash of the chain may be SHA-256 or
+    /// SHA3-256 with every key size, or SHA3-224 with keys of up to 224 bits; the MAC function
+    /// HMAC-SHA-256 with every key size, or CMAC-AES with keys of 128, 192 or 256 bits.
     ParametersUnfit,
     /// 9: a root that is not later than the last put in force; a public key whose ID is not above
     /// all held.

@@ -37,7 +37,7 @@ fn front<'a>(part: &'a [u8], lens: &[usize], code: u8) -> &'a [u8] {
 
 impl WaitingMessage {
     /// The signed bytes: the message without the zeros after it. Which hash the chip takes goes by the
-    /// key's type: SHA-224, SHA-256, SHA-384 or SHA-512.
+    /// key's type, not by the chain: SHA-224, SHA-256, SHA-384 or SHA-512.
     pub fn signed(&self) -> &[u8] {
         let [_, _, sizes, ..] = self.message;
         let root_key = ROOT_KEY_LEN.get(usize::from(sizes >> 4));

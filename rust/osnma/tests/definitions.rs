@@ -13,13 +13,14 @@ use rules_runner::program::Hashes;
 use rules_runner::rules::{self, Rules};
 use second_receiver::bits::BitString;
 use second_receiver::chain::{Chain, TeslaKey};
+use second_receiver::hash;
 use second_receiver::mac::MacKey;
 use second_receiver::mack::Layout;
 use second_receiver::navdata::NavSet;
 use second_receiver::tags::Tag;
 use second_receiver::Receiver;
 use signal::rng::Rng;
-use signal::scenario::{MacFunctions, Pages};
+use signal::scenario::{Functions, Pages};
 use signal::subframe;
 use signal::time::Gst;
 use std::collections::BTreeMap;
@@ -199,7 +200,10 @@ fn due_tags(r: &mut Regions, rng: &mut Rng, chain: &Chain, layout: &Layout, tag:
 fn section(r: &mut Regions, rng: &mut Rng, prn: u8, time: u32, status: u8) -> Option<[u8; 60]> {
     let ns = Some(r.config[0]).filter(|ns| (1..=36).contains(ns));
     let mut chain = Chain::new(&r.chain[1..], ns.unwrap_or(1));
-    let layout = Layout::of(&chain.parameters).filter(|layout| layout.fields > 0)?;
+    // A section of another HF, or with keys longer than a digest, has no keys: row 8 lets no such chain come into force.
+    let hf = chain.parameters.hf;
+    let layout = Layout::of(&chain.parameters)
+        .filter(|layout| layout.fields > 0 && hash::is_taken(hf, layout.key_bits))?;
     let time = second_receiver::times::Gst(time);
     let (seconds, slots) = (time.seconds(), chain.slots);
     if seconds < slots.start || !(1..=36).contains(&prn) {
@@ -500,7 +504,7 @@ fn any_contents() {
         let rules = Rules::load(&crates, Hashes::Portable).unwrap_or_else(|e| panic!("{e}"));
         let (mut rng, mut asks) = (Rng::new(11), Rng::new(13));
         let tree = draw::tree(&mut rng);
-        let states = driver::states(11, 2, MacFunctions::Both, Pages::Lost)
+        let states = driver::states(11, 2, Functions::ALL, Pages::Lost)
             .unwrap_or_else(|error| panic!("{error}"));
         let mut answers: BTreeMap<(Kind, [u64; 2]), u64> = BTreeMap::new();
         let mut outcomes: BTreeMap<u8, u64> = BTreeMap::new();

@@ -12,12 +12,12 @@ use common::{draw, driver};
 use osnma::regions::Regions;
 use osnma::{Core, Gst, Refusal};
 use signal::rng::Rng;
-use signal::scenario::{self, MacFunctions, Pages};
+use signal::scenario::{self, Functions, Pages};
 use std::fs;
 use std::path::Path;
 
 /// Runs of long key walks, which take seconds.
-const LONG: [&str; 4] = ["sections", "gaps", "held_key", "gap_full"];
+const LONG: [&str; 5] = ["sections", "gaps", "held_key", "gap_full", "sha3_gaps"];
 
 const CALLS: u64 = if cfg!(debug_assertions) {
     5_000
@@ -87,8 +87,8 @@ fn long_named_runs() {
 // Calls drawn at random, from a fixed seed; every answer that a call can give comes.
 #[test]
 fn random_calls() {
-    let mut driver = Driver::new(1, 12, MacFunctions::Both, Pages::Lost)
-        .unwrap_or_else(|error| panic!("{error}"));
+    let mut driver =
+        Driver::new(1, 12, Functions::ALL, Pages::Lost).unwrap_or_else(|error| panic!("{error}"));
     let result = driver.run(CALLS);
     println!("{} states, {}", driver.states(), driver.tally);
     assert_eq!(result, Ok(()));
@@ -103,8 +103,8 @@ fn random_calls() {
 fn wrong_lengths() {
     let mut rng = Rng::new(3);
     let tree = draw::tree(&mut rng);
-    let states = driver::states(3, 0, MacFunctions::Both, Pages::Lost)
-        .unwrap_or_else(|error| panic!("{error}"));
+    let states =
+        driver::states(3, 0, Functions::ALL, Pages::Lost).unwrap_or_else(|error| panic!("{error}"));
     for round in 0..40 {
         let twin = rng.pick(&states).twin.clone();
         let receiver = &twin.receiver;
@@ -246,8 +246,8 @@ fn before_a_start() {
 #[test]
 fn one_bit_changed_is_seen() {
     let mut rng = Rng::new(6);
-    let states = driver::states(6, 0, MacFunctions::Both, Pages::Lost)
-        .unwrap_or_else(|error| panic!("{error}"));
+    let states =
+        driver::states(6, 0, Functions::ALL, Pages::Lost).unwrap_or_else(|error| panic!("{error}"));
     for state in &states {
         let mut twin = state.twin.clone();
         assert_eq!(twin.compare(), Ok(()));
@@ -290,8 +290,8 @@ fn one_bit_changed_is_seen() {
 #[test]
 fn a_call_does_not_hide_a_change() {
     let mut rng = Rng::new(7);
-    let states = driver::states(7, 0, MacFunctions::Both, Pages::Lost)
-        .unwrap_or_else(|error| panic!("{error}"));
+    let states =
+        driver::states(7, 0, Functions::ALL, Pages::Lost).unwrap_or_else(|error| panic!("{error}"));
     for state in &states {
         let mut twin = state.twin.clone();
         let place = rng.below(21504) as usize;

@@ -5,7 +5,7 @@ use std::fs;
 use std::path::{Path, PathBuf};
 
 /// Crate, function, and the statement in its contract.
-const SHOWN: [(&str, &str, &str); 10] = [
+const SHOWN: [(&str, &str, &str); 11] = [
     ("annex_a", "vectors", "AnnexA"),
     ("assurance", "claim", "ExportedClaim"),
     ("cmac", "laws_of_padding", "Padding"),
@@ -13,12 +13,13 @@ const SHOWN: [(&str, &str, &str); 10] = [
     (
         "hash_vectors",
         "published_examples",
-        "(ShaExamples × HmacExamples) × (AesExamples × CmacExamples)",
+        "(ShaExamples × (Sha3Examples × HmacExamples)) × (AesExamples × CmacExamples)",
     ),
     ("nav_sets", "each_bit", "EachBit"),
     ("replay_records", "pieces_join", "PiecesJoin"),
     ("rules", "known_points", "KnownPoints"),
     ("rules", "tag_truncation", "TagTruncation"),
+    ("rules_examples", "sha3_steps", "Sha3Steps"),
     ("rules_examples", "slow_tag_run", "SlowTagRun"),
 ];
 

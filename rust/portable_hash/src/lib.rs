@@ -1,12 +1,17 @@
-//! SHA-256 (FIPS 180-4) and HMAC-SHA-256 (FIPS 198-1) in plain, portable Rust.
+//! SHA-256 (FIPS 180-4), HMAC-SHA-256 (FIPS 198-1), SHA3-224 and SHA3-256 (FIPS 202) in plain, portable
+//! Rust.
 //!
 //! Written from the standards for the second receiver, the bench signal and the benchmark; the job
 //! sheet names its recording by it. It shares no code and no table with the proved library, so that
-//! the two can be compared. The compression keeps sixteen message words in place and does sixteen
+//! the two can be compared. The compression of SHA-256 keeps sixteen message words in place and does sixteen
 //! rounds a turn, with one rotation inside another: of the portable forms tried, the one with the
 //! fewest instructions.
 
 #![forbid(unsafe_code)]
+
+mod sha3;
+
+pub use sha3::{keccak_f, one_block, sha3_224, sha3_256, State, RATE_224, RATE_256, SHORT_LEN};
 
 /// Bytes of a SHA-256 digest.
 pub const DIGEST_LEN: usize = 32;

@@ -3,7 +3,7 @@
 use crate::program::{Expr, Native, Pattern, Primitive, Program};
 use crate::value::{Closure, Delayed, List, Record, Value};
 use portable_aes::cmac;
-use portable_hash::{hmac_sha256, sha256};
+use portable_hash::{hmac_sha256, sha256, sha3_224, sha3_256};
 use std::cell::RefCell;
 use std::rc::Rc;
 
@@ -31,9 +31,9 @@ fn size(number: u64) -> usize {
     usize::try_from(number).unwrap_or(usize::MAX)
 }
 
-/// A number past 64 bits: no definition needs one on the runs of this program.
-fn fits(number: Option<u64>, what: &str) -> u64 {
-    number.unwrap_or_else(|| panic!("a {what} does not fit in 64 bits"))
+/// A number past 128 bits: no definition needs one on the runs of this program.
+fn fits(number: Option<u128>, what: &str) -> u128 {
+    number.unwrap_or_else(|| panic!("a {what} does not fit in 128 bits"))
 }
 
 fn bytes(list: &List) -> Option<Vec<u8>> {
@@ -238,6 +238,8 @@ impl<'p> Machine<'p> {
         };
         match native {
             Native::Sha256 => Some(of_bytes(&sha256(&argument(0)?))),
+            Native::Sha3_224 => Some(of_bytes(&sha3_224(&argument(0)?))),
+            Native::Sha3_256 => Some(of_bytes(&sha3_256(&argument(0)?))),
             Native::Hmac => {
                 let key = argument(0)?;
                 Some(of_bytes(&hmac_sha256(&key, &argument(1)?)))
@@ -298,6 +300,15 @@ impl<'p> Machine<'p> {
     fn number(&mut self, expr: &'p Expr, base: usize) -> u64 {
         match self.eval(expr, base) {
             Value::Number(number) => number,
+            value => panic!("{value:?} is no number"),
+        }
+    }
+
+    /// A number that may be past 64 bits.
+    fn wide(&mut self, expr: &'p Expr, base: usize) -> u128 {
+        match self.eval(expr, base) {
+            Value::Number(number) => number.into(),
+            Value::Wide(number) => number,
             value => panic!("{value:?} is no number"),
         }
     }
@@ -382,12 +393,12 @@ impl<'p> Machine<'p> {
         let at = |at: usize| &arguments[at];
         match primitive {
             Suc => {
-                let number = self.number(at(0), base).checked_add(1);
-                Value::Number(fits(number, "successor"))
+                let number = self.wide(at(0), base).checked_add(1);
+                Value::of_number(fits(number, "successor"))
             }
             Add | Subtract | Multiply | Divide | Remainder | Power | BitAnd | BitOr | BitXor => {
-                let (a, b) = (self.number(at(0), base), self.number(at(1), base));
-                Value::Number(match primitive {
+                let (a, b) = (self.wide(at(0), base), self.wide(at(1), base));
+                Value::of_number(match primitive {
                     Add => fits(a.checked_add(b), "sum"),
                     Subtract => a.saturating_sub(b),
                     Multiply => fits(a.checked_mul(b), "product"),
@@ -403,7 +414,7 @@ impl<'p> Machine<'p> {
                 })
             }
             Leb | Ltb | Eqb => {
-                let (a, b) = (self.number(at(0), base), self.number(at(1), base));
+                let (a, b) = (self.wide(at(0), base), self.wide(at(1), base));
                 Value::Bool(match primitive {
                     Leb => a <= b,
                     Ltb => a < b,

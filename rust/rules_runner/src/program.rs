@@ -43,6 +43,8 @@ pub enum Primitive {
 #[derive(Clone, Copy, Debug, PartialEq, Eq)]
 pub enum Native {
     Sha256,
+    Sha3_224,
+    Sha3_256,
     Hmac,
     Cmac,
 }
@@ -587,7 +589,7 @@ impl Frame<'_> {
     }
 }
 
-/// How the definitions of the hash and of the MAC functions are run.
+/// How the definitions of the hash functions and of the MAC functions are run.
 #[derive(Clone, Copy, PartialEq, Eq)]
 pub enum Hashes {
     /// As they are defined.
@@ -622,6 +624,8 @@ impl Program {
         for function in &mut loader.functions {
             function.native = match (hashes, function.name.as_str()) {
                 (Hashes::Portable, "sha256.Sha256.sha256") => Some(Native::Sha256),
+                (Hashes::Portable, "sha3.Sha3.sha3-224") => Some(Native::Sha3_224),
+                (Hashes::Portable, "sha3.Sha3.sha3-256") => Some(Native::Sha3_256),
                 (Hashes::Portable, "hmac.Hmac.hmac") => Some(Native::Hmac),
                 (Hashes::Portable, "cmac.Cmac.cmac") => Some(Native::Cmac),
                 _ => None,

@@ -206,9 +206,17 @@ impl Rules {
         self.size("rules.PublicKeys.keyLength", vec![Value::Number(key_type)])
     }
 
-    /// SHA-256 and HMAC-SHA-256 as they are defined.
+    /// SHA-256, SHA3 and HMAC-SHA-256 as they are defined.
     pub fn sha256(&self, message: &[u8]) -> Vec<u8> {
         bytes(&self.call("sha256.Sha256.sha256", vec![list(message)]))
+    }
+
+    pub fn sha3_224(&self, message: &[u8]) -> Vec<u8> {
+        bytes(&self.call("sha3.Sha3.sha3-224", vec![list(message)]))
+    }
+
+    pub fn sha3_256(&self, message: &[u8]) -> Vec<u8> {
+        bytes(&self.call("sha3.Sha3.sha3-256", vec![list(message)]))
     }
 
     pub fn hmac(&self, key: &[u8], message: &[u8]) -> Vec<u8> {

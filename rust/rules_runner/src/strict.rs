@@ -51,6 +51,10 @@ fn asked(expr: &Expr, functions: &[Function]) -> BTreeSet<usize> {
 
 fn strict_parameters(function: &Function, functions: &[Function]) -> Vec<bool> {
     let mut strict = vec![true; function.arity];
+    // A function of Rust asks for all its arguments.
+    if function.native.is_some() {
+        return strict;
+    }
     for (patterns, body) in &function.clauses {
         let slots = asked(body, functions);
         for (slot, pattern) in patterns.iter().enumerate() {

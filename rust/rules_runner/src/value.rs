@@ -6,6 +6,8 @@ use std::rc::Rc;
 #[derive(Clone, Debug)]
 pub enum Value {
     Number(u64),
+    /// A number past 64 bits.
+    Wide(u128),
     Bool(bool),
     /// A constructor without arguments, by its number in the program.
     Constructor(u32),
@@ -13,6 +15,12 @@ pub enum Value {
     Record(Rc<Record>),
     Function(Rc<Closure>),
     Delayed(Rc<RefCell<Delayed>>),
+}
+
+impl Value {
+    pub fn of_number(number: u128) -> Value {
+        u64::try_from(number).map_or(Value::Wide(number), Value::Number)
+    }
 }
 
 #[derive(Debug)]

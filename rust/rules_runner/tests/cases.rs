@@ -10,7 +10,7 @@ use std::fs;
 use std::path::{Path, PathBuf};
 
 /// The recorded inputs that are run here.
-const RUN: [&str; 26] = [
+const RUN: [&str; 27] = [
     "P1_cmac_nominal",
     "P1_mf_changes",
     "P3_hkroot",
@@ -18,6 +18,7 @@ const RUN: [&str; 26] = [
     "P4_candidates",
     "P4_nominal",
     "P5_four",
+    "P6_nominal",
     "a_empty",
     "a_example",
     "a_framing",

@@ -39,6 +39,7 @@ impl Drop for Folder {
 fn shown(value: Value) -> String {
     match value {
         Value::Number(number) => number.to_string(),
+        Value::Wide(number) => number.to_string(),
         Value::Bool(value) => value.to_string(),
         Value::List(list) => list
             .values()
@@ -180,7 +181,7 @@ both n (suc zero) = let p = pair n n in p .low + p.high
     assert_eq!(value("both", text, vec![4, 5]), "43");
 }
 
-// What is not asked for is not computed: here it would not fit in 64 bits.
+// What is not asked for is not computed: here it would not fit in 128 bits.
 #[test]
 fn delayed() {
     let text = "pub record Two : Type 0 where
@@ -193,7 +194,7 @@ unless (suc n) done kept = kept
 
 lazy : ℕ → ℕ
 lazy n =
-    let huge = 2 ^ (100 + n) in
+    let huge = 2 ^ (200 + n) in
     let r = record { one = 5; other = huge } in
     cond (eqb n 1) (unless n huge (r .one)) huge
 ";
@@ -215,10 +216,28 @@ deep (suc n) = deep n + 1
     assert_eq!(value("deep", text, vec![100_000]), "100000");
 }
 
+// Numbers past 64 bits, and back.
 #[test]
-#[should_panic(expected = "a power does not fit in 64 bits")]
+fn wide() {
+    for (at, (text, value)) in [
+        ("2 ^ 64", "18446744073709551616"),
+        ("2 ^ 64 - 1", "18446744073709551615"),
+        ("2 ^ 63 * 2 ^ 63 / 2 ^ 64", "4611686018427387904"),
+        ("(2 ^ 63 + 5) * 4 % 2 ^ 64", "20"),
+        ("(2 ^ 70 + 1) % 2 ^ 70", "1"),
+        ("7 / 2 ^ 64", "0"),
+    ]
+    .into_iter()
+    .enumerate()
+    {
+        assert_eq!(term(&format!("wide_{at}"), "ℕ", text), value, "{text}");
+    }
+}
+
+#[test]
+#[should_panic(expected = "a power does not fit in 128 bits")]
 fn large() {
-    term("large", "ℕ", "2 ^ 64");
+    term("large", "ℕ", "2 ^ 128");
 }
 
 // Each text is refused, with the file and the line.

@@ -1,9 +1,9 @@
 //! The TESLA chain in force: its parameters, root and held key, and the walk down its keys (000,
 //! 5.4; 01).
 
+use crate::hash;
 use crate::kroot::{ChainParameters, RootFields};
 use crate::times::{RootTime, Slots};
-use portable_hash::sha256;
 
 const MAX_KEY_LEN: usize = 32;
 
@@ -64,14 +64,21 @@ impl Chain {
         }
     }
 
-    /// Key m from key m + 1: the first KS bits of SHA-256(key m + 1, GST_SF of slot m, alpha).
+    /// Key m from key m + 1: the first KS bits of the hash of (key m + 1, GST_SF of slot m, alpha) that
+    /// the root names.
     fn step(&self, key: &TeslaKey, slot: u64) -> TeslaKey {
         let mut message = [0; MAX_KEY_LEN + 4 + 6];
         let (n, time) = (key.len, self.slots.time(slot).0);
         message[..n].copy_from_slice(key.as_slice());
         message[n..n + 4].copy_from_slice(&time.to_be_bytes());
         message[n + 4..n + 10].copy_from_slice(&self.parameters.alpha);
-        TeslaKey::new(&sha256(&message[..n + 10])[..n])
+        let mut below = *key;
+        hash::digest_into(
+            self.parameters.hf,
+            &message[..n + 10],
+            &mut below.bytes[..n],
+        );
+        below
     }
 
     /// The key of slot `to` from that of slot `from`, which is not below it.

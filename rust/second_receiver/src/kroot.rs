@@ -2,6 +2,7 @@
 
 use crate::bits::take;
 use crate::gather::{least_count, BLOCK_LEN};
+use crate::hash;
 use crate::mac;
 use crate::numbers::{Number, KEY_NOT_HELD, WRONG_PARAMETER, WRONG_SIZE};
 use crate::public_keys::{signature_len, PublicKeys};
@@ -89,7 +90,8 @@ impl RootFields {
         let (Some(key_bits), Some(tag_bits)) = (p.key_bits(), p.tag_bits()) else {
             return Err(WRONG_PARAMETER);
         };
-        let wrong_function = p.hf != 0 || !mac::is_taken(p.mf, key_bits) || p.mo != 0;
+        let wrong_hash = !hash::is_taken(p.hf, key_bits);
+        let wrong_function = wrong_hash || !mac::is_taken(p.mf, key_bits) || p.mo != 0;
         let block_too_short =
             p.nmack == 0 || SECTION_BITS / usize::from(p.nmack) < key_bits + tag_bits + INFO_BITS;
         let wrong_time = self.time.hour > 167 || self.time == RootTime { week: 0, hour: 0 };

@@ -13,6 +13,7 @@
 //! - `gather`: DSM blocks gathered into whole messages;
 //! - `public_keys`: the public keys held;
 //! - `kroot`, `pkr`: the two kinds of DSM, read and judged;
+//! - `hash`: the hash functions that a root can name;
 //! - `mac`: the MAC functions that a root can name;
 //! - `chain`: the TESLA chain in force and its key walk;
 //! - `verdict`: the message that waits and what a verdict on it does;
@@ -29,6 +30,7 @@ pub mod bits;
 pub mod chain;
 pub mod four;
 pub mod gather;
+pub mod hash;
 pub mod kroot;
 pub mod mac;
 pub mod mack;

@@ -487,6 +487,8 @@ fn a_new_chain() {
     assert_eq!(changed(|root| root.alpha[5] ^= 1), 0);
     assert_eq!(changed(|root| (root.ms_code, root.tag_bits) = (2, 14)), 0);
     assert_eq!(changed(|root| root.nmack = 1), 0);
+    assert_eq!(changed(|root| root.hf = 1), 0);
+    assert_eq!(changed(|root| root.hf = 2), 0);
     assert_eq!(changed(|root| root.mf = 1), 0);
     let shorter_keys = |root: &mut TestChain| {
         (root.ks_code, root.key_bits) = (3, 120);

@@ -52,6 +52,6 @@ fn all_cases() {
             }
         }
     }
-    assert_eq!(count, 27, "inputs found");
+    assert_eq!(count, 28, "inputs found");
     assert!(differences.is_empty(), "{}", differences.join("\n"));
 }

@@ -854,6 +854,7 @@ fn records_of_kind_6() {
         "a_framing",
         "f_mix_01",
         "P1_mf_changes",
+        "P6_nominal",
     ] {
         let mut input = fs::read(directory.join(name).with_extension("in")).unwrap();
         let before = replayed(&input);

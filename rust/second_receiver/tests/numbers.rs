@@ -643,11 +643,6 @@ fn number_8_parameters() {
     assert_eq!(kroot_number(&start, |_| {}), 0);
     for value in 1..4 {
         assert_eq!(
-            kroot_number(&start, |c| c[0] |= value << 2),
-            8,
-            "HF {value}"
-        );
-        assert_eq!(
             kroot_number(&start, |c| c[3] |= value << 4),
             8,
             "MO {value}"
@@ -724,7 +719,7 @@ fn number_8_mac_functions() {
                 assert_eq!(waits, number == 0, "MF {mf} KS {key}");
             }
             // HF and MO are judged with every MF; 8 goes before 6.
-            for change in [|c: &mut Vec<u8>| c[0] |= 4, |c: &mut Vec<u8>| c[3] |= 16] {
+            for change in [|c: &mut Vec<u8>| c[0] |= 12, |c: &mut Vec<u8>| c[3] |= 16] {
                 let mut contents = TestChain {
                     mf,
                     ..TestChain::with(4, 1, (ks, key), (1, 12)).keyed(1)
@@ -744,6 +739,55 @@ fn number_8_mac_functions() {
                 c[1] = c[1] & 15 | code << 4;
             });
             assert_eq!(number, 8, "MF {mf} KS code {code}");
+        }
+    }
+}
+
+// Every HF with every KS: SHA-256 and SHA3-256 give all sizes, SHA3-224 all but 256, 3 is reserved.
+// With a wrong size 6 is left where HF is taken.
+#[test]
+fn number_8_hash_functions() {
+    let keys = [96, 104, 112, 120, 128, 160, 192, 224, 256];
+    for hf in 0..4 {
+        for (ks, key) in (0..).zip(keys) {
+            let taken = hf == 0 || hf == 2 || hf == 1 && key != 256;
+            for nmack in 1..=3 {
+                let chain = TestChain::with(4, nmack, (ks, key), (1, 12)).keyed(1);
+                let chain = chain.hashed(hf);
+                let fits = 480 / usize::from(nmack) >= key + 12 + 16;
+                for (more, right) in [(0, 0), (1, 6)] {
+                    let mut dsm = chain.dsm(3, &[9; 64]);
+                    dsm[0] += more << 4;
+                    dsm.resize(dsm.len() + 13 * usize::from(more), 0);
+                    let mut bench = Bench::started(&Start::default());
+                    let number = bench.dsm(5, T, HEADER, 4, &dsm);
+                    let expected = if taken && fits { right } else { 8 };
+                    assert_eq!(number, expected, "HF {hf} KS {key} NMACK {nmack}");
+                    let waits = bench.receiver.waiting_message().is_some();
+                    assert_eq!(waits, number == 0, "HF {hf} KS {key}");
+                }
+            }
+            // MF and MO are judged with every HF, the key ID before it.
+            for (change, id, expected) in [
+                (&|c: &mut Vec<u8>| c[0] |= 2, 3, 8),
+                (&|c: &mut Vec<u8>| c[3] |= 16, 3, 8),
+                (&|_: &mut Vec<u8>| (), 2, 7),
+            ] as [(&dyn Fn(&mut Vec<u8>), u8, u8); 3]
+            {
+                let chain = TestChain::with(4, 1, (ks, key), (1, 12)).keyed(1);
+                let mut contents = chain.hashed(hf).contents();
+                change(&mut contents);
+                let dsm = dsm_kroot(id, &contents, &[9; 64]);
+                let number = Bench::started(&Start::default()).dsm(5, T, HEADER, 4, &dsm);
+                assert_eq!(number, expected, "HF {hf} KS {key}");
+            }
+        }
+        for code in 9..16 {
+            let number = kroot_number(&Start::default(), |c| {
+                c[0] |= hf << 2;
+                c[1] = c[1] & 15 | code << 4;
+            });
+            assert_eq!(number, 8, "HF {hf} KS code {code}");
         }
     }
 }

@@ -356,6 +356,8 @@ fn waiting_tags_stay_with_an_unchanged_chain() {
     assert_eq!(after(|root| root.alpha[5] ^= 1), []);
     assert_eq!(after(|root| (root.ms_code, root.tag_bits) = (2, 14)), []);
     assert_eq!(after(|root| root.nmack = 1), []);
+    assert_eq!(after(|root| root.hf = 1), []);
+    assert_eq!(after(|root| root.hf = 2), []);
     assert_eq!(after(|root| root.mf = 1), []);
     let shorter_keys = |root: &mut TestChain| {
         (root.ks_code, root.key_bits) = (3, 120);

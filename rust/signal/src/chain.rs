@@ -1,7 +1,7 @@
 //! A TESLA key chain from its seed key down to its root (000, 5.4; 01, Times and slots).
 
 use crate::time::Gst;
-use portable_hash::sha256;
+use portable_hash::{sha256, sha3_224, sha3_256};
 use std::sync::Arc;
 
 /// Key bits for KS codes 0 to 8 (000, table 12).
@@ -10,6 +10,26 @@ pub const KEY_BITS: [usize; 9] = [96, 104, 112, 120, 128, 160, 192, 224, 256];
 pub const AES_KEYS: [u8; 3] = [4, 6, 8];
 /// Tag bits for MS codes 0 to 9 (000, table 13).
 pub const TAG_BITS: [usize; 10] = [10, 12, 14, 16, 18, 20, 24, 28, 32, 40];
+
+/// Whether a root may name this HF with this code of a key size: SHA3-224 has no 256 bits, 3 is reserved (02, P6).
+pub fn hash_takes(hf: u8, ks: u8) -> bool {
+    match hf {
+        0 | 2 => true,
+        1 => ks != 8,
+        _ => false,
+    }
+}
+
+/// The digest by HF; that of SHA3-224 is followed by zeros, a reserved HF is SHA-256.
+fn digest(hf: u8, message: &[u8]) -> [u8; 32] {
+    let mut out = [0; 32];
+    match hf {
+        1 => out[..28].copy_from_slice(&sha3_224(message)),
+        2 => out = sha3_256(message),
+        _ => out = sha256(message),
+    }
+    out
+}
 
 /// Slots between two stored keys of a chain.
 const STRIDE: u64 = 32;
@@ -22,7 +42,7 @@ pub struct Params {
     pub cid: u8,
     /// Blocks of a section.
     pub nmack: u8,
-    /// Hash function; 0 is SHA-256.
+    /// Hash function; 0 is SHA-256, 1 SHA3-224, 2 SHA3-256.
     pub hf: u8,
     /// MAC function; 0 is HMAC-SHA-256, 1 CMAC-AES.
     pub mf: u8,
@@ -62,6 +82,16 @@ impl Params {
         Params { mf: 1, ..self }
     }
 
+    /// The same with the keys of this hash.
+    pub fn hashed(self, hf: u8) -> Self {
+        Params { hf, ..self }
+    }
+
+    /// Whether it names a hash whose digest has the bits of its keys (02, P6).
+    pub fn is_hashed(&self) -> bool {
+        hash_takes(self.hf, self.ks)
+    }
+
     /// Whether it names CMAC-AES with a key size that this takes.
     pub fn is_cmac(&self) -> bool {
         self.mf == 1 && AES_KEYS.contains(&self.ks)
@@ -87,6 +117,7 @@ impl Params {
 /// from these, so that a million slots take a megabyte at most.
 #[derive(Debug)]
 struct Keys {
+    hf: u8,
     alpha: [u8; 6],
     /// Slots of one sub-frame.
     slots: u64,
@@ -98,10 +129,11 @@ struct Keys {
 }
 
 impl Keys {
-    fn new(alpha: [u8; 6], slots: u64, start: Gst, top: u64, seed: &[u8]) -> Self {
+    fn new(params: &Params, slots: u64, start: Gst, top: u64, seed: &[u8]) -> Self {
         let stored = vec![0; top.div_ceil(STRIDE) as usize * seed.len()];
         let mut keys = Keys {
-            alpha,
+            hf: params.hf,
+            alpha: params.alpha,
             slots,
             start,
             top,
@@ -133,7 +165,7 @@ impl Keys {
         message[..len].copy_from_slice(key);
         message[len..len + 4].copy_from_slice(&self.time(slot).bytes());
         message[len + 4..len + 10].copy_from_slice(&self.alpha);
-        key.copy_from_slice(&sha256(&message[..len + 10])[..len]);
+        key.copy_from_slice(&digest(self.hf, &message[..len + 10])[..len]);
     }
 
     fn key(&self, slot: u64) -> Vec<u8> {
@@ -178,7 +210,7 @@ impl Chain {
     pub fn new(params: Params, ns: u8, week: u32, hour: u32, top: u64, seed: &[u8]) -> Self {
         let slots = u64::from(ns) * u64::from(params.nmack);
         let start = Gst::new(week, hour * 3600);
-        let keys = Keys::new(params.alpha, slots, start, top, &seed[..params.key_len()]);
+        let keys = Keys::new(&params, slots, start, top, &seed[..params.key_len()]);
         Chain {
             params,
             ns,
@@ -316,11 +348,36 @@ mod tests {
         assert_eq!(later.time(0), chain.time(3 * 120 * 72));
     }
 
+    // One step of each hash on a key of 28 bytes, worked out apart: slot 0 of 1/hour 1, α of sevens.
+    #[test]
+    fn hashes() {
+        for (hf, root) in [
+            (
+                0,
+                "D4687BC4A9FB0E5FDEA3AE1C63C28346C212DBCAA709E2A93733B362",
+            ),
+            (
+                1,
+                "D4D678F65663922110C0802A90E6BFDE2F88292BEA580376054070C2",
+            ),
+            (
+                2,
+                "4E85D963A8D1916A295119C5AAB20E02B4CD548D184A53744C0F38C9",
+            ),
+        ] {
+            let params = Params::new(0, 1, 7, 0, 0, [7; 6]).hashed(hf);
+            let chain = Chain::new(params, 3, 1, 1, 1, &[9; 32]);
+            assert_eq!(hex(&chain.root()), root, "HF {hf}");
+        }
+    }
+
     #[test]
     fn every_width() {
-        for ks in 0..9 {
-            let chain = Chain::new(Params::new(0, 1, ks, 0, 0, [7; 6]), 3, 1, 1, 700, &[9; 32]);
+        for (hf, ks) in (0..3).flat_map(|hf| (0..9).map(move |ks| (hf, ks))) {
+            let params = Params::new(0, 1, ks, 0, 0, [7; 6]).hashed(hf);
+            let chain = Chain::new(params, 3, 1, 1, 700, &[9; 32]);
             assert_eq!(chain.root().len() * 8, KEY_BITS[usize::from(ks)]);
+            assert_eq!(params.is_hashed(), (hf, ks) != (1, 8));
             for slot in [0, 1, 31, 32, 33, 299, 671, 672, 673, 699] {
                 let mut key = chain.key(slot + 1);
                 chain.keys.step(&mut key, slot);

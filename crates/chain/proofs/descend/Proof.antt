@@ -20,13 +20,13 @@ here : (c : tie.After-key-of-slot) → length (c .key-of-slot .last .1 .1 .1 .0)
 unfolding S.keyOfSlot
 here c =
     let s = c .before .before in
-    walked-length (s .args .c) _ _ _ _ (s .pre .0 .width-high) (length-top s) (c .key-of-slot .ensures)
+    walked-length (s .args .c) _ _ _ _ (s .pre .0 .width-fits) (length-top s) (c .key-of-slot .ensures)
 
 last : (c : tie.After-key-of-slot2) → length (c .key-of-slot2 .last .1 .1 .1 .0) ≡ 32
 unfolding S.keyOfSlot
 last c =
     let k = c .before .before in
-    walked-length (k .before .before .args .c) _ _ _ _ (k .before .before .pre .0 .width-high) (here k) (c .key-of-slot2 .ensures)
+    walked-length (k .before .before .args .c) _ _ _ _ (k .before .before .pre .0 .width-fits) (here k) (c .key-of-slot2 .ensures)
 
 slice-aggregate-equal-part : tie.Need-slice-aggregate-equal-part
 slice-aggregate-equal-part c = sym (last (c .before))
@@ -43,7 +43,7 @@ returns c =
     let k = l .before .before in
     let s = k .before .before in
     let g = s .args in
-    let w = s .pre .0 .width-high in (
+    let w = s .pre .0 .width-fits in (
       two-parts (g .c) (g .high) (g .stop) (g .low) (g .top) (k .key-of-slot .last .1 .1 .1 .0) (l .key-of-slot2 .last .1 .1 .1 .0) (g .t6) _ w (length-top s) (s .pre .1 .1 .0) (s .pre .1 .1 .1)
           (k .key-of-slot .ensures) (l .key-of-slot2 .ensures) (c .equal-part .ensures),
       (record { not-above = s .pre .1 .1 .1; key-is = walked-key (g .c) (g .high) (g .stop) (g .top) _ w (length-top s) (k .key-of-slot .ensures) }, refl),

@@ -19,7 +19,7 @@ returns c =
     let h = S.held (g .held) (take (g .c .width) (now (g .key))) in
     let x = a .nearer .ensures in
     let y = b .nearer2 .ensures in
-    met-walked (g .c) h (b .nearer2 .result) (g .m) _ _ (s .pre .0 .0 .width-high) (y .0 .0)
+    met-walked (g .c) h (b .nearer2 .result) (g .m) _ _ (s .pre .0 .0 .width-fits) (y .0 .0)
     (y .1 .1 .1 (g .c) h (x .1 .1 .1 (g .c) h (met-here (g .c) (g .held) (now (g .key))) (s .pre .1 .1 .near-is)) (s .pre .1 .1 .low-is))
     (λ l.
     let e = y .1 .0 l in

@@ -15,9 +15,9 @@ returns c =
     let a = w .before .before .before in
     let g = a .args in
     let out = w .key-of-slot .last .1 .1 .1 .0 in (
-      (key-long (g .c) (g .at) (g .m) (now (g .key)) out (a .pre .0 .0 .0 .width-high) (a .pre .1 .0) (w .key-of-slot .ensures), c .judge-slot .ensures .0),
+      (key-long (g .c) (g .at) (g .m) (now (g .key)) out (a .pre .0 .0 .0 .width-fits) (a .pre .1 .0) (w .key-of-slot .ensures), c .judge-slot .ensures .0),
       λ h p e.
-          let q = key-after (g .c) h (g .at) (g .m) (now (g .key)) out (a .pre .0 .0 .0 .width-high) (a .pre .1 .0) (a .pre .0 .1 .1 .0) p e (w .key-of-slot .ensures) in
+          let q = key-after (g .c) h (g .at) (g .m) (now (g .key)) out (a .pre .0 .0 .0 .width-fits) (a .pre .1 .0) (a .pre .0 .1 .1 .0) p e (w .key-of-slot .ensures) in
           (q, c .judge-slot .ensures .1 h (k .keep-key .ensures ∙ ap (keptOf (g .c .mf)) q)),
     )
 

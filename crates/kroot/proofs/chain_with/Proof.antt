@@ -20,14 +20,15 @@ fields-for-requires c κs =
 returns : tie.Need-returns
 unfolding S.chainWith
 returns c =
-    let a = c .before in
+    let f = c .before in
+    let a = f .before in
     let c4 = a .before .before .before .before in
-    rw (c .mf .ensures, a .alpha .ensures, a .before .fields-for .ensures, a .before .before .root-seconds .ensures, a .before .before .before .nmack .ensures, c4 .tag-width .ensures, c4 .before .ms .ensures, c4 .before .before .key-width .ensures, c4 .before .before .before .ks .ensures)
+    rw (c .mf .ensures, f .hf .ensures, a .alpha .ensures, a .before .fields-for .ensures, a .before .before .root-seconds .ensures, a .before .before .before .nmack .ensures, c4 .tag-width .ensures, c4 .before .ms .ensures, c4 .before .before .key-width .ensures, c4 .before .before .before .ks .ensures)
 
 pub chain-with-spec : {M : Type 1} → statement M
 chain-with-spec =
     tie.close
     (tie.spec (λ c κs. search needs) (λ c κs. search needs) (λ c κs. search needs) (λ c κs. search needs) (λ c κs. search needs) (λ c κs. search needs)
     mul-fields-for
-    fields-for-requires (λ c κs. search needs) (λ c κs. search needs) (λ c. search needs)
+    fields-for-requires (λ c κs. search needs) (λ c κs. search needs) (λ c κs. search needs) (λ c. search needs)
     returns)

@@ -7,7 +7,7 @@ use Rattle.kroot.proofs.functions_bad.Tie as tie
 
 returns : tie.Need-returns
 unfolding G.functionsBad
-returns c = rw (c .nmack .ensures, c .before .mo .ensures, c .before .before .mf-bad .ensures, c .before .before .before .hf .ensures)
+returns c = rw (c .nmack .ensures, c .before .mo .ensures, c .before .before .mf-bad .ensures, c .before .before .before .hf-bad .ensures)
 
 pub functions-bad-spec : {M : Type 1} → statement M
 functions-bad-spec =

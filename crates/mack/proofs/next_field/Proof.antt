@@ -1,7 +1,7 @@
 -- `mack::next_field` meets its contract: a field stands at the place that the rules compute, and so does the next.
 -- Assumes nothing.
 use mathlib.Core.Path.{_≡_, refl}
-use Prim.Native.Nat.{_+_, _%_, _≤_}
+use Prim.Native.Nat.{_+_, _%_, _^_, _≤_, _<_}
 use native.Mathlib.Omega.{arith}
 use native.Mathlib.Nat.{mod-lt}
 use borrow.Author.Needs.{needs}
@@ -21,10 +21,13 @@ take-field-requires c κs =
 rem-if1 : tie.Need-rem-if1
 rem-if1 c = some (c .before .before)
 
+fields-small : (c : tie.Start) → c .args .c .fields < 2 ^ 64
+fields-small c = search needs
+
 add-if1 : tie.Need-add-if1
 add-if1 c =
     let s = c .before .before in
-    omega (arith, mod-lt (s .args .j) (some s))
+    omega (arith, mod-lt (s .args .j) (some s), fields-small s)
 
 returns : tie.Need-returns
 unfolding S.fieldTag S.fieldInfo

@@ -18,7 +18,7 @@ use std::collections::BTreeMap;
 use std::sync::{Arc, OnceLock};
 
 /// Chains of a million slots and more, which other tests walk.
-const LONG: [&str; 4] = ["sections", "gaps", "held_key", "gap_full"];
+const LONG: [&str; 5] = ["sections", "gaps", "held_key", "gap_full", "sha3_gaps"];
 
 /// The other named scenarios that end in a whole record, and some random runs.
 fn built() -> Vec<(String, Vec<u8>)> {

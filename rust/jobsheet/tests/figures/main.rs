@@ -323,6 +323,7 @@ fn what_a_mark_rests_on() {
 // The head's chain is the second receiver's, and as many tags wait.
 #[test]
 fn chain_in_force() {
+    let mut functions = BTreeSet::new();
     for (name, _, all) in shown() {
         let run = all.runs.last().unwrap();
         let (_, _, receiver) = replayed(name);
@@ -335,7 +336,7 @@ fn chain_in_force() {
             let bits = (usize::from(chain.key_bits), usize::from(chain.tag_bits));
             let start = (root.week, root.hour, root.start());
             (
-                (chain.cid, chain.mf),
+                (chain.cid, chain.hf, chain.mf),
                 chain.nmack,
                 bits,
                 chain.alpha,
@@ -348,7 +349,7 @@ fn chain_in_force() {
             let bits = (p.key_bits().unwrap(), p.tag_bits().unwrap());
             let start = (chain.time.week, chain.time.hour, chain.slots.start);
             let key = chain.contents[12..12 + bits.0 / 8].to_vec();
-            ((p.cid, p.mf), p.nmack, bits, p.alpha, start, key)
+            ((p.cid, p.hf, p.mf), p.nmack, bits, p.alpha, start, key)
         });
         assert_eq!(mine, other, "{name}");
         let (page, text) = run_page(name, all, all.runs.len() - 1);
@@ -357,9 +358,11 @@ fn chain_in_force() {
             .map_or("none in force at the end".into(), |chain| {
                 let p = &chain.parameters;
                 let bits = (p.key_bits().unwrap(), p.tag_bits().unwrap());
+                functions.insert((p.hf, p.mf));
+                let hash = ["SHA-256", "SHA3-224", "SHA3-256"][usize::from(p.hf)];
                 let function = ["HMAC-SHA-256", "CMAC-AES"][usize::from(p.mf)];
                 format!(
-                    "CID {}, SHA-256, {function}, keys of {} bits, tags of {} bits",
+                    "CID {}, {hash}, {function}, keys of {} bits, tags of {} bits",
                     p.cid, bits.0, bits.1
                 )
             });
@@ -370,6 +373,10 @@ fn chain_in_force() {
             "{name}"
         );
     }
+    for hf in 0..3 {
+        assert!(functions.contains(&(hf, 0)), "HF {hf} in no recording");
+    }
+    assert!(functions.contains(&(0, 1)), "MF 1 in no recording");
 }
 
 // After every verdict as many tags wait as in the second receiver: roots, chains and drops.
@@ -382,6 +389,7 @@ fn tags_that_stay() {
         "chain_renewal",
         "chain_revoked",
         "mf_changes",
+        "hf_changes",
     ] {
         let bytes = recording(name);
         for (place, record) in bytes.chunks_exact(RECORD_LEN).enumerate() {

@@ -5,10 +5,10 @@ use osnma::{Settings, FLEXIBLE};
 use second_receiver::kroot::ChainParameters;
 use second_receiver::verdict::filled;
 use second_receiver::Receiver;
-use signal::chain::{AES_KEYS, KEY_BITS, TAG_BITS};
+use signal::chain::{hash_takes, AES_KEYS, KEY_BITS, TAG_BITS};
 use signal::dsm::{self, Tree};
 use signal::rng::Rng;
-use signal::scenario::MacFunctions;
+use signal::scenario::Functions;
 use signal::subframe;
 use signal::time::Gst;
 
@@ -171,19 +171,29 @@ struct Root {
 }
 
 /// Whether a chain of this key size may name CMAC-AES here.
-fn can_be_cmac(functions: MacFunctions, ks: u8) -> bool {
-    functions == MacFunctions::Both && AES_KEYS.contains(&ks)
+fn can_be_cmac(functions: Functions, ks: u8) -> bool {
+    functions.cmac && AES_KEYS.contains(&ks)
+}
+
+/// A hash that a chain of this key size may name here.
+fn any_hash(rng: &mut Rng, functions: Functions, ks: u8) -> u8 {
+    let drawn = if functions.sha3 { rng.below(3) } else { 0 } as u8;
+    if hash_takes(drawn, ks) {
+        drawn
+    } else {
+        0
+    }
 }
 
 /// Parameters that pass the checks of a DSM-KROOT.
-fn parameters(rng: &mut Rng, maclt: u8, functions: MacFunctions) -> ChainParameters {
+fn parameters(rng: &mut Rng, maclt: u8, functions: Functions) -> ChainParameters {
     loop {
         let (nmack, ks, ms) = (rng.range(1, 3), rng.below(9), rng.below(10));
         if 480 / nmack as usize >= KEY_BITS[ks as usize] + TAG_BITS[ms as usize] + 16 {
             return ChainParameters {
                 cid: rng.below(4) as u8,
                 nmack: nmack as u8,
-                hf: 0,
+                hf: any_hash(rng, functions, ks as u8),
                 mf: u8::from(can_be_cmac(functions, ks as u8) && rng.once_in(2)),
                 ks_code: ks as u8,
                 ms_code: ms as u8,
@@ -196,7 +206,7 @@ fn parameters(rng: &mut Rng, maclt: u8, functions: MacFunctions) -> ChainParamet
 }
 
 impl Root {
-    fn draw(rng: &mut Rng, receiver: &Receiver, functions: MacFunctions) -> Root {
+    fn draw(rng: &mut Rng, receiver: &Receiver, functions: Functions) -> Root {
         let maclt = receiver.setup().map_or(0, |setup| setup.maclt);
         let now = receiver.last_subframe().map_or(Gst(0), |time| Gst(time.0));
         let hour = now.seconds() / 3600;
@@ -227,6 +237,8 @@ impl Root {
                     root.root[at] ^= 1 << rng.below(8);
                 }
                 4 if can_be_cmac(functions, root.parameters.ks_code) => root.parameters.mf ^= 1,
+                // The reserved one too, and SHA3-224 with a key of 256 bits.
+                5 if functions.sha3 => root.parameters.hf ^= rng.range(1, 3) as u8,
                 _ => {}
             }
         }
@@ -311,7 +323,7 @@ fn blocks(rng: &mut Rng, header: u8, id: u8, message: &[u8], time: u32) -> Vec<C
 }
 
 /// A DSM-KROOT under a held key, or one of which a bit is turned over; the last block first.
-pub fn root_message(rng: &mut Rng, receiver: &Receiver, functions: MacFunctions) -> Vec<Call> {
+pub fn root_message(rng: &mut Rng, receiver: &Receiver, functions: Functions) -> Vec<Call> {
     let root = Root::draw(rng, receiver, functions);
     let key = rng.pick(receiver.public_keys()).clone();
     let signature = rng.bytes(dsm::SIGNATURE_LEN[usize::from(key.key_type)]);

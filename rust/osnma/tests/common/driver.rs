@@ -10,7 +10,7 @@ use signal::chain::AES_KEYS;
 use signal::dsm::Tree;
 use signal::replay::RECORD;
 use signal::rng::Rng;
-use signal::scenario::{self, MacFunctions, Pages};
+use signal::scenario::{self, Functions, Pages};
 use signal::subframe::all_came;
 use std::collections::{BTreeMap, BTreeSet};
 use std::fmt;
@@ -31,10 +31,13 @@ const ANSWERS: [(Kind, &[u32]); 7] = [
 const MACK: &[u32] = &[0, 1, 2, 3, 4, 5, 11, 12, 13, 17];
 
 /// What good verdicts and sub-frames did, and what calls met.
-const EVENTS: [&str; 30] = [
+const EVENTS: [&str; 33] = [
     "first root",
     "root with CMAC-AES",
     "later root with another MAC function",
+    "root with SHA3-224",
+    "root with SHA3-256",
+    "later root with another hash function",
     "later root, no tag waited",
     "later root, all tags stay",
     "later root, some tags stay",
@@ -214,11 +217,35 @@ pub fn without_cmac(fields: &mut [u8]) {
     }
 }
 
+/// The same without SHA3: such a root names the reserved HF 3. A core from before SHA3 refuses both.
+pub fn without_sha3(fields: &mut [u8]) {
+    let (id, block, hf) = (fields[5] >> 4, fields[5] & 15, fields[15] >> 2 & 3);
+    if id < 12 && block == 0 && matches!(hf, 1 | 2) {
+        fields[15] |= 3 << 2;
+    }
+}
+
+/// The authentication fields with these functions alone. Where one is lost no block is taken, and all stay.
+pub fn restrict(marks: Option<u16>, fields: &mut [u8], functions: Functions) {
+    if !marks.is_none_or(all_came) {
+        return;
+    }
+    if !functions.cmac {
+        without_cmac(fields);
+    }
+    if !functions.sha3 {
+        without_sha3(fields);
+    }
+}
+
 /// The same for all sub-frames of a replay input.
-pub fn input_without_cmac(input: &mut [u8]) {
+pub fn restrict_input(input: &mut [u8], functions: Functions) {
     for record in input.chunks_exact_mut(RECORD) {
-        if matches!(record[0], 3 | 6) {
-            without_cmac(&mut record[6..81]);
+        let marks = u16::from_be_bytes([record[81], record[82]]);
+        match record[0] {
+            3 => restrict(None, &mut record[6..81], functions),
+            6 => restrict(Some(marks), &mut record[6..81], functions),
+            _ => {}
         }
     }
 }
@@ -278,7 +305,7 @@ fn shape(receiver: &Receiver) -> [usize; 8] {
 }
 
 /// Scenarios whose states are begun at, beside random mixes.
-const SCENARIOS: [&str; 22] = [
+const SCENARIOS: [&str; 24] = [
     "two_sets",
     "slow_tags_between",
     "same_time_candidates",
@@ -289,6 +316,8 @@ const SCENARIOS: [&str; 22] = [
     "lost_keys",
     "cmac_192",
     "mf_changes",
+    "sha3_224",
+    "hf_changes",
     "nominal",
     "floating_root",
     "chain_renewal",
@@ -338,7 +367,7 @@ impl State {
 pub fn states(
     seed: u64,
     mixes: u64,
-    functions: MacFunctions,
+    functions: Functions,
     pages: Pages,
 ) -> Result<Vec<State>, String> {
     let mut rng = Rng::new(seed);
@@ -349,9 +378,7 @@ pub fn states(
     let mut states = Vec::new();
     for mut run in runs {
         let mut seen = BTreeSet::new();
-        if functions == MacFunctions::Hmac {
-            input_without_cmac(&mut run.bytes);
-        }
+        restrict_input(&mut run.bytes, functions);
         if pages == Pages::Whole {
             input_without_marks(&mut run.bytes);
         }
@@ -379,7 +406,7 @@ pub struct Driver {
     /// For what is asked between the calls.
     asks: Rng,
     tree: Tree,
-    functions: MacFunctions,
+    functions: Functions,
     pages: Pages,
     states: Vec<State>,
     state: State,
@@ -391,12 +418,12 @@ pub struct Driver {
 }
 
 impl Driver {
-    /// With HMAC-SHA-256 alone no root names CMAC-AES, so that a core from before it answers the same; with whole
-    /// pages no sub-frame has marks, for a core from before them.
+    /// Without CMAC-AES or SHA3 no root names it, so that a core from before it answers the same; with whole pages no
+    /// sub-frame has marks, for a core from before them.
     pub fn new(
         seed: u64,
         mixes: u64,
-        functions: MacFunctions,
+        functions: Functions,
         pages: Pages,
     ) -> Result<Driver, String> {
         let mut rng = Rng::new(seed);
@@ -518,8 +545,8 @@ impl Driver {
 
     fn call(&mut self, call: &Call) -> Result<Answer, String> {
         let mut call = call.clone();
-        if let (MacFunctions::Hmac, Call::Subframe { fields, .. }) = (self.functions, &mut call) {
-            without_cmac(fields);
+        if let Call::Subframe { marks, fields, .. } = &mut call {
+            restrict(*marks, fields, self.functions);
         }
         let twin = &mut self.state.twin;
         let before = Before::of(&twin.receiver);
@@ -654,14 +681,27 @@ impl Before {
                 (_, false) => "later root, candidates go",
             });
         }
-        // MF stands in the last two bits of the contents' first byte.
-        let function = |contents: &Option<Vec<u8>>| contents.as_ref().map(|c| c[0] & 3);
-        let (old, new) = (function(&self.contents), function(&now.contents));
-        if new == Some(1) && self.contents != now.contents {
-            tally.event("root with CMAC-AES");
-        }
-        if old.is_some() && new.is_some() && old != new {
-            tally.event("later root with another MAC function");
+        // HF and MF stand in the last four bits of the contents' first byte.
+        let functions =
+            |contents: &Option<Vec<u8>>| contents.as_ref().map(|c| (c[0] >> 2 & 3, c[0] & 3));
+        if let Some((hf, mf)) = functions(&now.contents).filter(|_| self.contents != now.contents) {
+            for (event, came) in [
+                ("root with CMAC-AES", mf == 1),
+                ("root with SHA3-224", hf == 1),
+                ("root with SHA3-256", hf == 2),
+            ] {
+                if came {
+                    tally.event(event);
+                }
+            }
+            if let Some((old_hf, old_mf)) = functions(&self.contents) {
+                if old_mf != mf {
+                    tally.event("later root with another MAC function");
+                }
+                if old_hf != hf {
+                    tally.event("later root with another hash function");
+                }
+            }
         }
         if now.keys < self.keys {
             tally.event("public keys dropped");

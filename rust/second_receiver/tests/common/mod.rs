@@ -7,7 +7,7 @@
 pub mod annex;
 
 use portable_aes::cmac;
-use portable_hash::{hmac_sha256, sha256};
+use portable_hash::{hmac_sha256, sha256, sha3_224, sha3_256};
 use second_receiver::received::Received;
 use second_receiver::receiver::RECORDS_LEN;
 use second_receiver::Receiver;
@@ -95,6 +95,8 @@ pub fn set(words: &[[u8; 16]; 5]) -> Vec<u8> {
 pub struct TestChain {
     pub ns: u8,
     pub nmack: u8,
+    /// Hash function.
+    pub hf: u8,
     /// MAC function.
     pub mf: u8,
     pub key_bits: usize,
@@ -127,6 +129,7 @@ impl TestChain {
         TestChain {
             ns,
             nmack,
+            hf: 0,
             mf: 0,
             ks_code: ks.0,
             key_bits: ks.1,
@@ -147,6 +150,20 @@ impl TestChain {
         TestChain { mf: 1, ..self }
     }
 
+    /// The same with another hash for its keys, which are made after this.
+    pub fn hashed(self, hf: u8) -> TestChain {
+        TestChain { hf, ..self }
+    }
+
+    /// The digest by the chain's hash.
+    fn digest(&self, message: &[u8]) -> Vec<u8> {
+        match self.hf {
+            1 => sha3_224(message).to_vec(),
+            2 => sha3_256(message).to_vec(),
+            _ => sha256(message).to_vec(),
+        }
+    }
+
     /// Makes the keys down from a highest slot.
     pub fn keyed(mut self, top: usize) -> TestChain {
         let n = self.key_bits / 8;
@@ -154,7 +171,7 @@ impl TestChain {
         let mut keys = vec![key.clone()];
         for slot in (0..top).rev() {
             let time = self.slot_time(slot).to_be_bytes();
-            key = sha256(&[&key[..], &time, &self.alpha].concat())[..n].to_vec();
+            key = self.digest(&[&key[..], &time, &self.alpha].concat())[..n].to_vec();
             keys.push(key.clone());
         }
         keys.reverse();
@@ -198,7 +215,8 @@ impl TestChain {
 
     /// Table 7 from CIDKR through KROOT.
     pub fn contents(&self) -> Vec<u8> {
-        let mut bits = format!("{:02b}{:02b}00{:02b}", self.cid, self.nmack, self.mf);
+        let mut bits = format!("{:02b}{:02b}", self.cid, self.nmack);
+        bits += &format!("{:02b}{:02b}", self.hf, self.mf);
         bits += &format!("{:04b}{:04b}{:08b}", self.ks_code, self.ms_code, self.maclt);
         bits += &format!("{:02b}00{:012b}{:08b}", self.rsvd, self.week, self.hour);
         [packed(&bits), self.alpha.to_vec(), self.keys[0].clone()].concat()

@@ -2,7 +2,7 @@
 
 use super::bench::*;
 use super::{parameters, realistic, tags};
-use crate::chain::{Chain, Params, AES_KEYS, KEY_BITS};
+use crate::chain::{Params, AES_KEYS, KEY_BITS};
 use crate::dsm;
 use crate::mack::{Info, Layout, FLEXIBLE};
 use crate::replay::Run;
@@ -35,7 +35,7 @@ pub fn nominal_256(name: &str, about: &str, seed: u64) -> Run {
 }
 
 pub fn data_change(name: &str, about: &str, seed: u64) -> Run {
-    realistic::data_change_with(name, about, seed, 1)
+    realistic::data_change_with(name, about, seed, Params::with_cmac)
 }
 
 /// Every KS of AES and MS with every number of blocks.
@@ -102,47 +102,6 @@ fn send_other_function(b: &mut Bench, infos: &[Info], outcomes: &[u8]) {
     b.step();
 }
 
-/// A root an hour later of which at most MF differs, vouched for while slow tags wait; then its function judges.
-fn change_root(b: &mut Bench, mf: u8) {
-    let chain = b.force.clone().expect("a chain is in force");
-    let fields = Layout::new(&chain.params).expect("it fits").fields();
-    let tail = |first: &[u8]| [first, &vec![1; fields - 3]].concat();
-    let slow: Vec<Info> = (0..fields)
-        .map(|n| Info::new(1, [0, 12, 11][n % 3 * usize::from(n < 3)], 0))
-        .collect();
-    let quiet = vec![Info::new(1, 0, 0); fields];
-    // Their keys are of the sub-frames 122 and 113, after the new root's start and before it.
-    b.now = chain.start().plus(112);
-    b.send_fields(1, &slow, &tail(&[1, 5, 5]));
-    b.step();
-    let mut later = chain.floating(1);
-    later.params.mf = mf;
-    let later: Rc<Chain> = Rc::new(later);
-    let root = b.root(b.header, &later);
-    let blocks = dsm::blocks(&root.dsm);
-    for block in 0..blocks {
-        let hkroot = dsm::hkroot(b.header, 1, &root.dsm, block);
-        // Zero keys: these sections are refused, so that no tag is judged and none comes to wait.
-        b.subframe(block as u8 + 1, b.now, &hkroot, &[0; 60]);
-        b.run.gives(0, 12);
-    }
-    b.verdict(&root.verdict, 0);
-    b.force = Some(later.clone());
-    b.now = later.start().plus(2);
-    // The tag of ADKD 11 goes with its key's time; that of ADKD 12 stays only with the same function.
-    let due: &[u8] = if mf == chain.params.mf { &[1] } else { &[] };
-    b.send_fields(1, &quiet, &[due, &tail(&[1, 4, 4])].concat());
-    b.step();
-    send_other_function(b, &quiet, &[&[2, 4, 4][..], &vec![2; fields - 3]].concat());
-    // Slow tags under the function of the new root.
-    b.send_fields(1, &slow, &tail(&[1, 5, 5]));
-    b.step();
-    b.send_fields(1, &quiet, &[&[1][..], &tail(&[1, 4, 4])].concat());
-    b.now = later.start().plus(14);
-    b.send_fields(1, &quiet, &[&[1][..], &tail(&[1, 4, 4])].concat());
-    b.step();
-}
-
 /// From one function to the other and back, in chains that are otherwise the same.
 pub fn mf_changes(name: &str, about: &str, seed: u64) -> Run {
     let mut b = Bench::new(name, about, seed);
@@ -159,9 +118,14 @@ pub fn mf_changes(name: &str, about: &str, seed: u64) -> Run {
             };
             let chain = b.chain(params, 500);
             parameters::fresh(&mut b, &chain);
-            change_root(&mut b, 1 - mf);
-            change_root(&mut b, 1 - mf);
-            change_root(&mut b, mf);
+            for mf in [1 - mf, 1 - mf, mf] {
+                let mut later = b.force.as_ref().expect("a chain is in force").floating(1);
+                later.params.mf = mf;
+                tags::change_root(&mut b, later, |b, _, infos| {
+                    let fields = infos.len();
+                    send_other_function(b, infos, &[&[2, 4, 4][..], &vec![2; fields - 3]].concat());
+                });
+            }
         }
     }
     // The set of satellite 1, authentic under both in turn, is that of the last tag.

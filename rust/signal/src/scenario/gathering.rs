@@ -298,7 +298,8 @@ pub fn identities(name: &str, about: &str, seed: u64) -> Run {
     g.case();
     g.blocks(0..=7);
     let mut wrong = g.root.dsm.clone();
-    wrong[1] |= 4;
+    // The reserved HF.
+    wrong[1] |= 12;
     for block in 0..8 {
         g.send(
             dsm::hkroot(g.root.header, 1, &wrong, block),

@@ -13,12 +13,13 @@ mod parameters;
 mod random;
 mod realistic;
 mod refusals;
+mod sha3;
 mod tags;
 
 use crate::replay::Run;
 
 pub use parameters::section_after_gap;
-pub use random::{random, random_with, MacFunctions, Pages};
+pub use random::{random, random_with, Functions, Pages};
 
 /// A named scenario.
 #[derive(Clone, Copy)]
@@ -335,6 +336,52 @@ const ALL: &[Scenario] = &[
         cmac::mf_changes,
     ),
     scenario(
+        "sha3_224",
+        "SHA3-224 with KS 128: eight satellites, twelve minutes, one data change",
+        sha3::nominal_224,
+    ),
+    scenario(
+        "sha3_224_whole",
+        "the same with KS 224, the whole digest",
+        sha3::nominal_224_whole,
+    ),
+    scenario(
+        "sha3_256",
+        "the same with SHA3-256 and KS 256",
+        sha3::nominal_256,
+    ),
+    scenario(
+        "sha3_cmac",
+        "the same with SHA3-256, CMAC-AES and KS 192",
+        sha3::nominal_cmac,
+    ),
+    scenario(
+        "sha3_data_change",
+        "SHA3-224: a repeater's words replace a set while its slow tag waits",
+        sha3::data_change,
+    ),
+    scenario(
+        "sha3_sizes",
+        "SHA3-224 and SHA3-256 with every KS and number of blocks, both MAC functions",
+        sha3::sizes,
+    ),
+    scenario(
+        "sha3_keys",
+        "keys above and below the held one, each bit of a key turned over, keys of another hash",
+        sha3::keys,
+    ),
+    scenario(
+        "sha3_gaps",
+        "keys 1,000,000 and 1,000,001 slots past the one held, and slow tags due on the way",
+        sha3::gaps,
+    ),
+    scenario("hash_functions", "every HF with every KS", sha3::functions),
+    scenario(
+        "hf_changes",
+        "the hash function changes while slow tags wait",
+        sha3::hf_changes,
+    ),
+    scenario(
         "trees",
         "half an hour under trees: a field or two of a sub-frame lost now and then",
         realistic::trees,
@@ -434,7 +481,7 @@ mod tests {
     use crate::replay::RECORD;
 
     /// Runs whose chains have a million slots and more; without optimisation they take minutes to build.
-    const LONG: [&str; 4] = ["sections", "gaps", "held_key", "gap_full"];
+    const LONG: [&str; 5] = ["sections", "gaps", "held_key", "gap_full", "sha3_gaps"];
 
     // Each run has whole records, is the same from the same seed, and states answers to records that it has.
     #[test]

@@ -169,7 +169,7 @@ pub fn every_ns(name: &str, about: &str, seed: u64) -> Run {
 }
 
 /// Sends the present section of a satellite with correct keys and states the answer.
-fn reach(b: &mut Bench, prn: u8, second: u8) {
+pub(super) fn reach(b: &mut Bench, prn: u8, second: u8) {
     let mack = b.section(prn, b.now);
     let hkroot = b.idle();
     b.subframe(prn, b.now, &hkroot, &mack);

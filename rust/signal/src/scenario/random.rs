@@ -2,7 +2,7 @@
 
 use super::bench::*;
 use crate::bits;
-use crate::chain::{Chain, Params, AES_KEYS};
+use crate::chain::{hash_takes, Chain, Params, AES_KEYS};
 use crate::dsm;
 use crate::mack::{Info, Layout, FLEXIBLE};
 use crate::navdata::NavSet;
@@ -25,13 +25,22 @@ const BEGINNINGS: [(u32, u32); 6] = [
 /// Sub-frames for which a chain has keys.
 const SUBFRAMES: u64 = 330;
 
-/// The MAC functions that the chains of a mix name.
+/// The functions that the chains of a mix name beside SHA-256 and HMAC-SHA-256. Damage can still turn a root's HF and MF
+/// over.
 #[derive(Clone, Copy, Debug, PartialEq, Eq)]
-pub enum MacFunctions {
-    /// HMAC-SHA-256 alone. Damage can still turn a root's MF over.
-    Hmac,
-    /// CMAC-AES too, where the key size allows it.
-    Both,
+pub struct Functions {
+    /// CMAC-AES, where the key size allows it.
+    pub cmac: bool,
+    /// SHA3-224 and SHA3-256, where their digests have the key's size.
+    pub sha3: bool,
+}
+
+impl Functions {
+    /// All of them.
+    pub const ALL: Functions = Functions {
+        cmac: true,
+        sha3: true,
+    };
 }
 
 /// What comes of the pages of a mix's sub-frames.
@@ -45,7 +54,7 @@ pub enum Pages {
 
 struct Mix {
     b: Bench,
-    functions: MacFunctions,
+    functions: Functions,
     pages: Pages,
     /// One in so many calls is damaged; 0 for none.
     damage: u64,
@@ -62,11 +71,11 @@ struct Mix {
 
 /// A mix from a seed. A quarter of the seeds give undamaged runs, the others are damaged more and more.
 pub fn random(seed: u64) -> Run {
-    random_with(seed, MacFunctions::Both, Pages::Lost)
+    random_with(seed, Functions::ALL, Pages::Lost)
 }
 
-/// The same with chains of these MAC functions, and sub-frames of which pages are lost or not.
-pub fn random_with(seed: u64, functions: MacFunctions, pages: Pages) -> Run {
+/// The same with chains of these functions, and sub-frames of which pages are lost or not.
+pub fn random_with(seed: u64, functions: Functions, pages: Pages) -> Run {
     let name = format!("random_{seed}");
     let mut b = Bench::new(&name, "a mix of valid, damaged and random records", seed);
     let damage = [0, 40, 12, 4][(seed % 4) as usize];
@@ -217,18 +226,31 @@ impl Mix {
             let alpha = rng.array();
             let params = Params::new(cid, nmack, ks, ms, self.b.start.maclt, alpha);
             if Layout::new(&params).is_some() {
-                return self.with_any_function(params);
+                return self.with_any_functions(params);
             }
         }
     }
 
-    /// The same, or with CMAC-AES where it takes the key.
-    fn with_any_function(&mut self, params: Params) -> Params {
-        let possible = AES_KEYS.contains(&params.ks) && self.functions == MacFunctions::Both;
-        if possible && self.b.rng.once_in(2) {
+    /// The same with any hash that has the key's size, and with CMAC-AES or not where it takes the key.
+    fn with_any_functions(&mut self, params: Params) -> Params {
+        let params = params.hashed(self.any_hash(params.ks));
+        if self.functions.cmac && AES_KEYS.contains(&params.ks) && self.b.rng.once_in(2) {
             params.with_cmac()
         } else {
             params
+        }
+    }
+
+    /// A hash that keys of this size may be made with.
+    fn any_hash(&mut self, ks: u8) -> u8 {
+        let drawn = match self.functions.sha3 {
+            true => self.b.rng.below(3) as u8,
+            false => 0,
+        };
+        if hash_takes(drawn, ks) {
+            drawn
+        } else {
+            0
         }
     }
 
@@ -514,10 +536,20 @@ impl Mix {
         }
         // Another MF is another chain with the same keys.
         let can_change = AES_KEYS.contains(&later.params.ks);
-        if self.functions == MacFunctions::Both && can_change && self.b.rng.once_in(4) {
+        if self.functions.cmac && can_change && self.b.rng.once_in(4) {
             later.params.mf ^= 1;
         }
-        self.send_root(&Rc::new(later), self.b.header);
+        let mut later = Rc::new(later);
+        // Another HF is another chain, mostly with keys of its own; with the same ones no section fits.
+        if self.functions.sha3 && self.b.rng.once_in(4) {
+            let params = later.params.hashed(self.any_hash(later.params.ks));
+            if self.b.rng.once_in(8) {
+                Rc::make_mut(&mut later).params = params;
+            } else if params != later.params {
+                later = self.b.chain_at(params, later.week, later.hour, SUBFRAMES);
+            }
+        }
+        self.send_root(&later, self.b.header);
     }
 
     /// A chain with the next CID, at the present hour or the next one.

@@ -287,18 +287,17 @@ fn slow_fields(own: u8, slow: u8) -> [Info; 7] {
 
 /// Two satellites, seven tags a section: 0 12 0 11 0 0 0, under a MAC function. Their 32 bits are short of a set, those
 /// of two are not.
-fn slow_bench(b: &mut Bench, mf: u8) {
+fn slow_bench(b: &mut Bench, change: fn(Params) -> Params) {
     b.start.marks = [marks(&[0, 12, 0, 11]); 2];
     b.seen = vec![1, 2];
     b.start();
     let params = Params {
         nmack: 1,
-        mf,
         ks: 4,
         ms: 8,
         ..b.params(0)
     };
-    let chain = b.chain(params, 100);
+    let chain = b.chain(change(params), 100);
     b.adopt(&chain);
     b.now = chain.start().plus(-1);
     b.all_words();
@@ -306,13 +305,18 @@ fn slow_bench(b: &mut Bench, mf: u8) {
 }
 
 pub fn data_change(name: &str, about: &str, seed: u64) -> Run {
-    data_change_with(name, about, seed, 0)
+    data_change_with(name, about, seed, |params| params)
 }
 
-/// The same under a MAC function.
-pub(super) fn data_change_with(name: &str, about: &str, seed: u64, mf: u8) -> Run {
+/// The same under other functions.
+pub(super) fn data_change_with(
+    name: &str,
+    about: &str,
+    seed: u64,
+    change: fn(Params) -> Params,
+) -> Run {
     let mut b = Bench::new(name, about, seed);
-    slow_bench(&mut b, mf);
+    slow_bench(&mut b, change);
     let arrival = b.now;
     b.send_fields(1, &slow_fields(1, 2), &[9, 5, 9, 5, 1, 1, 1]);
     let good = b.sets[1];
@@ -344,7 +348,7 @@ pub(super) fn data_change_with(name: &str, about: &str, seed: u64, mf: u8) -> Ru
 
 pub fn newer_set_stays(name: &str, about: &str, seed: u64) -> Run {
     let mut b = Bench::new(name, about, seed);
-    slow_bench(&mut b, 0);
+    slow_bench(&mut b, |params| params);
     // A slow tag of old data comes due after newer data was marked: it agrees, and the newer set stays. The old set was
     // authentic with its second tag; its third is then one of neither set.
     b.send_fields(1, &slow_fields(1, 2), &[9, 5, 9, 5, 1, 1, 1]);

@@ -309,8 +309,9 @@ pub fn root_messages(name: &str, about: &str, seed: u64) -> Run {
     let conditions: &[Condition<RootCall>] = &[
         (7, |c| c.key_id = START_KEY + 1),
         (7, |c| c.key_id = 0),
-        (8, |c| c.chain.params.hf = 1),
-        (8, |c| c.chain.params.hf = 2),
+        (8, |c| c.chain.params.hf = 3),
+        // SHA3-224 with a key of 256 bits.
+        (8, |c| (c.chain.params.hf, c.chain.params.ks) = (1, 8)),
         (8, |c| c.chain.params.mf = 2),
         (8, |c| c.chain.params.mf = 3),
         // CMAC-AES with a key of 160 bits.
@@ -335,7 +336,10 @@ pub fn root_messages(name: &str, about: &str, seed: u64) -> Run {
     // What is next to a condition and is none.
     let good: &[fn(&mut RootCall)] = &[
         |c| c.chain.params.rsvd = 3,
+        |c| c.chain.params.hf = 1,
+        |c| c.chain.params.hf = 2,
         |c| c.chain.params.mf = 1,
+        |c| (c.chain.params.hf, c.chain.params.mf) = (2, 1),
         |c| c.chain.params.nmack = 1,
         |c| (c.chain.params.nmack, c.chain.params.ms) = (3, 3),
         |c| c.chain.params.ms = 9,
@@ -350,6 +354,9 @@ pub fn root_messages(name: &str, about: &str, seed: u64) -> Run {
         .map(|c| (c.clone(), number(&c)))
         .collect();
     cases.extend(good.iter().map(|g| (vec![(0, *g)], 0)));
+    // SHA3 alone does not hide a wrong size.
+    let sha3: [fn(&mut RootCall); 2] = [|c| c.chain.params.hf = 1, |c| c.chain.params.hf = 2];
+    cases.extend(sha3.map(|hf| (vec![(0, hf), (6, |c| c.blocks = 9)], 6)));
     for (choice, first) in cases {
         let mut call = RootCall {
             chain: (*chain).clone(),

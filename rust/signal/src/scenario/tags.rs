@@ -600,3 +600,50 @@ pub fn changed_sizes(name: &str, about: &str, seed: u64) -> Run {
     }
     b.run
 }
+
+/// A root an hour later, of chains of one block whose fields are ADKD 0, 12, 11 and 0 from then on, vouched for while
+/// slow tags wait; then it judges. `between` is given the chain from before and fields without delay.
+pub(super) fn change_root(
+    b: &mut Bench,
+    later: Chain,
+    between: impl Fn(&mut Bench, &Rc<Chain>, &[Info]),
+) {
+    let chain = b.force.clone().expect("a chain is in force");
+    let fields = b.layout().fields();
+    let tail = |first: &[u8]| [first, &vec![1; fields - 3]].concat();
+    let slow: Vec<Info> = (0..fields)
+        .map(|n| Info::new(1, [0, 12, 11, 0][n.min(3)], 0))
+        .collect();
+    let quiet = vec![Info::new(1, 0, 0); fields];
+    // Their keys are of the sub-frames 122 and 113, after the new root's start and before it.
+    b.now = chain.start().plus(112);
+    b.send_fields(1, &slow, &tail(&[1, 5, 5]));
+    b.step();
+    let later = Rc::new(later);
+    let root = b.root(b.header, &later);
+    for block in 0..dsm::blocks(&root.dsm) {
+        let hkroot = dsm::hkroot(b.header, 1, &root.dsm, block);
+        // Zero keys: these sections are refused, so that no tag is judged and none comes to wait.
+        b.subframe(block as u8 + 1, b.now, &hkroot, &[0; 60]);
+        b.run.gives(0, 12);
+    }
+    b.verdict(&root.verdict, 0);
+    b.force = Some(later.clone());
+    b.now = later.start().plus(2);
+    // The tag of ADKD 11 goes with its key's time; that of ADKD 12 stays only with the same functions.
+    let due: &[u8] = if later.params == chain.params {
+        &[1]
+    } else {
+        &[]
+    };
+    b.send_fields(1, &quiet, &[due, &tail(&[1, 4, 4])].concat());
+    b.step();
+    between(b, &chain, &quiet);
+    // Slow tags under the functions of the new root.
+    b.send_fields(1, &slow, &tail(&[1, 5, 5]));
+    b.step();
+    b.send_fields(1, &quiet, &[&[1][..], &tail(&[1, 4, 4])].concat());
+    b.now = later.start().plus(14);
+    b.send_fields(1, &quiet, &[&[1][..], &tail(&[1, 4, 4])].concat());
+    b.step();
+}

@@ -1,0 +1,3 @@
+-- What the contracts of `sha3` cite.
+pub mod Sha3
+pub mod Mask
