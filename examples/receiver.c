@@ -8,8 +8,9 @@
  * their words and fields. A verdict is the chip's answer; on the bench it comes with the file. For each
  * start and verdict a line is printed with its number; for each sub-frame one with its satellite and
  * time, its two numbers and the count of its tag records, then these; after each half minute whether
- * four satellites have authentic data that is at most 10 and 20 sub-frames old; at the end whether the
- * core is stopped and has a chain in force, and each authentic set.
+ * four satellites have authentic data that is at most 10 and 20 sub-frames old and, while no chain is in
+ * force, how far along each message is, where that has changed; at the end whether the core is stopped
+ * and has a chain in force, and each authentic set.
  */
 #include <osnma_collector.h>
 
@@ -31,6 +32,8 @@ enum kind {
 static struct osnma_core core;
 static struct osnma_collector collector;
 static uint8_t records[OSNMA_RECORDS];
+/* How far along each message was when it was printed last. */
+static struct osnma_dsm_progress shown[OSNMA_DSM_IDS];
 
 static uint32_t time_of(const uint8_t r[256])
 {
@@ -60,11 +63,31 @@ static int may_open(uint32_t limit)
     return !osnma_is_stopped(&core) && osnma_four(&core, limit);
 }
 
+/* For who waits at a cold start. */
+static void print_gathering(void)
+{
+    struct osnma_dsm_progress now[OSNMA_DSM_IDS];
+    unsigned id;
+    if (osnma_chain_in_force(&core))
+        return;
+    osnma_progress(&core, now);
+    for (id = 0; id < OSNMA_DSM_IDS; id++) {
+        if (now[id].held == shown[id].held && now[id].missing == shown[id].missing)
+            continue;
+        if (now[id].missing == OSNMA_UNKNOWN_TOTAL)
+            printf("DSM %u: %u held, total unknown\n", id, now[id].held);
+        else
+            printf("DSM %u: %u held, %u missing\n", id, now[id].held, now[id].missing);
+        shown[id] = now[id];
+    }
+}
+
 /* The half minute is over. A refused word is a stopped core, which its sub-frames tell. */
 static void lend(void)
 {
     (void)osnma_collector_lend(&collector, &core, records, told, NULL);
     printf("four within 10: %d, within 20: %d\n", may_open(10), may_open(20));
+    print_gathering();
 }
 
 static enum osnma_answer start(const uint8_t r[256])
@@ -155,6 +178,7 @@ int main(void)
             if (answer == OSNMA_DONE) {
                 started = 1;
                 osnma_collector_begin(&collector);
+                osnma_progress(&core, shown);
             }
             printf("start: %u\n", (unsigned)answer);
         } else if (started) {

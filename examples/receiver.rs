@@ -8,11 +8,14 @@
 //! starts and verdicts as in a recording (docs/RECORDING.md), and pages or their words and fields. A verdict is the chip's answer; on the bench it
 //! comes with the file. For each start and verdict a line is printed with its number; for each sub-frame one with its
 //! satellite and time, its two numbers and the count of its tag records, then these; after each half minute whether
-//! four satellites have authentic data that is at most 10 and 20 sub-frames old; at the end whether the core is
-//! stopped and has a chain in force, and each authentic set.
+//! four satellites have authentic data that is at most 10 and 20 sub-frames old and, while no chain is in force, how far
+//! along each message is, where that has changed; at the end whether the core is stopped and has a chain in force, and
+//! each authentic set.
 
 use osnma::collector::{Collector, NotTaken};
-use osnma::{Core, Gst, Marks, Records, Refusal, Settings, SubframeAnswer, TagRecord, NO_RECORDS};
+use osnma::{
+    Core, Gst, Marks, Progress, Records, Refusal, Settings, SubframeAnswer, TagRecord, NO_RECORDS,
+};
 use std::io::{self, Read, Write};
 
 #[allow(dead_code)] // the tests call `run`
@@ -37,6 +40,7 @@ pub fn run(input: &mut impl Read, output: &mut impl Write) -> io::Result<()> {
         core: Core::new(),
         collector: Collector::new(),
         records: NO_RECORDS,
+        shown: Vec::new(),
         started: false,
         output,
     };
@@ -59,6 +63,8 @@ struct Receiver<'a, W: Write> {
     core: Core,
     collector: Collector,
     records: Records,
+    /// How far along each message was when it was printed last.
+    shown: Vec<Progress>,
     started: bool,
     output: &'a mut W,
 }
@@ -164,6 +170,7 @@ impl<W: Write> Receiver<'_, W> {
         if answer.is_ok() {
             self.started = true;
             self.collector = Collector::new();
+            self.shown = self.core.progress().collect();
         }
         writeln!(self.output, "start: {}", number(answer))
     }
@@ -184,6 +191,24 @@ impl<W: Write> Receiver<'_, W> {
         !self.core.is_stopped() && self.core.four(limit)
     }
 
+    /// For who waits at a cold start.
+    fn print_gathering(&mut self) -> io::Result<()> {
+        if self.core.chain_in_force() {
+            return Ok(());
+        }
+        for (now, shown) in self.core.progress().zip(&mut self.shown) {
+            if now != *shown {
+                let (id, held) = (now.dsm_id, now.held);
+                match now.missing {
+                    None => writeln!(self.output, "DSM {id}: {held} held, total unknown")?,
+                    Some(n) => writeln!(self.output, "DSM {id}: {held} held, {n} missing")?,
+                }
+                *shown = now;
+            }
+        }
+        Ok(())
+    }
+
     /// The half minute is over.
     fn lend(&mut self) -> io::Result<()> {
         let (output, mut printed) = (&mut *self.output, Ok(()));
@@ -196,7 +221,8 @@ impl<W: Write> Receiver<'_, W> {
         let _ = self.collector.lend(&mut self.core, &mut self.records, told);
         printed?;
         let [few, more] = [10, 20].map(|limit| u8::from(self.may_open(limit)));
-        writeln!(self.output, "four within 10: {few}, within 20: {more}")
+        writeln!(self.output, "four within 10: {few}, within 20: {more}")?;
+        self.print_gathering()
     }
 
     fn end(&mut self) -> io::Result<()> {

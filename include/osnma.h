@@ -19,6 +19,7 @@
  *     osnma_verdict_on(&core, &message, good)   the chip's answer on it
  *     osnma_read_set(&core, prn, set, ..)       a satellite's authentic navigation data
  *     osnma_four(&core, limit)                  whether four have such data, not older than `limit`
+ *     osnma_progress(&core, progress)           how far along each message is
  *
  * THE ORDER OF A HALF MINUTE: the fields of ALL satellites are lent before the words of ANY. A word
  * that is lent before a section of its own half minute takes its satellite's set out of use for that
@@ -76,7 +77,7 @@ extern "C" {
 /* ---- version and layout */
 
 /** The version of this header and of the calls (CHANGELOG.md). */
-#define OSNMA_VERSION "0.4.0"
+#define OSNMA_VERSION "0.5.0"
 
 /**
  * The number of the layout: it rises whenever a region of struct osnma_core, in size or in meaning, or
@@ -106,9 +107,13 @@ uint32_t OSNMA_LAYOUT_EXPORT(void);
 #define OSNMA_TREE_ROOT 32u  /**< the root of the tree of public keys */
 #define OSNMA_MARKS 28u      /**< 14 marks for second 0 of the minute, then 14 for second 30 */
 #define OSNMA_SATELLITES 36u /**< PRN 1 to 36 */
+#define OSNMA_DSM_IDS 16u    /**< DSM ID 0 to 11 of a DSM-KROOT, 12 to 15 of a DSM-PKR */
 
 /** The tag bits that must agree on a set before it is authentic. */
 #define OSNMA_AUTHENTIC_BITS 40u
+
+/** In the place of a number of missing blocks: block 0 is not held, and so the total is unknown. */
+#define OSNMA_UNKNOWN_TOTAL 255u
 
 /** The mark of a flexible field. The others are 0 to 15, the ADKD of a fixed one. */
 #define OSNMA_FLEXIBLE 255u
@@ -346,7 +351,7 @@ typedef char osnma_core_has_its_size
 
 /**
  * Whether an emergency message stopped the core. It then answers OSNMA_STOPPED to all but a new start
- * and the reads, osnma_four among them, and what these give is no longer to be used.
+ * and the reads, osnma_four and osnma_progress among them, and what these give is no longer to be used.
  */
 static inline int osnma_is_stopped(const struct osnma_core *core)
 {
@@ -402,6 +407,12 @@ struct osnma_message {
     uint8_t key[OSNMA_KEY];             /**< the public key to verify it under */
     uint8_t key_id;                     /**< its ID, 0 to 15 */
     uint8_t key_type;                   /**< its type, 0 to 3 */
+};
+
+/** How far along the message of a DSM ID is. */
+struct osnma_dsm_progress {
+    uint8_t held;    /**< its blocks that are held: at most 15, since a complete message is taken out */
+    uint8_t missing; /**< 1 to 15, or OSNMA_UNKNOWN_TOTAL without block 0, which names the total */
 };
 
 /**
@@ -631,19 +642,39 @@ static inline int osnma_four(const struct osnma_core *core, uint32_t limit);
 static inline enum osnma_answer osnma_read_message(const struct osnma_core *core,
                                                    struct osnma_message *message);
 
+/**
+ * How far along each message is: element i of `progress` has the number of blocks held of DSM ID i and,
+ * once block 0 is held, the number still missing. It changes nothing, and every core has an answer. A
+ * stopped core answers too.
+ *
+ * Lent: the core, which is read; the sixteen elements, all of which are written.
+ *
+ * DSM IDs 0 to 11 are those of DSM-KROOTs, 12 to 15 those of DSM-PKRs. What counts is what the core holds
+ * at this moment:
+ *   - A total is 7 to 16 blocks, and block 0 alone names it. Without block 0 `missing` is
+ *     OSNMA_UNKNOWN_TOTAL, also where no block is held.
+ *   - A complete message is taken out, whatever the sub-frame that completed it is then answered: its
+ *     DSM ID has no block and an unknown total again. So at least one is missing where the total is known.
+ *   - Blocks over 3,600 seconds old count until the next one of their DSM ID is held, which drops them.
+ *   - A block that is refused with OSNMA_BLOCK_UNFIT or OSNMA_FIELDS_MISSING is not held.
+ *   - After an accepted start no block is held.
+ */
+static inline void osnma_progress(const struct osnma_core *core,
+                                  struct osnma_dsm_progress progress[OSNMA_DSM_IDS]);
+
 /* ---- the same calls over single regions */
 
 /**
- * What the library exports, and what the calls above use. Nobody else needs them but a caller who
- * keeps the regions apart, as bindings for other languages do. A call is lent the regions that it reads
- * or writes, in the order of struct osnma_core, each a pointer and a count of elements; those that are
- * not const are written, and the other regions have no part in the call. Each returns its
- * answer, but for a sub-frame, which returns the count of records and writes the numbers of both
- * halves. osnma_regions_four answers OSNMA_DONE and writes what osnma_four gives to `yes`. Where a count
- * is wrong the answer is OSNMA_WRONG_LENGTH, in both halves, and all that is lent stays, but for IODnav
- * and time, key ID and key type, or `yes`, of a read, which are 0. The duties are those above: each
- * pointer is aligned for its type and good for its count, and what is not const overlaps nothing else
- * that is lent.
+ * What the library exports, and what the calls above use. Nobody else needs them but a caller who keeps
+ * the regions apart, as bindings for other languages do. A call is lent the regions that it reads or
+ * writes, in the order of struct osnma_core, each a pointer and a count of elements; those that are not
+ * const are written, and the other regions have no part in the call. Each returns its answer, but for a
+ * sub-frame, which returns the count of records and writes the numbers of both halves. osnma_regions_four
+ * answers OSNMA_DONE and writes what osnma_four gives to `yes`; osnma_regions_progress answers OSNMA_DONE
+ * and writes sixteen pairs, held and missing, to the 32 bytes of `out`. Where a count is wrong the answer
+ * is OSNMA_WRONG_LENGTH, in both halves, and all that is lent stays, but for IODnav and time, key ID and
+ * key type, or `yes`, of a read, which are 0. The duties are those above: each pointer is aligned for its
+ * type and good for its count, and what is not const overlaps nothing else that is lent.
  */
 uint32_t osnma_regions_start(
     uint8_t *config, size_t config_count,
@@ -730,6 +761,11 @@ uint32_t osnma_regions_read_message(
     uint8_t *signature, size_t signature_count,
     uint8_t *pubkey, size_t pubkey_count,
     uint8_t *id, uint8_t *kind);
+
+uint32_t osnma_regions_progress(
+    const uint8_t *blocks, size_t blocks_count,
+    const uint16_t *present, size_t present_count,
+    uint8_t *out, size_t out_count);
 
 /* ---- the calls over a core, by those over its regions */
 
@@ -833,6 +869,19 @@ static inline enum osnma_answer osnma_read_message(const struct osnma_core *core
         core->pubkeys, OSNMA_PUBKEYS_COUNT, core->offer, OSNMA_OFFER_COUNT, message->message,
         OSNMA_MESSAGE, message->signature, OSNMA_SIGNATURE, message->key, OSNMA_KEY, &message->key_id,
         &message->key_type);
+}
+
+static inline void osnma_progress(const struct osnma_core *core,
+                                  struct osnma_dsm_progress progress[OSNMA_DSM_IDS])
+{
+    uint8_t pairs[2u * OSNMA_DSM_IDS];
+    uint32_t id;
+    osnma_regions_progress(core->blocks, OSNMA_BLOCKS_COUNT, core->present, OSNMA_PRESENT_COUNT, pairs,
+                           sizeof pairs);
+    for (id = 0; id < OSNMA_DSM_IDS; id++) {
+        progress[id].held = pairs[2u * id];
+        progress[id].missing = pairs[2u * id + 1u];
+    }
 }
 
 #undef OSNMA_REGIONS_OF

@@ -10,9 +10,9 @@ use denote.Triple.Clauses.{AtExit}
 use denote.Ref.{now}
 use Rattle.regions.specs.Told.{told}
 use Rattle.regions.specs.Told.{subframeTold, subframe}
-use Rattle.call_reads.specs.Reads.{setTold, offerTold, fourTold}
-use Rattle.rules.specs.Calls.{startCall, wordCall, subframeCall, verdictCall, setRead, offerRead, fourRead}
-use Rattle.rules.specs.State.{State, state, setLent, offerLent, fourLent}
+use Rattle.call_reads.specs.Reads.{setTold, offerTold, fourTold, progressTold}
+use Rattle.rules.specs.Calls.{startCall, wordCall, subframeCall, verdictCall, setRead, offerRead, fourRead, progressRead}
+use Rattle.rules.specs.State.{State, state, setLent, offerLent, fourLent, progressLent}
 use Rattle.osnma.proofs.osnma_regions_start.Reads as start-reads
 use Rattle.osnma.proofs.osnma_regions_start.Kinds as start-kinds
 use Rattle.osnma.proofs.osnma_regions_word.Reads as word-reads
@@ -27,6 +27,8 @@ use Rattle.osnma.proofs.osnma_regions_read_message.Reads as read-message-reads
 use Rattle.osnma.proofs.osnma_regions_read_message.Kinds as read-message-kinds
 use Rattle.osnma.proofs.osnma_regions_four.Reads as four-reads
 use Rattle.osnma.proofs.osnma_regions_four.Kinds as four-kinds
+use Rattle.osnma.proofs.osnma_regions_progress.Reads as progress-reads
+use Rattle.osnma.proofs.osnma_regions_progress.Kinds as progress-kinds
 use Rattle.assurance.specs.Run.{wordBefore, wordGiven, wordAfter, verdictBefore, verdictGiven, verdictAfter}
 
 -- ---- start: its number, and all sixteen regions at exit
@@ -130,3 +132,17 @@ four-is κs args r last d = d
 
 pub four-only : (κs : Lfts 3) (args : Dens κs four-kinds.ps) (r : ℕ) (last : AtExit (endedOf 3 four-kinds.ps four-kinds.r) κs) → four-rule κs args r last → four-reads.Learnt κs args r last
 four-only κs args r last d = d
+
+-- ---- the question for the progress of messages: its number, and its 32 bytes at exit
+
+pub progress-asks-nothing : (κs : Lfts 3) (args : Dens κs progress-kinds.ps) → progress-reads.Asked κs args
+progress-asks-nothing κs args = tt
+
+abbrev progress-rule : (κs : Lfts 3) (args : Dens κs progress-kinds.ps) (r : ℕ) (last : AtExit (endedOf 3 progress-kinds.ps progress-kinds.r) κs) → Type 0
+progress-rule κs (blocks, (present, (out, _))) r (_, (_, (out′, _))) = (s : State) → progressTold r (now out′) ≡ progressRead (progressLent s (now blocks) (now present)) (now out)
+
+pub progress-is : (κs : Lfts 3) (args : Dens κs progress-kinds.ps) (r : ℕ) (last : AtExit (endedOf 3 progress-kinds.ps progress-kinds.r) κs) → progress-reads.Learnt κs args r last → progress-rule κs args r last
+progress-is κs args r last d = d
+
+pub progress-only : (κs : Lfts 3) (args : Dens κs progress-kinds.ps) (r : ℕ) (last : AtExit (endedOf 3 progress-kinds.ps progress-kinds.r) κs) → progress-rule κs args r last → progress-reads.Learnt κs args r last
+progress-only κs args r last d = d

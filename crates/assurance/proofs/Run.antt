@@ -6,14 +6,15 @@ use mathlib.Core.List.{List, [], _∷_}
 use contract.Lifetimes.{Lfts}
 use borrow.Fn.Kinds.{PK, RK, Dens, endedOf}
 use denote.Triple.Clauses.{AtExit}
-use Rattle.rules.specs.Calls.{Start, Told, SubframeTold, SetRead, OfferRead, FourRead, startCall}
+use Rattle.rules.specs.Calls.{Start, Told, SubframeTold, SetRead, OfferRead, FourRead, ProgressRead, startCall}
 use Rattle.rules.specs.Claim.{FairHistory}
-use Rattle.rules.specs.Log.{Call, start, Reply, plain, subframeReply, setReply, offerReply, fourReply, Stepped, History, advanced, step, asked, ran, ranFrom}
+use Rattle.rules.specs.Log.{Call, start, Reply, plain, subframeReply, setReply, offerReply, fourReply, progressReply, Stepped, History, advanced, step, asked, ran, ranFrom}
 use Rattle.rules.specs.State.{State}
+use Rattle.rules.proofs.MessageProgress.{message-progress}
 use Rattle.rules.proofs.Sound.{claim, four-satellites}
 use Rattle.rules.proofs.Sizes.{tag-sizes}
 use Rattle.rules.proofs.Whole.{lost-fields}
-use Rattle.assurance.specs.Run.{Made, StartDid, WordDid, SubframeDid, VerdictDid, ReadSetDid, ReadOfferDid, FourDid, Did, started, worded, subframed, judged, set-read, offer-read, four-asked, Done, Run, historyOf, ExportedClaim, readSetBefore, readOfferBefore, fourBefore}
+use Rattle.assurance.specs.Run.{Made, StartDid, WordDid, SubframeDid, VerdictDid, ReadSetDid, ReadOfferDid, FourDid, ProgressDid, Did, started, worded, subframed, judged, set-read, offer-read, four-asked, progress-asked, Done, Run, historyOf, ExportedClaim, readSetBefore, readOfferBefore, fourBefore, progressBefore}
 
 abbrev Steps : State → Call → Reply → State → Type 0
 Steps s c r s' = step s c ≡ record { reply = r; state = s' }
@@ -61,6 +62,10 @@ four-steps : (s s' : State) (c : Call) (r : Reply) → FourDid s c r s' → Step
 unfolding step asked
 four-steps = made-steps _ _ _ _ _ _ _ _ (λ κs args r last s d. ap (λ (t : FourRead). record { reply = fourReply t; state = fourBefore κs args s }) (sym (d s)))
 
+progress-steps : (s s' : State) (c : Call) (r : Reply) → ProgressDid s c r s' → Steps s c r s'
+unfolding step asked
+progress-steps = made-steps _ _ _ _ _ _ _ _ (λ κs args r last s d. ap (λ (t : ProgressRead). record { reply = progressReply t; state = progressBefore κs args s }) (sym (d s)))
+
 pub steps : (s s' : State) (c : Call) (r : Reply) → Did s c r s' → Steps s c r s'
 steps s s' c r (started d) = start-steps s s' c r d
 steps s s' c r (worded d) = word-steps s s' c r d
@@ -69,6 +74,7 @@ steps s s' c r (judged d) = verdict-steps s s' c r d
 steps s s' c r (set-read d) = read-set-steps s s' c r d
 steps s s' c r (offer-read d) = read-message-steps s s' c r d
 steps s s' c r (four-asked d) = four-steps s s' c r d
+steps s s' c r (progress-asked d) = progress-steps s s' c r d
 
 -- ---- a run of exported calls is a run of the rules
 
@@ -106,4 +112,4 @@ begins s s' left left' x d d' =
     sym (a .1) ∙ claim .begins s s' x (a .0) (b .0) ∙ b .1
 
 pub exported-claim : ExportedClaim
-exported-claim = record { steps = steps; fair = fair; begins = begins; refused = claim .refused; lost-fields = lost-fields; tag-sizes = tag-sizes; four-satellites = four-satellites }
+exported-claim = record { steps = steps; fair = fair; begins = begins; refused = claim .refused; lost-fields = lost-fields; tag-sizes = tag-sizes; four-satellites = four-satellites; message-progress = message-progress }

@@ -9,13 +9,14 @@ use contract.Lifetimes.{Lfts}
 use borrow.Fn.Kinds.{PK, RK, Dens, endedOf}
 use denote.Triple.Clauses.{AtExit}
 use denote.Ref.{now}
-use Rattle.call_reads.specs.Reads.{setTold, offerTold, fourTold}
+use Rattle.call_reads.specs.Reads.{setTold, offerTold, fourTold, progressTold}
 use Rattle.rules.specs.Calls.{Start, Word, Subframe}
 use Rattle.rules.specs.Claim.{FairHistory, Refused}
 use Rattle.rules.specs.FourLaws.{FourSatellites}
-use Rattle.rules.specs.Log.{Call, start, word, subframe, verdict, ask, Question, Reply, plain, subframeReply, setReply, offerReply, fourReply, History, advanced, step}
+use Rattle.rules.specs.ProgressLaws.{MessageProgress}
+use Rattle.rules.specs.Log.{Call, start, word, subframe, verdict, ask, Question, Reply, plain, subframeReply, setReply, offerReply, fourReply, progressReply, History, advanced, step}
 use Rattle.rules.specs.Log as L
-use Rattle.rules.specs.State.{State, state, wordLent, verdictLent, setLent, offerLent, fourLent}
+use Rattle.rules.specs.State.{State, state, wordLent, verdictLent, setLent, offerLent, fourLent, progressLent}
 use Rattle.rules.specs.Verdict.{Verdict}
 use Rattle.rules.specs.Sizes.{TagSizes}
 use Rattle.rules.specs.Whole.{LostFields}
@@ -33,6 +34,8 @@ use Rattle.osnma.proofs.osnma_regions_read_message.Reads as read-message-reads
 use Rattle.osnma.proofs.osnma_regions_read_message.Kinds as read-message-kinds
 use Rattle.osnma.proofs.osnma_regions_four.Reads as four-reads
 use Rattle.osnma.proofs.osnma_regions_four.Kinds as four-kinds
+use Rattle.osnma.proofs.osnma_regions_progress.Reads as progress-reads
+use Rattle.osnma.proofs.osnma_regions_progress.Kinds as progress-kinds
 
 -- ---- a call that was made
 
@@ -171,6 +174,22 @@ FourDid =
     Made 3 four-kinds.ps four-kinds.r four-reads.Learnt fourBefore (λ κs args. ask (fourGiven κs args))
     (λ κs args last. fourBefore κs args) fourTells
 
+-- ---- the question for the progress of messages writes no region
+
+abbrev pub progressBefore : (κs : Lfts 3) → Dens κs progress-kinds.ps → State → State
+progressBefore κs (blocks, (present, _)) s = progressLent s (now blocks) (now present)
+
+abbrev pub progressGiven : (κs : Lfts 3) → Dens κs progress-kinds.ps → Question
+progressGiven κs (_, (_, (out, _))) = L.progress (now out)
+
+abbrev pub progressTells : (κs : Lfts 3) → ℕ → AtExit (endedOf 3 progress-kinds.ps progress-kinds.r) κs → Reply
+progressTells κs r (_, (_, (out′, _))) = progressReply (progressTold r (now out′))
+
+abbrev pub ProgressDid : State → Call → Reply → State → Type 0
+ProgressDid =
+    Made 3 progress-kinds.ps progress-kinds.r progress-reads.Learnt progressBefore (λ κs args. ask (progressGiven κs args))
+    (λ κs args last. progressBefore κs args) progressTells
+
 -- ---- a run
 
 -- the exported call, in the state s, gave this reply and left the state s'
@@ -182,6 +201,7 @@ pub data Did (s : State) (c : Call) (reply : Reply) (s' : State) : Type 0 where
   set-read : ReadSetDid s c reply s' → Did s c reply s'
   offer-read : ReadOfferDid s c reply s' → Did s c reply s'
   four-asked : FourDid s c reply s' → Did s c reply s'
+  progress-asked : ProgressDid s c reply s' → Did s c reply s'
 
 -- a call, its reply, and the state that it left
 pub record Done : Type 0 where
@@ -217,3 +237,5 @@ pub record ExportedClaim : Type 0 where
   pub tag-sizes : TagSizes
   -- 02, P5: what holds of the answer beside its rule; what a yes means stands in `fair`
   pub four-satellites : FourSatellites
+  -- 02, P9: how a block that comes moves the progress of its message; what stands behind the numbers told is in `fair`
+  pub message-progress : MessageProgress

@@ -1,3 +1,4 @@
 -- Laws of the reads.
 mod Answers
 mod Scan
+mod Pairs

@@ -1,7 +1,7 @@
 -- What a read gives, written from its number and what it lent out at exit.
 use mathlib.Core.List.{List}
 use Prim.Native.Nat.{ℕ}
-use Rattle.rules.specs.Calls.{SetRead, OfferRead, FourRead}
+use Rattle.rules.specs.Calls.{SetRead, OfferRead, FourRead, ProgressRead}
 
 -- the answer's number, the set's bytes, its IODnav and its tag's GST_SF
 abbrev pub setTold : ℕ → List ℕ → ℕ → ℕ → SetRead
@@ -15,3 +15,7 @@ offerTold code message signature key id type =
 -- the answer's number, and 1 for yes, 0 for no
 abbrev pub fourTold : ℕ → ℕ → FourRead
 fourTold code said = record { code = code; yes = said }
+
+-- the answer's number, and the pairs of the DSM IDs
+abbrev pub progressTold : ℕ → List ℕ → ProgressRead
+progressTold code out = record { code = code; out = out }

@@ -1,14 +1,17 @@
-// The calls that only ask (01, "Verdicts", "MACK"; 02, P5), over the lent regions that they read; they write none of them. The caller has seen that every
+// The calls that only ask (01, "Verdicts", "MACK"; 02, P5, P9), over the lent regions that they read; they write none of them. The caller has seen that every
 // length is right, and hands in numbers that are 0: where a read is refused, the lent bytes and the numbers stay.
 //   read_set        a PRN's authentic set, its IODnav and its tag's GST_SF
 //   read_message    the message that waits for a verdict, its signature, and its key with ID and type
 //   four_met        whether four satellites have an authentic set whose tag is recent
+//   read_progress   of each DSM ID the blocks held and the blocks missing
+use rules::Progress;
 ghost use mathlib.Core.Path.{_≡_};
-ghost use Prim.Native.Nat.{ℕ, _-_};
+ghost use Prim.Native.Nat.{ℕ, _-_, _<_};
 ghost use lib.ListN.{length};
 ghost use Rattle.rules.specs.Calls.{setRead, offerRead};
 ghost use Rattle.rules.specs.Four as S;
-ghost use Rattle.rules.specs.State.{State, setLent, offerLent, fourLent, clocksLength, pubkeysLength, offerLength, setsLength, arrivalsLength};
+ghost use Rattle.rules.specs.Progress as P;
+ghost use Rattle.rules.specs.State.{State, setLent, offerLent, fourLent, progressLent, clocksLength, blocksLength, dsmIds, pubkeysLength, offerLength, setsLength, arrivalsLength};
 ghost use Rattle.rules.specs.Times.{secondsOf};
 ghost use Rattle.call_reads.specs.Reads.{setTold, offerTold};
 
@@ -106,5 +109,57 @@ pub fn four_met(clocks: &[u32], arrivals: &[u32], limit: u32) -> bool
             met = met + 1;
         }
         i = i + 1;
+    }
+}
+
+// ---- progress (02, P9)
+
+// Stands for the number of missing blocks where the total is unknown.
+pub const UNKNOWN_TOTAL: u8 = 255;
+
+// What is missing of a total; none where more is held, to which no start leads.
+fn missing_of(total: u8, held: u8) -> u8
+    ensures { λ r. ⌜ r ≡ total - held ⌝ }
+{
+    if total < held {
+        return 0;
+    }
+    total - held
+}
+
+// How far along the message of a DSM ID is.
+fn progress_of(blocks: &[u8], present: &[u16], id: usize) -> Progress
+    requires { ⌜ ((length (now blocks) ≡ blocksLength) × (length (now present) ≡ dsmIds)) × (id < 16) ⌝ }
+    ensures { λ r. ⌜ ((s : State) → r ≡ P.progressOf ((progressLent s (now (blocks .entry)) (now (present .entry))) .store) id) ⌝ }
+{
+    let marks = present[id];
+    let held = u16::count_ones(marks) as u8;
+    if !gather::marked(marks, 0) {
+        return Progress::Unknown(held);
+    }
+    let total = gather::total_of(blocks, id * 208) as u8;
+    Progress::Counted(held, missing_of(total, held))
+}
+
+// The two numbers of a DSM ID.
+fn pair_of(progress: Progress) -> [u8; 2]
+    ensures { λ r. ⌜ r ≡ P.pairOf progress ⌝ }
+{
+    match progress {
+        Progress::Unknown(held) => [held, UNKNOWN_TOTAL],
+        Progress::Counted(held, missing) => [held, missing],
+    }
+}
+
+// The pairs of the sixteen DSM IDs into 32 lent bytes.
+pub fn read_progress(blocks: &[u8], present: &[u16], out: &mut [u8])
+    requires { ⌜ ((length (now blocks) ≡ blocksLength) × (length (now present) ≡ dsmIds)) × (length (now out) ≡ 32) ⌝ }
+    ensures { λ _. ⌜ ((s : State) → now (out .exit) ≡ P.pairsOf ((progressLent s (now (blocks .entry)) (now (present .entry))) .store) dsmIds) ⌝ }
+{
+    let mut id: usize = 0;
+    while id < 16 {
+        let pair = pair_of(progress_of(blocks, present, id));
+        buffer::copy_part(out, 2 * id, &pair, 0, 2);
+        id += 1;
     }
 }

@@ -1,4 +1,4 @@
 -- Laws of sections, of block counts and marks, and of the store.
 mod Sections
 pub mod Counts
-mod Stores
+pub mod Stores

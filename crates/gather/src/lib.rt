@@ -105,7 +105,7 @@ fn blocks_for(nb: u8) -> usize
 }
 
 // The blocks that the block 0 at a place names.
-fn total_of(s: &[u8], at: usize) -> usize
+pub fn total_of(s: &[u8], at: usize) -> usize
     requires { ⌜ at + 13 ≤ length (now s) ⌝ }
     ensures { λ r. ⌜ r ≡ Rule.totalOf (part (now (s .entry)) at 13) ⌝ }
 {
@@ -124,7 +124,8 @@ fn reserved_count(hk: &[u8; 15]) -> bool
 
 // ---- marks of the blocks present
 
-fn marked(present: u16, k: usize) -> bool
+// Whether block k is present.
+pub fn marked(present: u16, k: usize) -> bool
     requires { ⌜ k < 16 ⌝ }
     ensures { λ r. ⌜ r ≡ Rule.marked present k ⌝ }
 {

@@ -7,11 +7,12 @@ use lib.Dec.{eqb}
 use lib.ListN.{length}
 use borrow.Author.Tests.{eqb-true}
 use Rattle.laws.proofs.Tests.{and-left, and-right}
-use Rattle.call_reads.specs.Reads.{setTold, offerTold, fourTold}
+use Rattle.call_reads.specs.Reads.{setTold, offerTold, fourTold, progressTold}
 use Rattle.regions.specs.Told.{told}
-use Rattle.rules.specs.Calls.{Word, wordCall, wordChecks, verdictCall, verdictChecks, setRead, setReadChecks, offerRead, offerReadChecks, fourRead, fourReadChecks}
+use Rattle.rules.specs.Calls.{Word, wordCall, wordChecks, verdictCall, verdictChecks, setRead, setReadChecks, offerRead, offerReadChecks, fourRead, fourReadChecks, progressRead, progressReadChecks}
 use Rattle.rules.specs.Four.{fourMet}
-use Rattle.rules.specs.State.{State, wordShaped, verdictShaped, setShaped, offerShaped, fourShaped}
+use Rattle.rules.specs.Progress.{pairsOf}
+use Rattle.rules.specs.State.{State, wordShaped, verdictShaped, setShaped, offerShaped, fourShaped, progressShaped, dsmIds}
 use Rattle.rules.specs.Verdict.{Verdict}
 
 -- ---- right lengths: of a test b of the regions, and of one, two or three lists that are lent beside them
@@ -59,3 +60,11 @@ module _ (s : State) where
   pub four-told : (limit said : ℕ) (met : Bool) → fourShaped s ≡ true → met ≡ fourMet s limit → said ≡ cond met 1 0 → fourTold 0 said ≡ fourRead s limit
   unfolding fourRead fourReadChecks
   four-told limit said met e m y = rw (e, ← m, y)
+
+  pub progress-misfit : (out : List ℕ) → (progressShaped s && eqb (length out) 32) ≡ false → progressTold 1 out ≡ progressRead s out
+  unfolding progressRead progressReadChecks
+  progress-misfit out e = rw e
+
+  pub progress-told : (out told : List ℕ) → (progressShaped s && eqb (length out) 32) ≡ true → told ≡ pairsOf (s .store) dsmIds → progressTold 0 told ≡ progressRead s out
+  unfolding progressRead progressReadChecks
+  progress-told out told e is = rw (e, is)

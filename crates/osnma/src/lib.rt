@@ -7,9 +7,9 @@
 ghost use mathlib.Core.Path.{_≡_};
 ghost use Rattle.regions.specs.Told.{told};
 ghost use Rattle.regions.specs.Told.{subframeTold, subframe};
-ghost use Rattle.call_reads.specs.Reads.{setTold, offerTold, fourTold};
-ghost use Rattle.rules.specs.Calls.{startCall, wordCall, subframeCall, verdictCall, setRead, offerRead, fourRead};
-ghost use Rattle.rules.specs.State.{State, state, wordLent, verdictLent, setLent, offerLent, fourLent};
+ghost use Rattle.call_reads.specs.Reads.{setTold, offerTold, fourTold, progressTold};
+ghost use Rattle.rules.specs.Calls.{startCall, wordCall, subframeCall, verdictCall, setRead, offerRead, fourRead, progressRead};
+ghost use Rattle.rules.specs.State.{State, state, wordLent, verdictLent, setLent, offerLent, fourLent, progressLent};
 
 // The number of the layout of regions and exported parameters, in the name too: a caller that was written for another one does not link.
 #[no_mangle]
@@ -345,5 +345,19 @@ pub extern "C" fn osnma_regions_four(
     if call_reads::four_met(clocks, arrivals, limit) {
         *yes = 1;
     }
+    0
+}
+
+// Asks how far along each message is (02, P9): of each of the sixteen DSM IDs the blocks held and the blocks missing, 255 where the total is unknown.
+#[no_mangle]
+pub extern "C" fn osnma_regions_progress(blocks: &[u8], present: &[u16], out: &mut [u8]) -> u32
+    ensures { λ r. ⌜ ((s : State) →
+        progressTold r (now (out .exit)) ≡ progressRead (progressLent s (now (blocks .entry)) (now (present .entry))) (now (out .entry))) ⌝ }
+{
+    let shaped = regions::progress_shaped(blocks, present);
+    if !(shaped & (out.len() == 32)) {
+        return 1;
+    }
+    call_reads::read_progress(blocks, present, out);
     0
 }

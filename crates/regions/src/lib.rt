@@ -1,6 +1,6 @@
 // Accessors over the memory that the caller lends: sixteen regions (rules, State.antt), of which a call is lent what it touches; nobody else writes
 // them. Their lengths stand here alone. Each function gives what the definition of its name in State.antt gives.
-//   shaped, word_shaped, verdict_shaped, set_shaped, offer_shaped, four_shaped    what a call is lent has its lengths (01, row 1)
+//   shaped, word_shaped, verdict_shaped, set_shaped, offer_shaped, four_shaped, progress_shaped    what a call is lent has its lengths (01, row 1)
 //   ns_of, maclt_of, stopped, stop               the settings
 //   prn_valid                                    a PRN that is heard
 //   last_subframe, last_subframe_of, last_word_of    the clocks, as stamps: a time plus 1, 0 for never
@@ -12,7 +12,7 @@ ghost use mathlib.Core.Bool.{true, _&&_};
 ghost use Prim.Native.Nat.{_+_, _≤_, _<_};
 ghost use lib.Dec.{leb, ltb};
 ghost use lib.ListN.{length, set};
-ghost use Rattle.rules.specs.State.{State, state, wordLent, verdictLent, setLent, offerLent, fourLent, configLength, clocksLength, numbersLength, stoppedAt};
+ghost use Rattle.rules.specs.State.{State, state, wordLent, verdictLent, setLent, offerLent, fourLent, progressLent, configLength, clocksLength, numbersLength, stoppedAt};
 ghost use Rattle.rules.specs.State as S;
 ghost use Rattle.rules.specs.Times.{stampOf};
 
@@ -177,6 +177,14 @@ pub fn four_shaped(clocks: &[u32], arrivals: &[u32]) -> bool
 {
     let clocked = clocks.len() == CLOCKS_LENGTH;
     bools::both(clocked, arrivals.len() == ARRIVALS_LENGTH)
+}
+
+// What the question for the progress of messages is lent has its lengths (02, P9).
+pub fn progress_shaped(blocks: &[u8], present: &[u16]) -> bool
+    ensures { λ r. ⌜ ((s : State) → r ≡ S.progressShaped (progressLent s (now (blocks .entry)) (now (present .entry)))) ⌝ }
+{
+    let gathered = blocks.len() == BLOCKS_LENGTH;
+    bools::both(gathered, present.len() == DSM_IDS)
 }
 
 fn four(a: bool, b: bool, c: bool, d: bool) -> bool

@@ -26,7 +26,7 @@ use Rattle.rules.specs.State.{Store, blocksLength, dsmIds}
 use Rattle.rules.specs.Times.{secondsOf}
 use Rattle.rules.proofs.Bounds.{dsm-id-bound, block-id-bound, total-cases, total-bound}
 use Rattle.rules.proofs.Choices.{no}
-use Rattle.rules.proofs.Invariant.{BlocksAre}
+use Rattle.rules.proofs.Invariant.{BlocksAre, Unfinished}
 use Rattle.rules.proofs.Marks.{mark-cases, mark-low, full-marked, none-marked}
 use Rattle.rules.proofs.Parts.{part-beside}
 
@@ -75,11 +75,11 @@ module _ (st : Store) (t : ℕ) (hk : List ℕ) (blocks-size : length (st .block
   unfolding new withBlock
   new-size = length-splice (st .blocks) (id * 208 + place * 13) (blockOf hk) fits ∙ blocks-size
 
-  own-marks : getD (new .present) id 0 ≡ withMark kept place
+  pub own-marks : getD (new .present) id 0 ≡ withMark kept place
   unfolding new withBlock
   own-marks = let a = dsm-id-bound hk in getD-set-same (st .present) id _ 0 (omega arith)
 
-  other-marks : (i : ℕ) → i ≢ id → getD (new .present) i 0 ≡ getD (st .present) i 0
+  pub other-marks : (i : ℕ) → i ≢ id → getD (new .present) i 0 ≡ getD (st .present) i 0
   unfolding new withBlock
   other-marks i n = getD-set-other (st .present) id i _ 0 n
 
@@ -88,7 +88,7 @@ module _ (st : Store) (t : ℕ) (hk : List ℕ) (blocks-size : length (st .block
   own-block = part-splice-same (st .blocks) (id * 208 + place * 13) (blockOf hk) fits 13 (sym (length-block hk hk-size))
 
   -- a place of another ID, or another place of this one
-  other-place : (i k : ℕ) → i < 16 → k < 16 → (i ≢ id) ⊎ (k ≢ place) → storedBlock (new .blocks) i k ≡ storedBlock (st .blocks) i k
+  pub other-place : (i k : ℕ) → i < 16 → k < 16 → (i ≢ id) ⊎ (k ≢ place) → storedBlock (new .blocks) i k ≡ storedBlock (st .blocks) i k
   unfolding new withBlock storedBlock
   other-place i k hi hk' w =
       part-beside (st .blocks) (id * 208 + place * 13) (blockOf hk) fits (i * 208 + k * 13) 13 (omega arith)
@@ -142,6 +142,67 @@ module _ (st : Store) (t : ℕ) (hk : List ℕ) (blocks-size : length (st .block
   under-count : Fit → marked kept 0 ≡ true → place < totalOf (storedBlock (st .blocks) id 0)
   unfolding tooHigh
   under-count f m = leb-false (totalOf (storedBlock (st .blocks) id 0)) place (rw m at (f .not-high))
+
+  -- taken out: this ID has no marks, whatever the half is answered
+  pub out-marks : getD ((takenOut new id) .present) id 0 ≡ 0
+  unfolding takenOut new withBlock
+  out-marks = let a = dsm-id-bound hk in getD-set-same (set (st .present) id (withMark kept place)) id 0 0 (omega (arith, length-set (st .present) id (withMark kept place)))
+
+  pub out-other : (i : ℕ) → i ≢ id → getD ((takenOut new id) .present) i 0 ≡ getD (new .present) i 0
+  unfolding takenOut
+  out-other i n = getD-set-other (new .present) id i 0 0 n
+
+  out-none : (k : ℕ) → marked (getD ((takenOut new id) .present) id 0) k ≡ false
+  out-none k = rw out-marks (none-marked k)
+
+  -- ---- no ID is left with all of its blocks
+
+  kept-sixteen : getD (st .present) id 0 / 2 ^ 16 ≡ 0 → kept / 2 ^ 16 ≡ 0
+  unfolding keptMarks
+  kept-sixteen h = go (dropsBlocks st t id hk)
+    where
+      go : (b : Bool) → cond b 0 (getD (st .present) id 0) / 2 ^ 16 ≡ 0
+      go true = zero-div (2 ^ 16)
+      go false = h
+
+  new-sixteen : Unfinished st → (i : ℕ) → i < 16 → getD (new .present) i 0 / 2 ^ 16 ≡ 0
+  new-sixteen u i h =
+      ⊎-elim
+      (λ e. (let z = eqb-true i id e in rw (z, own-marks) (mark-low 16 kept place (kept-sixteen (u .sixteen id (dsm-id-bound hk))) (block-id-bound hk))))
+      (λ e. rw (other-marks i (eqb-false i id e)) (u .sixteen i h))
+      (either (eqb i id))
+
+  other-incomplete : Unfinished st → (i : ℕ) → i < 16 → i ≢ id → complete new i ≡ false
+  unfolding complete
+  other-incomplete u i h n = rw (other-marks i n, other-place i 0 h (omega arith) (inl n)) (u .incomplete i h)
+
+  pub new-unfinished : Unfinished st → complete new id ≡ false → Unfinished new
+  new-unfinished u own =
+      record {
+        sixteen = new-sixteen u;
+        incomplete = λ i h.
+            ⊎-elim (λ e. (let z = eqb-true i id e in rw z own)) (λ e. other-incomplete u i h (eqb-false i id e)) (either (eqb i id));
+      }
+
+  out-incomplete : complete (takenOut new id) id ≡ false
+  unfolding complete
+  out-incomplete = rw (out-none 0) refl
+
+  out-other-incomplete : Unfinished st → (i : ℕ) → i < 16 → i ≢ id → complete (takenOut new id) i ≡ false
+  unfolding complete takenOut
+  out-other-incomplete u i h n = rw (out-other i n) (other-incomplete u i h n)
+
+  pub out-unfinished : Unfinished st → Unfinished (takenOut new id)
+  out-unfinished u =
+      record {
+        sixteen = λ i h.
+            ⊎-elim
+            (λ e. (let z = eqb-true i id e in rw (z, out-marks) (zero-div (2 ^ 16))))
+            (λ e. rw (out-other i (eqb-false i id e)) (new-sixteen u i h))
+            (either (eqb i id));
+        incomplete = λ i h.
+            ⊎-elim (λ e. (let z = eqb-true i id e in rw z out-incomplete)) (λ e. out-other-incomplete u i h (eqb-false i id e)) (either (eqb i id));
+      }
 
   module _ (f : Fit) (l : Log) (v : BlocksAre st l) where
     -- none of this ID's marks is past the count of its block 0
@@ -222,18 +283,7 @@ module _ (st : Store) (t : ℕ) (hk : List ℕ) (blocks-size : length (st .block
                 (either (eqb i id));
           }
 
-    -- taken out: this ID has no marks, whatever the half is answered
-    out-marks : getD ((takenOut new id) .present) id 0 ≡ 0
-    unfolding takenOut new withBlock
-    out-marks = let a = dsm-id-bound hk in getD-set-same (set (st .present) id (withMark kept place)) id 0 0 (omega (arith, length-set (st .present) id (withMark kept place)))
-
-    out-other : (i : ℕ) → i ≢ id → getD ((takenOut new id) .present) i 0 ≡ getD (new .present) i 0
-    unfolding takenOut
-    out-other i n = getD-set-other (new .present) id i 0 0 n
-
-    out-none : (k : ℕ) → marked (getD ((takenOut new id) .present) id 0) k ≡ false
-    out-none k = rw out-marks (none-marked k)
-
+    -- taken out: whatever the half is answered
     pub out-blocks : (x : Entry) → BlocksAre (takenOut new id) (x ∷ l)
     unfolding takenOut
     out-blocks x =

@@ -25,7 +25,7 @@ use Rattle.rules.proofs.Bounds.{dsm-id-bound, offer-id-bound}
 use Rattle.rules.proofs.Choices.{by-number}
 use Rattle.rules.proofs.Gathering
 use Rattle.rules.proofs.Gathering.{DsmCame, dsm-came, length-hkroot}
-use Rattle.rules.proofs.Invariant.{BlocksAre, KeysAre, OfferHeld}
+use Rattle.rules.proofs.Invariant.{BlocksAre, Unfinished, KeysAre, OfferHeld}
 use Rattle.rules.proofs.KeysProved.{pkr-known, pkr-held, kroot-held}
 use Rattle.rules.proofs.Later.{blocks-later, keys-later}
 use Rattle.rules.proofs.Refused.{pkr-refused}
@@ -40,9 +40,10 @@ record StoreIs (id code : ℕ) (l : Log) (g : Gathered) : Type 0 where
   out : length (g .dsm) ≢ 0 → BlocksAre (g .store) l
   -- and its blocks all came, where its number is 0
   came : length (g .dsm) ≢ 0 → code ≡ 0 → DsmCame (g .dsm) id l
+  unfinished : Unfinished (g .store)
 
 module _ (st : Store) (t : ℕ) (x : Entry) (sub : Subframe) (l : Log)
-    (blocks-size : length (st .blocks) ≡ blocksLength) (marks-size : length (st .present) ≡ dsmIds) (half-is : x .reply .code ≡ 0 → hkrootIn x ≡ some sub) (v : BlocksAre st l) where
+    (blocks-size : length (st .blocks) ≡ blocksLength) (marks-size : length (st .present) ≡ dsmIds) (half-is : x .reply .code ≡ 0 → hkrootIn x ≡ some sub) (v : BlocksAre st l) (u : Unfinished st) where
   abbrev hk : List ℕ
   hk = hkrootOf (fieldsOf sub) 15
 
@@ -57,8 +58,14 @@ module _ (st : Store) (t : ℕ) (x : Entry) (sub : Subframe) (l : Log)
         waits = λ _ _. Gathering.out-blocks st t hk blocks-size marks-size hk-size f l v x;
         out = λ _. Gathering.out-blocks st t hk blocks-size marks-size hk-size f l v x;
         came = λ _ ok. dsm-came _ (dsmIdOf hk) (x ∷ l) (Gathering.new-size st t hk blocks-size marks-size hk-size) (dsm-id-bound hk) (stored-blocks ok) full;
+        unfinished = Gathering.out-unfinished st t hk blocks-size marks-size hk-size u;
       })
-      (λ _. record { waits = λ _ ok. stored-blocks (sym ok); out = λ n. absurd (n refl); came = λ n. absurd (n refl) })
+      (λ short. record {
+        waits = λ _ ok. stored-blocks (sym ok);
+        out = λ n. absurd (n refl);
+        came = λ n. absurd (n refl);
+        unfinished = Gathering.new-unfinished st t hk blocks-size marks-size hk-size u short;
+      })
     where
       stored-blocks : x .reply .code ≡ 0 → BlocksAre (withBlock st t (dsmIdOf hk) hk) (x ∷ l)
       stored-blocks ok = Gathering.new-blocks st t hk blocks-size marks-size hk-size f l v x sub (half-is ok) refl
@@ -71,7 +78,7 @@ module _ (st : Store) (t : ℕ) (x : Entry) (sub : Subframe) (l : Log)
       let c = clear (gatherChecks st t (dsmIdOf hk) hk) tt e in
       stored-is (record { counted = c .0; not-high = c .1 .0 })
       ))
-      (λ _. record { waits = λ _ _. blocks-later v; out = λ n. absurd (n refl); came = λ n. absurd (n refl) })
+      (λ _. record { waits = λ _ _. blocks-later v; out = λ n. absurd (n refl); came = λ n. absurd (n refl); unfinished = u })
 
 -- ---- settings: the mark of a stopped core leaves the others
 
@@ -103,6 +110,7 @@ pub record HkrootIs (o : Start) (s : State) (l : Log) (s' : State) : Type 0 wher
   pub in-force : (chain : List ℕ) → inForce (s' .config) chain ≡ inForce (s .config) chain
   pub nav : s' .nav ≡ s .nav
   pub blocks : BlocksAre (s' .store) l
+  pub unfinished : Unfinished (s' .store)
   pub pubkeys : KeysAre o (s' .pubkeys) l
   pub offer : OfferHeld (s' .pubkeys) (s' .offer)
   pub chain : s' .chain ≡ s .chain
@@ -111,7 +119,7 @@ pub record HkrootIs (o : Start) (s : State) (l : Log) (s' : State) : Type 0 wher
 
 module _ (o : Start) (s : State) (x : Entry) (sub : Subframe) (l : Log) (half-is : x .reply .code ≡ 0 → hkrootIn x ≡ some sub)
     (config-size : length (s .config) ≡ configLength) (blocks-size : length (s .store .blocks) ≡ blocksLength) (marks-size : length (s .store .present) ≡ dsmIds) (keys-size : length (s .pubkeys) ≡ pubkeysLength)
-    (blocks : BlocksAre (s .store) l) (keys : KeysAre o (s .pubkeys) l) (root : treeRoot (s .config) ≡ o .root) (offer : OfferHeld (s .pubkeys) (s .offer)) where
+    (blocks : BlocksAre (s .store) l) (unfinished : Unfinished (s .store)) (keys : KeysAre o (s .pubkeys) l) (root : treeRoot (s .config) ≡ o .root) (offer : OfferHeld (s .pubkeys) (s .offer)) where
   abbrev dsmId : ℕ
   dsmId = dsmIdOf (hkrootOf (fieldsOf sub) 15)
 
@@ -130,6 +138,7 @@ module _ (o : Start) (s : State) (x : Entry) (sub : Subframe) (l : Log) (half-is
         in-force = λ chain. refl;
         nav = refl;
         blocks = v .waits z ok;
+        unfinished = v .unfinished;
         pubkeys = keys-later keys;
         offer = offer;
         chain = refl;
@@ -146,6 +155,7 @@ module _ (o : Start) (s : State) (x : Entry) (sub : Subframe) (l : Log) (half-is
         in-force = λ chain. refl;
         nav = refl;
         blocks = v .out n;
+        unfinished = v .unfinished;
         pubkeys = keys-later keys;
         offer = kroot-held (s .pubkeys) (s .config) (s .offer) (headerOf (hkrootOf (fieldsOf sub) 15)) (g .dsm) offer;
         chain = refl;
@@ -179,6 +189,7 @@ module _ (o : Start) (s : State) (x : Entry) (sub : Subframe) (l : Log) (half-is
         in-force = λ chain. by-test (λ (c : List ℕ). inForce c chain ≡ inForce (s .config) chain) ((judged (g .dsm)) .stops) (λ _. stopped-force (s .config) chain) (λ _. refl);
         nav = refl;
         blocks = v .out n;
+        unfinished = v .unfinished;
         pubkeys = pkr-keys g v n high ok;
         offer = λ w. pkr-held (s .pubkeys) (treeRoot (s .config)) (g .dsm) (offerId (s .offer)) keys-size (offer-id-bound (s .offer)) (offer w);
         chain = refl;
@@ -190,7 +201,7 @@ module _ (o : Start) (s : State) (x : Entry) (sub : Subframe) (l : Log) (half-is
   unfolding hkrootHalf
   hkroot-is t =
       let g = gathered (s .store) t (hkrootOf (fieldsOf sub) 15) in
-      let v : Taken (gathered (s .store) t (hkrootOf (fieldsOf sub) 15)) = gathered-is (s .store) t x sub l blocks-size marks-size half-is blocks in
+      let v : Taken (gathered (s .store) t (hkrootOf (fieldsOf sub) 15)) = gathered-is (s .store) t x sub l blocks-size marks-size half-is blocks unfinished in
       by-test Done (eqb (length (g .dsm)) 0) (λ e. store-done g v (eqb-true (length (g .dsm)) 0 e))
       (λ e.
       by-test Done (leb dsmId 11) (λ _. kroot-done g v (eqb-false (length (g .dsm)) 0 e))
@@ -205,6 +216,7 @@ module _ (o : Start) (s : State) (x : Entry) (sub : Subframe) (l : Log) (half-is
         in-force = λ chain. refl;
         nav = refl;
         blocks = blocks-later blocks;
+        unfinished = unfinished;
         pubkeys = keys-later keys;
         offer = offer;
         chain = refl;

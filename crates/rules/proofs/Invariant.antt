@@ -11,7 +11,7 @@ use Rattle.rules.specs.Calls.{Start, Subframe, chainOf, heldOf}
 use Rattle.rules.specs.Candidates.{pairAt}
 use Rattle.rules.specs.Chain.{Held, walk}
 use Rattle.rules.specs.Claim.{PublicKey, BlockCame, KeyKnown, Vouched, Arrived, Disclosed, Agreed, Counted, tagName, NoneOf, contentsBy}
-use Rattle.rules.specs.Gather.{marked, storedBlock, totalOf}
+use Rattle.rules.specs.Gather.{marked, storedBlock, totalOf, complete}
 use Rattle.rules.specs.Kroot.{krootOf, rootSecondsOf, chainContents, inForce, offerWaits, offerId}
 use Rattle.rules.specs.Log.{Entry, Log, Once, stateAt, sectionIn, lastWord, lastNoted, chainIn, chainTurns}
 use Rattle.rules.specs.Navdata.{wordAt, wordPlace}
@@ -39,6 +39,11 @@ pub record WordsAre (n : Nav) (l : Log) : Type 0 where
 pub record BlocksAre (s : Store) (l : Log) : Type 0 where
   pub came : (id k : ℕ) → id < 16 → k < 16 → marked (getD (s .present) id 0) k ≡ true → Once (BlockCame (storedBlock (s .blocks) id k) id k) l
   pub low : (id : ℕ) → id < 16 → marked (getD (s .present) id 0) 0 ≡ true → getD (s .present) id 0 / 2 ^ totalOf (storedBlock (s .blocks) id 0) ≡ 0
+
+-- sixteen marks, and no ID with all of its blocks: "A complete DSM is taken out."
+pub record Unfinished (s : Store) : Type 0 where
+  pub sixteen : (id : ℕ) → id < 16 → getD (s .present) id 0 / 2 ^ 16 ≡ 0
+  pub incomplete : (id : ℕ) → id < 16 → complete s id ≡ false
 
 abbrev pub heldkey : List ℕ → ℕ → PublicKey
 heldkey keys id = record { id = id; type = keyType keys id; bytes = keyBytes keys id }
@@ -122,6 +127,7 @@ pub record Inv (o : Start) (b : State) (s : State) (l : Log) : Type 0 where
   pub root : treeRoot (s .config) ≡ o .root
   pub words : WordsAre (s .nav) l
   pub blocks : BlocksAre (s .store) l
+  pub unfinished : Unfinished (s .store)
   pub pubkeys : KeysAre o (s .pubkeys) l
   pub offer : OfferHeld (s .pubkeys) (s .offer)
   pub force : inForce (s .config) (s .chain) ≡ true → InForce o b (chainContents (s .chain)) l

@@ -112,6 +112,7 @@ same-inv o b s s' x l v q at config store keys chain tesla auth offer words onwa
       root = rw config (v .root);
       words = words;
       blocks = rw store (blocks-later (v .blocks));
+      unfinished = rw store (v .unfinished);
       pubkeys = rw keys (keys-later (v .pubkeys));
       offer = rw keys offer;
       force = rw (config, chain) (λ h. force-later q (v .force h));

@@ -7,7 +7,7 @@ use lib.Dec.{eqb}
 use lib.ListN.{length}
 use borrow.Author.Tests.{eqb-true}
 use Rattle.laws.proofs.Tests.{both-true, and-left, and-right}
-use Rattle.rules.specs.State.{State, shaped, shapes, wordShaped, wordShapes, verdictShaped, verdictShapes, setShaped, fourShaped, offerShaped, configLength, clocksLength, wordsLength, stampsLength, blocksLength, dsmIds, pubkeysLength, offerLength, chainLength, numbersLength, heldkeyLength, waitingLength, setsLength, arrivalsLength}
+use Rattle.rules.specs.State.{State, shaped, shapes, wordShaped, wordShapes, verdictShaped, verdictShapes, setShaped, fourShaped, progressShaped, offerShaped, configLength, clocksLength, wordsLength, stampsLength, blocksLength, dsmIds, pubkeysLength, offerLength, chainLength, numbersLength, heldkeyLength, waitingLength, setsLength, arrivalsLength}
 use Rattle.rules.proofs.Choices.{each}
 
 pub record Sized (s : State) : Type 0 where
@@ -146,6 +146,10 @@ message-sized s h = both-sized (s .pubkeys) (s .offer) pubkeysLength offerLength
 pub four-sized : (s : State) → fourShaped s ≡ true → (length (s .clocks) ≡ clocksLength) × (length (s .auth .arrivals) ≡ arrivalsLength)
 unfolding fourShaped
 four-sized s h = both-sized (s .clocks) (s .auth .arrivals) clocksLength arrivalsLength h
+
+pub progress-sized : (s : State) → progressShaped s ≡ true → (length (s .store .blocks) ≡ blocksLength) × (length (s .store .present) ≡ dsmIds)
+unfolding progressShaped
+progress-sized s h = both-sized (s .store .blocks) (s .store .present) blocksLength dsmIds h
 
 -- what a read of what waits is lent has its lengths where a verdict could be given on it
 pub offer-shaped : (s : State) → verdictShaped s ≡ true → offerShaped s ≡ true

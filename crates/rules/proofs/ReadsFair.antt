@@ -1,5 +1,6 @@
--- The reads: a set that is read was marked, what waits is handed out with a key that was given or proved, and behind a yes stand four satellites.
-use Prim.Native.Nat.{ℕ, zero, suc, _-_, _*_, _<_}
+-- The reads: a set that is read was marked, what waits is handed out with a key that was given or proved, behind a yes stand four satellites, and
+-- behind the progress of a message the blocks that came.
+use Prim.Native.Nat.{ℕ, zero, suc, _+_, _-_, _*_, _<_}
 use mathlib.Core.Path.{_≡_, refl, sym, _∙_, ap}
 use mathlib.Core.Logic.{_≢_}
 use mathlib.Core.Bool.{true}
@@ -12,9 +13,9 @@ use Rattle.laws.specs.Refusal.{firstOf, unless, neb}
 use Rattle.laws.proofs.Refusal.{clear}
 use Rattle.laws.proofs.Tests.{and-left}
 use Rattle.rules.specs.Calls.{Start, SetRead, OfferRead, setRead, setReadChecks, offerRead, offerReadChecks, authStamp, authSet}
-use Rattle.rules.specs.Claim.{KeyKnown, SetBacked, HandedFairly, FourBacked, MarkBacked, Fair, wouldHand}
+use Rattle.rules.specs.Claim.{KeyKnown, SetBacked, HandedFairly, FourBacked, ProgressIs, MarkBacked, Fair, wouldHand}
 use Rattle.rules.specs.Kroot.{offerWaits, offerId, offerMessage, offerSignature}
-use Rattle.rules.specs.Log.{Call, start, word, subframe, verdict, Question, set, offer, four, ask, asked, Entry, Log, step, stateAt}
+use Rattle.rules.specs.Log.{Call, start, word, subframe, verdict, Question, set, offer, four, progress, ask, asked, Entry, Log, step, stateAt}
 use Rattle.rules.specs.Navdata.{setIssue}
 use Rattle.rules.specs.PublicKeys.{keyType, keyBytes}
 use Rattle.rules.specs.State.{State, offerShaped, prnValid}
@@ -22,6 +23,7 @@ use Rattle.rules.proofs.Bounds.{offer-id-bound}
 use Rattle.rules.proofs.FourBacked.{four-backed}
 use Rattle.rules.proofs.Invariant.{Inv, ClockIs, heldkey}
 use Rattle.rules.proofs.Later.{entry, unchanged-inv, quiet-ask}
+use Rattle.rules.proofs.MessageProgress.{progress-is}
 use Rattle.rules.proofs.SetsBacked.{set-stands}
 
 -- ---- what waits
@@ -52,6 +54,7 @@ abbrev asks : Call → ℕ
 asks (ask (set prn out)) = 1
 asks (ask (offer m g k)) = 2
 asks (ask (four limit)) = 3
+asks (ask (progress out)) = 4
 asks (start x) = 0
 asks (word w) = 0
 asks (subframe a x) = 0
@@ -61,11 +64,13 @@ abbrev prnAsked : Question → ℕ
 prnAsked (set prn out) = prn
 prnAsked (offer m g k) = 0
 prnAsked (four limit) = 0
+prnAsked (progress out) = 0
 
 abbrev limitAsked : Question → ℕ
 limitAsked (set prn out) = 0
 limitAsked (offer m g k) = 0
 limitAsked (four limit) = limit
+limitAsked (progress out) = 0
 
 abbrev asking : Question → Call → Question
 asking q (ask p) = p
@@ -92,9 +97,13 @@ module _ (o : Start) (b : State) (x : Entry) (l : Log) where
     no-four : T (neb n 3) → (limit : ℕ) → x .call ≡ ask (four limit) → x .reply .yes ≢ 0 → FourBacked o b limit l
     no-four d limit e said = other (four limit) d e
 
+    no-progress : T (neb n 4) → (out : List ℕ) → x .call ≡ ask (progress out) → x .reply .code ≡ 0 → (id : ℕ) → id < 16
+        → ProgressIs id (getD (x .reply .out) (2 * id) 0) (getD (x .reply .out) (2 * id + 1) 0) l
+    no-progress d out e ok id h = other (progress out) d e
+
   -- one that asks nothing
   pub no-question : asks (x .call) ≡ 0 → ((k : ℕ) → 12 * k < length (x .reply .records) → getD (x .reply .records) (12 * k) 0 ≡ 1 → MarkBacked o b k x l) → Fair o b x l
-  no-question is m = record { marks = m; reads = no-set 0 is tt; hands = no-hand 0 is tt; fours = no-four 0 is tt }
+  no-question is m = record { marks = m; reads = no-set 0 is tt; hands = no-hand 0 is tt; fours = no-four 0 is tt; gathers = no-progress 0 is tt }
 
   -- and that wrote no record
   pub plain-fair : x .reply .records ≡ [] → asks (x .call) ≡ 0 → Fair o b x l
@@ -135,6 +144,7 @@ set-fair o b s l prn out v =
           );
       hands = no-hand o b x l 1 refl tt;
       fours = no-four o b x l 1 refl tt;
+      gathers = no-progress o b x l 1 refl tt;
     }
 
 -- ---- a read of what waits
@@ -172,6 +182,7 @@ offer-fair o b s l m g k v =
       reads = no-set o b x l 2 refl tt;
       hands = λ m' g' k' e ok. hand-fair o b s l v m g k ok;
       fours = no-four o b x l 2 refl tt;
+      gathers = no-progress o b x l 2 refl tt;
     }
 
 -- ---- the question for four satellites
@@ -188,6 +199,21 @@ four-fair o b s l limit v t =
           let z : limit ≡ n = ap (λ (c : Call). limitAsked (asking (four limit) c)) e in
           rw (← z) (four-backed o b s l v t limit said)
           );
+      gathers = no-progress o b x l 3 refl tt;
+    }
+
+-- ---- the question for the progress of messages
+
+progress-fair : (o : Start) (b s : State) (l : Log) (out : List ℕ) → Inv o b s l → Fair o b (entry s (ask (progress out))) l
+unfolding step asked
+progress-fair o b s l out v =
+    let x = entry s (ask (progress out)) in
+    record {
+      marks = λ j i z. no-marks o b x l refl j i;
+      reads = no-set o b x l 4 refl tt;
+      hands = no-hand o b x l 4 refl tt;
+      fours = no-four o b x l 4 refl tt;
+      gathers = λ out' e ok. progress-is s l (v .blocks) (v .unfinished) out ok;
     }
 
 -- ---- asking
@@ -196,6 +222,7 @@ ask-fair : (o : Start) (b s : State) (l : Log) (q : Question) → Inv o b s l �
 ask-fair o b s l (set prn out) v t = set-fair o b s l prn out v
 ask-fair o b s l (offer m g k) v t = offer-fair o b s l m g k v
 ask-fair o b s l (four limit) v t = four-fair o b s l limit v t
+ask-fair o b s l (progress out) v t = progress-fair o b s l out v
 
 -- asking changes nothing
 ask-inv : (o : Start) (b s : State) (l : Log) (q : Question) → Inv o b s l → Inv o b s (entry s (ask q) ∷ l)

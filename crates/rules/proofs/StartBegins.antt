@@ -1,10 +1,11 @@
 -- An accepted start: what it leaves has no history but the start itself, and does not depend on what the regions held before. A refused start
 -- changes nothing.
-use Prim.Native.Nat.{ℕ, suc, _+_, _-_, _*_, _≤_, _<_}
+use Prim.Native.Nat.{ℕ, suc, _+_, _-_, _*_, _^_, _≤_, _<_}
 use mathlib.Core.Path.{_≡_, refl, sym, _∙_, ap}
 use mathlib.Core.Logic.{_≢_, ⊎-elim}
 use mathlib.Core.Bool.{true, false, not}
 use mathlib.Core.List.{List, [], _∷_, _++_}
+use native.Mathlib.Nat.{zero-div}
 use native.Mathlib.Omega.{arith}
 use lib.Dec.{eqb, ltb}
 use lib.ListN.{length, getD, take, replicate, length-take, length-replicate}
@@ -18,14 +19,14 @@ use Rattle.rules.specs.Bits.{filled, within}
 use Rattle.rules.specs.Calls.{Start, startCall, startChecks, startUnfit, startLengths, fresh}
 use Rattle.rules.specs.Candidates.{pairAt}
 use Rattle.rules.specs.Claim.{Fair, KeyKnown, given}
-use Rattle.rules.specs.Gather.{marked}
+use Rattle.rules.specs.Gather.{marked, complete}
 use Rattle.rules.specs.Kroot.{noOffer, offerWaits, inForce}
 use Rattle.rules.specs.Log.{Log, start, stateAt, step}
 use Rattle.rules.specs.Navdata.{wordAt, wordPlace}
 use Rattle.rules.specs.PublicKeys.{keyLength, keyHeld, keyType, keyBytes, withKey}
 use Rattle.rules.specs.State.{State, nsOf, treeRoot, shaped, wordsLength, stampsLength, dsmIds, pubkeysLength, arrivalsLength, waitingCount, clocksLength, waitingLength, satellites}
 use Rattle.rules.proofs.Choices.{no, not-zero}
-use Rattle.rules.proofs.Invariant.{Inv, WordsAre, BlocksAre, KeysAre, NamesAre, Newer, SetsAre, heldkey}
+use Rattle.rules.proofs.Invariant.{Inv, WordsAre, BlocksAre, Unfinished, KeysAre, NamesAre, Newer, SetsAre, heldkey}
 use Rattle.rules.proofs.KeyPlaces.{keyNumber, added-number, added-bytes, other-number}
 use Rattle.rules.proofs.Later.{entry, refused-inv}
 use Rattle.rules.proofs.Marks.{none-marked}
@@ -97,6 +98,10 @@ fresh-blocks : (x : Start) → BlocksAre ((fresh x) .store) []
 unfolding fresh
 fresh-blocks x = record { came = λ id k h i m. no (unmarked id k) m; low = λ id h m. no (unmarked id 0) m }
 
+fresh-unfinished : (x : Start) → Unfinished ((fresh x) .store)
+unfolding fresh complete
+fresh-unfinished x = record { sixteen = λ id h. rw (getD-zeros dsmIds id) (zero-div (2 ^ 16)); incomplete = λ id h. rw (unmarked id 0) refl }
+
 key-short : (x : Start) → Fit x → length (take (keyLength (x .type)) (x .key)) ≤ 67
 key-short x f =
     let e = f .key in
@@ -167,6 +172,7 @@ fresh-inv x f =
       root = fresh-root x f;
       words = fresh-words x;
       blocks = fresh-blocks x;
+      unfinished = fresh-unfinished x;
       pubkeys = fresh-keys x f;
       offer = λ e. no (no-offer x) e;
       force = λ e. no (no-chain x _) e;

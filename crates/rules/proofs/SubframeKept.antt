@@ -45,6 +45,7 @@ hkroot-inv o b s s' x l v q a onward at =
       root = a .root ∙ v .root;
       words = rw (a .nav) (words-later (q .no-word) (v .words));
       blocks = a .blocks;
+      unfinished = a .unfinished;
       pubkeys = a .pubkeys;
       offer = a .offer;
       force = rw (a .in-force (s' .chain), a .chain) (λ h. force-later (q .no-verdict) (v .force h));
@@ -80,6 +81,7 @@ mack-inv o b s s' x l m v q a k w at =
       root = rw (k .config) (a .root ∙ v .root);
       words = rw (k .nav, a .nav) (words-later (q .no-word) (v .words));
       blocks = rw (k .store) (a .blocks);
+      unfinished = rw (k .store) (a .unfinished);
       pubkeys = rw (k .pubkeys) (a .pubkeys);
       offer = rw (k .pubkeys, k .offer) (a .offer);
       force = rw (k .config, k .chain, a .in-force (s' .chain), a .chain) (λ h. force-later (q .no-verdict) (v .force h));
@@ -189,6 +191,7 @@ noted-is o s s' sub l a =
       in-force = a .in-force;
       nav = a .nav;
       blocks = a .blocks;
+      unfinished = a .unfinished;
       pubkeys = a .pubkeys;
       offer = a .offer;
       chain = a .chain;
@@ -238,7 +241,7 @@ module _ (o : Start) (b s : State) (l : Log) (area : List ℕ) (sub : Subframe) 
   unfolding noted
   first-is r ok =
       noted-is o s (first .state) sub (entryOf area sub r ∷ l)
-      (received-is o (noted s sub) (entryOf area sub r) sub l (λ e. rw e refl) (f .size .config) (f .size .blocks) (f .size .present) (f .size .pubkeys) (v .blocks) (v .pubkeys) (v .root) (v .offer) (sub .time) ok)
+      (received-is o (noted s sub) (entryOf area sub r) sub l (λ e. rw e refl) (f .size .config) (f .size .blocks) (f .size .present) (f .size .pubkeys) (v .blocks) (v .unfinished) (v .pubkeys) (v .root) (v .offer) (sub .time) ok)
 
   first-onward : Onward (s .clocks) (first .state .clocks)
   first-onward = rw (received-clocks (noted s sub) (sub .time) (sub .marks) (hkrootOf (fieldsOf sub) 15)) (noted-onward s sub f)

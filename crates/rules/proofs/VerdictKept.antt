@@ -284,6 +284,7 @@ module _ (o : Start) (b s : State) (v : Verdict) (x : Entry) (l : Log) (i : Inv 
         root = i .root;
         words = words-later (rw (is, ok) refl) (i .words);
         blocks = blocks-later (i .blocks);
+        unfinished = i .unfinished;
         pubkeys = keys-later (i .pubkeys);
         offer = no-offer (s .pubkeys);
         force = λ h. no (drop-ends (s .config) (s .chain) (size .chain)) h;
@@ -315,6 +316,7 @@ module _ (o : Start) (b s : State) (v : Verdict) (x : Entry) (l : Log) (i : Inv 
           root = i .root;
           words = words-later (rw (is, ok) refl) (i .words);
           blocks = blocks-later (i .blocks);
+          unfinished = i .unfinished;
           pubkeys = lower-known o (s .pubkeys) (v .id) x l (size .pubkeys) (f .id-small) (i .pubkeys);
           offer = no-offer lower;
           force = λ h. in-force-now (chainContents (s .chain)) (same-true (chainContents (s .chain)) contents (and-right (inForce (s .config) (s .chain)) _ e));
@@ -352,6 +354,7 @@ module _ (o : Start) (b s : State) (v : Verdict) (x : Entry) (l : Log) (i : Inv 
           root = i .root;
           words = words-later (rw (is, ok) refl) (i .words);
           blocks = blocks-later (i .blocks);
+          unfinished = i .unfinished;
           pubkeys = lower-known o (s .pubkeys) (v .id) x l (size .pubkeys) (f .id-small) (i .pubkeys);
           offer = no-offer lower;
           force = λ h. in-force-now (chainContents (forced contents)) (new-contents contents c-size);

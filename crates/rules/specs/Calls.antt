@@ -16,8 +16,9 @@ use Rattle.rules.specs.PublicKeys.{keyLength, keyType, keyBytes, withKey
 use Rattle.rules.specs.Kroot.{krootJudged, noOffer, chainWith, chainContents, inForce, offerWaits, offerId, offerMessage, offerSignature}
 use Rattle.rules.specs.Mack.{Proved}
 use Rattle.rules.specs.Pkr.{pkrJudged}
+use Rattle.rules.specs.Progress.{pairsOf}
 use Rattle.rules.specs.Received.{fieldCame, fieldsCame, received, keysReceived, fieldsJudged}
-use Rattle.rules.specs.State.{State, Store, Auth, shaped, wordShaped, verdictShaped, setShaped, fourShaped, offerShaped, nsOf, stoppedAt, treeRoot, stopped, lastSubframe, lastSubframeOf, lastWordOf, prnValid, heldSlot, waitingCount}
+use Rattle.rules.specs.State.{State, Store, Auth, shaped, wordShaped, verdictShaped, setShaped, fourShaped, progressShaped, offerShaped, nsOf, stoppedAt, treeRoot, stopped, lastSubframe, lastSubframeOf, lastWordOf, prnValid, heldSlot, waitingCount}
 use Rattle.rules.specs.State.{withConfig, withClocks, withNav, withStore, withPubkeys, withOffer, withTesla, withAuth}
 use Rattle.rules.specs.State.{clocksLength, wordsLength, stampsLength, blocksLength, dsmIds, pubkeysLength, chainLength, heldkeyLength, waitingLength, setsLength, arrivalsLength, copyLength, areaLength}
 use Rattle.rules.specs.Tags.{Section, Work, duesJudged}
@@ -376,3 +377,16 @@ unfoldable pub fourRead : State → ℕ → FourRead
 fourRead s limit =
     let code = firstOf (fourReadChecks s) in
     unless code (record { code = 0; yes = cond (fourMet s limit) 1 0 }) (record { code = code; yes = 0 })
+
+-- how far along each message is (02, P9): the pairs of the sixteen DSM IDs in 32 lent bytes, which stay as they are where it is refused
+pub record ProgressRead : Type 0 where
+  pub code : ℕ
+  pub out : List ℕ
+
+unfoldable pub progressReadChecks : State → List ℕ → List Check
+progressReadChecks s out = refuse (not (progressShaped s && eqb (length out) 32)) 1 ∷ []
+
+unfoldable pub progressRead : State → List ℕ → ProgressRead
+progressRead s out =
+    let code = firstOf (progressReadChecks s out) in
+    unless code (record { code = 0; out = pairsOf (s .store) dsmIds }) (record { code = code; out = out })

@@ -1,17 +1,18 @@
 -- Demand 3: what is claimed of every list of calls after an accepted start. Its sentences, and those of 01 and 02 that explain them, stand word for
 -- word beside the fields that say them; FourThings has the four things, FortyBits what 02 (P4) asks of a mark beside them, FourBacked what stands
--- behind a yes to 02's question (P5), Refused the sentence on refused calls, Claim all of it.
+-- behind a yes to 02's question (P5), ProgressIs what stands behind a message's progress (P9), Refused the sentence on refused calls, Claim all of it.
 --
 -- How to read it. A record holds where all its fields do. `a ≡ b`: a equals b; `a ≢ b`: it does not. `P → Q`: P implies Q; `(n : ℕ) → P`: P of every
 -- number n; `P × Q`: both; `(n : P) × Q`: Q of some n of P; `P ⊎ Q`: one of them. `Once P l`: P was so of an entry of the log l and of the entries
 -- older than it. `Each P tags`: P of each of the tags. `part s a n`: the n bytes of s from place a on. `some v`: there is one, and it is v. `origin` is
 -- always the accepted start of the list, `began` the state that it left.
-use Prim.Native.Nat.{ℕ, suc, _+_, _-_, _*_, _≤_, _<_}
+use Prim.Native.Nat.{ℕ, suc, _+_, _-_, _*_, _/_, _^_, _≤_, _<_}
 use mathlib.Core.Path.{_≡_}
 use mathlib.Core.Logic.{_≢_, _⊎_}
 use mathlib.Core.Bool.{Bool, true, false, cond}
 use mathlib.Core.List.{List, [], _∷_}
 use mathlib.Core.Option.{some}
+use lib.Count.{ones}
 use lib.Dec.{eqb}
 use lib.ListN.{length, getD, take, replicate}
 use Rattle.laws.specs.Lists.{part}
@@ -19,12 +20,13 @@ use Rattle.laws.specs.Refusal.{firstOf, unless}
 use Rattle.rules.specs.Bits.{filled, anyOf}
 use Rattle.rules.specs.Calls.{Start, Word, Subframe, OfferRead, startCall, offerRead, authStamp, authSet, fieldsOf, subframeChecks, noted, hkrootReceived}
 use Rattle.rules.specs.Chain.{hashBytes, walk, sentSlot, keySlot}
-use Rattle.rules.specs.Gather.{hkrootOf, mackOf, headerOf, statusOf, dsmIdOf, blockIdOf, blockOf, totalOf}
+use Rattle.rules.specs.Gather.{hkrootOf, mackOf, headerOf, statusOf, dsmIdOf, blockIdOf, blockOf, totalOf, marked}
 use Rattle.rules.specs.Kroot.{chainWith, krootOf, hfOf}
-use Rattle.rules.specs.Log.{Call, start, word, subframe, verdict, Question, set, offer, four, ask, Handed, Entry, Log, Once, Always, History, ranFrom, stateAt, step, hkrootIn, sectionIn, verdictIn, lastWord, lastNoted, chainIn, chainTurns}
+use Rattle.rules.specs.Log.{Call, start, word, subframe, verdict, Question, set, offer, four, progress, ask, Handed, Entry, Log, Once, Always, History, ranFrom, stateAt, step, hkrootIn, sectionIn, verdictIn, lastWord, lastNoted, chainIn, chainTurns}
 use Rattle.rules.specs.Mack.{blockKey}
 use Rattle.rules.specs.Navdata.{setUsable, setBytes, setIssue}
 use Rattle.rules.specs.Pkr.{newIdOf, newTypeOf, newKeyOf, emergency, pkrSizeBad, treeProved}
+use Rattle.rules.specs.Progress.{unknownTotal}
 use Rattle.rules.specs.PublicKeys.{keyLength, keyHeld}
 use Rattle.rules.specs.Received.{tagCame, infoCame, keyCame}
 use Rattle.rules.specs.State.{State, prnValid, heldSlot}
@@ -322,6 +324,24 @@ pub record FourBacked (origin : Start) (began : State) (limit : ℕ) (l : Log) :
   pub third-is : RecentlyBacked origin began last limit l third
   pub fourth-is : RecentlyBacked origin began last limit l fourth
 
+-- ---- the progress of messages (02, P9)
+
+-- what is said of a DSM ID: so many blocks held, so many missing
+pub record ProgressIs (id held missing : ℕ) (l : Log) : Type 0 where
+  -- sixteen marks, block 0's in the lowest bit, and the bytes of each block that is marked
+  pub present : ℕ
+  pub block : ℕ → List ℕ
+  pub sixteen : present / 2 ^ 16 ≡ 0
+  -- "the number of blocks held", and each came in an HKROOT half answered 0
+  pub held-is : held ≡ ones present
+  pub came : (k : ℕ) → k < 16 → marked present k ≡ true → Once (BlockCame (block k) id k) l
+  -- "Without block 0 the total is called unknown."
+  pub without-first : marked present 0 ≡ false → missing ≡ unknownTotal
+  -- "once block 0 is present, the number still missing": the total is block 0's, and no block past it is held
+  pub with-first : marked present 0 ≡ true → (held + missing ≡ totalOf (block 0)) × (present / 2 ^ totalOf (block 0) ≡ 0)
+  -- "A complete DSM is taken out.": one at least is missing
+  pub some-missing : 1 ≤ missing
+
 -- what a read handed out is what waits, with a key that was given or proved
 pub record HandedFairly (origin : Start) (began : State) (h : Handed) (l : Log) : Type 0 where
   pub waited : (wouldHand (stateAt began l)) .code ≡ 0
@@ -340,6 +360,9 @@ pub record Fair (origin : Start) (began : State) (x : Entry) (older : Log) : Typ
   pub hands : (message signature key : List ℕ) → x .call ≡ ask (offer message signature key) → x .reply .code ≡ 0 → HandedFairly origin began (x .reply .handed) older
   -- a yes to the question for four satellites (02, P5)
   pub fours : (limit : ℕ) → x .call ≡ ask (four limit) → x .reply .yes ≢ 0 → FourBacked origin began limit older
+  -- and what is said of each of the sixteen DSM IDs, two numbers of each (02, P9)
+  pub gathers : (out : List ℕ) → x .call ≡ ask (progress out) → x .reply .code ≡ 0 → (id : ℕ) → id < 16
+      → ProgressIs id (getD (x .reply .out) (2 * id) 0) (getD (x .reply .out) (2 * id + 1) 0) older
 
 -- ---- refused calls and halves
 

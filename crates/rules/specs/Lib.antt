@@ -15,12 +15,14 @@ pub mod Tags
 pub mod Received
 pub mod Verdict
 pub mod Four
+pub mod Progress
 pub mod Calls
 pub mod Whole
 pub mod Outcomes
 pub mod Log
 pub mod Sizes
 pub mod FourLaws
+pub mod ProgressLaws
 pub mod Claim
 pub mod Points
 pub mod Orders

@@ -9,7 +9,7 @@ use lib.Dec.{eqb}
 use lib.ListN.{replicate}
 use Rattle.laws.specs.Lists.{part}
 use Rattle.rules.specs.Bits.{within}
-use Rattle.rules.specs.Calls.{Start, Word, Subframe, SetRead, OfferRead, FourRead, startCall, wordCall, subframeCall, verdictCall, setRead, offerRead, fourRead}
+use Rattle.rules.specs.Calls.{Start, Word, Subframe, SetRead, OfferRead, FourRead, ProgressRead, startCall, wordCall, subframeCall, verdictCall, setRead, offerRead, fourRead, progressRead}
 use Rattle.rules.specs.Gather.{statusOf, cidOf}
 use Rattle.rules.specs.Kroot.{cidkrOf}
 use Rattle.rules.specs.Navdata.{Came, wordType}
@@ -25,6 +25,8 @@ pub data Question : Type 0 where
   offer : List ℕ → List ℕ → List ℕ → Question
   -- whether four satellites have an authentic set: the age limit in sub-frames (02, P5)
   four : ℕ → Question
+  -- how far along each message is: the 32 lent bytes (02, P9)
+  progress : List ℕ → Question
 
 -- a call with all that is lent to it; "Every call that only asks counts as a read."
 pub data Call : Type 0 where
@@ -53,7 +55,7 @@ pub record Reply : Type 0 where
   pub mack : ℕ
   -- the tag records that the call wrote, 12 bytes each
   pub records : List ℕ
-  -- what a read of a set gave: its 69 bytes, its IODnav, and its tag's GST_SF
+  -- what a read of a set gave: its 69 bytes, its IODnav, and its tag's GST_SF; or, in `out`, the pairs that tell how far along each message is
   pub out : List ℕ
   pub issue : ℕ
   pub time : ℕ
@@ -99,6 +101,9 @@ offerReply r =
 abbrev pub fourReply : FourRead → Reply
 fourReply r = record { code = r .code; mack = 0; records = []; out = []; issue = 0; time = 0; handed = nothing; yes = r .yes }
 
+abbrev pub progressReply : ProgressRead → Reply
+progressReply r = record { code = r .code; mack = 0; records = []; out = r .out; issue = 0; time = 0; handed = nothing; yes = 0 }
+
 -- a call's reply, and the state that it leaves
 pub record Stepped : Type 0 where
   pub reply : Reply
@@ -109,6 +114,7 @@ unfoldable pub asked : State → Question → Reply
 asked s (set prn out) = setReply (setRead s prn out)
 asked s (offer message signature key) = offerReply (offerRead s message signature key)
 asked s (four limit) = fourReply (fourRead s limit)
+asked s (progress out) = progressReply (progressRead s out)
 
 -- one call
 unfoldable pub step : State → Call → Stepped

@@ -4,13 +4,13 @@ use Prim.Native.Nat.{ℕ, _+_, _*_}
 use mathlib.Core.List.{List, [], _∷_, _++_}
 use lib.ListN.{replicate, set}
 use Rattle.laws.specs.Refusal.{firstOf}
-use Rattle.rules.specs.Calls.{fresh, startChecks, wordChecks, subframeChecks, verdictChecks, sectionProved, setReadChecks, offerReadChecks, fourReadChecks}
+use Rattle.rules.specs.Calls.{fresh, startChecks, wordChecks, subframeChecks, verdictChecks, sectionProved, setReadChecks, offerReadChecks, fourReadChecks, progressReadChecks}
 use Rattle.rules.specs.Chain.{held}
 use Rattle.rules.specs.Kroot.{krootChecks, offered}
 use Rattle.rules.specs.Mack.{blockChecks}
 use Rattle.rules.specs.Pkr.{pkrChecks}
 use Rattle.rules.specs.Points.{Point, point, blankStart}
-use Rattle.rules.specs.State.{State, withConfig, withClocks, withOffer, withChain, stoppedAt, fourLent, clocksLength, offerLength, arrivalsLength, areaLength}
+use Rattle.rules.specs.State.{State, withConfig, withClocks, withOffer, withChain, stoppedAt, fourLent, progressLent, clocksLength, blocksLength, dsmIds, offerLength, arrivalsLength, areaLength}
 use Rattle.rules.specs.Times.{gst}
 
 -- nothing waits
@@ -131,4 +131,9 @@ orders =
     ∷ point (firstOf (fourReadChecks (fourLent (core 0 0 nothing) [] (replicate arrivalsLength 0)))) 1
     ∷ point (firstOf (fourReadChecks (fourLent (core 0 0 nothing) (replicate clocksLength 0) []))) 1
     ∷ point (firstOf (fourReadChecks (core 1 0 nothing))) 0
+    -- progress (02, P9): no blocks; no marks; a byte too few for the pairs; all, in a stopped core
+    ∷ point (firstOf (progressReadChecks (progressLent (core 0 0 nothing) [] (replicate dsmIds 0)) (replicate 32 0))) 1
+    ∷ point (firstOf (progressReadChecks (progressLent (core 0 0 nothing) (replicate blocksLength 0) []) (replicate 32 0))) 1
+    ∷ point (firstOf (progressReadChecks (core 0 0 nothing) (replicate 31 0))) 1
+    ∷ point (firstOf (progressReadChecks (core 1 0 nothing) (replicate 32 0))) 0
     ∷ []

@@ -4,14 +4,14 @@ use mathlib.Core.Path.{_≡_}
 use mathlib.Core.List.{List, [], _∷_, _++_}
 use lib.ListN.{getD, take, replicate}
 use Rattle.laws.specs.Refusal.{firstOf}
-use Rattle.rules.specs.Calls.{Start, fresh, subframeChecks, fourRead}
+use Rattle.rules.specs.Calls.{Start, fresh, subframeChecks, fourRead, progressRead}
 use Rattle.rules.specs.Candidates.{SetPair, Agreement, agreed}
 use Rattle.rules.specs.Chain.{held, sentSlot}
 use Rattle.rules.specs.Four.{ageAt, recentCount}
 use Rattle.rules.specs.Gather.{blocksFor, gathered}
 use Rattle.rules.specs.Kroot.{fieldsFor, krootChecks}
 use Rattle.rules.specs.Mack.{blockChecks}
-use Rattle.rules.specs.State.{blocksLength, dsmIds, arrivalsLength, copyLength, areaLength, fourLent}
+use Rattle.rules.specs.State.{blocksLength, dsmIds, arrivalsLength, copyLength, areaLength, fourLent, progressLent}
 use Rattle.rules.specs.Times.{stampOf, gst, gstOf, slotOf, slotSeconds, hourSeconds, tagSlot}
 use Rattle.rules.specs.declared.Chain.{Chain}
 
@@ -103,6 +103,13 @@ abbrev pub fourOf : ℕ → ℕ → ℕ
 fourOf clock n =
     let s = fresh blankStart in
     (fourRead (fourLent s (clock ∷ replicate 72 0) (replicate n (stampOf (gst 1 0)) ++ (replicate (36 - n) 0 ++ replicate 72 (stampOf (gst 1 0))))) 0) .yes
+
+-- what is said of these DSM IDs: of 0 blocks 0, 1 and 2 are held, of 16 (NB 10); of 1 block 3; of 2 none; of 3 block 0, of 7 (NB 1); of 4 block 15 too, of
+-- a reserved NB, which no start leads to
+abbrev pub progressOfFive : List ℕ
+progressOfFive =
+    let blocks : List ℕ = 0xA0 ∷ (replicate 623 0 ++ (0x10 ∷ (replicate 207 0 ++ (0xB0 ∷ replicate 2495 0)))) in
+    (progressRead (progressLent (fresh blankStart) blocks (7 ∷ 8 ∷ 0 ∷ 1 ∷ 0x8001 ∷ replicate 11 0)) (replicate 32 9)) .out
 
 abbrev pub points : List Point
 points =
@@ -213,6 +220,17 @@ points =
     ∷ point (numberForHash 2 8) 0
     ∷ point (numberForHash 3 0) 8
     ∷ point (numberForHash 3 4) 8
+    -- 02, P9: held and missing; "Without block 0 the total is called unknown."; nothing held; one block; a total that is too low
+    ∷ point (getD progressOfFive 0 0) 3
+    ∷ point (getD progressOfFive 1 0) 13
+    ∷ point (getD progressOfFive 2 0) 1
+    ∷ point (getD progressOfFive 3 0) 255
+    ∷ point (getD progressOfFive 4 0) 0
+    ∷ point (getD progressOfFive 5 0) 255
+    ∷ point (getD progressOfFive 6 0) 1
+    ∷ point (getD progressOfFive 7 0) 6
+    ∷ point (getD progressOfFive 8 0) 2
+    ∷ point (getD progressOfFive 9 0) 0
     ∷ []
 
 abbrev pub Right : Point → Type 0

@@ -249,6 +249,13 @@ fourShaped s = eqb (length (s .clocks)) clocksLength && eqb (length (s .auth .ar
 abbrev pub fourLent : State → List ℕ → List ℕ → State
 fourLent s clocks arrivals = withAuth (withClocks s clocks) (record { sets = s .auth .sets; arrivals = arrivals })
 
+-- what the question for the progress of messages is lent (02, P9)
+unfoldable pub progressShaped : State → Bool
+progressShaped s = eqb (length (s .store .blocks)) blocksLength && eqb (length (s .store .present)) dsmIds
+
+abbrev pub progressLent : State → List ℕ → List ℕ → State
+progressLent s blocks present = withStore s (record { blocks = blocks; headers = s .store .headers; present = present; since = s .store .since })
+
 -- what a read of what waits is lent
 unfoldable pub offerShaped : State → Bool
 offerShaped s = eqb (length (s .pubkeys)) pubkeysLength && eqb (length (s .offer)) offerLength

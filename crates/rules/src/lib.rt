@@ -55,6 +55,14 @@ pub enum Outcome {
     Lost,
 }
 
+// How far along the message of a DSM ID is (02, P9). The definition `pairOf` of specs/Progress.antt gives its two numbers.
+pub enum Progress {
+    // Blocks held; block 0 is not among them, so that the total is unknown.
+    Unknown(u8),
+    // Blocks held, and blocks missing of the total that block 0 names.
+    Counted(u8, u8),
+}
+
 // The rules give 01's known points and its order of checks.
 pub fn known_points()
     ensures { λ r. ⌜ KnownPoints ⌝ }

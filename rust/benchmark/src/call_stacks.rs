@@ -150,6 +150,13 @@ pub fn stacks() {
         assert_eq!((core.view().four(20, &mut yes), yes), (0, 0));
     });
 
+    (core.present, core.blocks) = ([1; 16], [0x10; 3328]);
+    let progress = of_call(core, |core| {
+        let mut pairs = [[77; 2]; 16];
+        let answer = core.view().progress(pairs.as_flattened_mut());
+        assert_eq!((answer, pairs), (0, [[1, 6]; 16]));
+    });
+
     println!("| Call | Deepest stack, bytes |");
     println!("|---|---|");
     for (name, bytes) in [
@@ -161,6 +168,7 @@ pub fn stacks() {
         ("read of an authentic set", read_set),
         ("read of what waits", read_message),
         ("four satellites, or not yet", four),
+        ("how far along each message is", progress),
     ] {
         println!("| {name} | {bytes} |");
     }

@@ -9,12 +9,15 @@
 //! - `calls tags TURNS`: what these half minutes have: sections, and tags judged by their codes
 //! - `calls questions`: whether four satellites have a recent set, the cores of which it is asked
 //! - `calls four QUESTION TURNS`: one of them alone, to be counted by callgrind
+//! - `calls stores`: how far along each message is, the stores of which it is asked
+//! - `calls progress STORE TURNS`: one of them alone, to be counted by callgrind
 //! - `calls stack`: the bytes of a core and the deepest stack of each call
 //!
 //! The answers of both are compared before anything is measured.
 
 use crate::call_stacks::stacks;
 use crate::four;
+use crate::progress;
 use crate::sky::{time, Answer, Damaged, Gap, HalfMinutes, Who, ALL};
 use crate::time::{rows, timed, Work, HEADING};
 use leaves::chain::Chain;
@@ -25,7 +28,7 @@ use std::hint::black_box;
 use std::time::Duration;
 
 pub const USAGE: &str =
-    "calls time SLICES | count WHO TURNS | damaged WHO COUNT | slices COUNT | tags TURNS | questions | four QUESTION TURNS | stack";
+    "calls time SLICES | count WHO TURNS | damaged WHO COUNT | slices COUNT | tags TURNS | questions | four QUESTION TURNS | stores | progress STORE TURNS | stack";
 
 /// Half minutes that are compared, and that a slice takes: all of the run.
 const HALVES: u32 = 36;
@@ -239,6 +242,11 @@ pub fn command(words: &[&str]) -> Option<Result<(), String>> {
             Some(Ok(()))
         }
         ["four", question, turns] => four::ask(question, turns.parse().ok()?),
+        ["stores"] => {
+            println!("{}", progress::STORES.join("\n"));
+            Some(Ok(()))
+        }
+        ["progress", store, turns] => progress::ask(store, turns.parse().ok()?),
         ["stack"] => {
             stacks();
             Some(Ok(()))

@@ -15,6 +15,7 @@ mod mac;
 mod openssl;
 #[cfg(has_openssl)]
 mod openssl_mac;
+mod progress;
 mod replay;
 mod set;
 mod sky;

@@ -2,10 +2,13 @@
 //! authentic before, while and after a repeater's older words came in.
 
 use crate::proved;
+use jobsheet::gathering::Blocks;
+use osnma::{Core, Progress};
 use replay::replayed;
 use second_receiver::navdata::SET_LEN;
 use second_receiver::numbers::ACCEPTED;
-use second_receiver::replay::{replay, write_reads};
+use second_receiver::receiver::RECORDS_LEN;
+use second_receiver::replay::{answer, replay, write_reads};
 use second_receiver::times::Gst;
 use second_receiver::Receiver;
 use signal::replay::{Run, RECORD};
@@ -138,6 +141,57 @@ fn require(condition: bool, otherwise: impl FnOnce() -> String) -> Result<(), St
     }
 }
 
+/// How far along each message is after a record, as the core says it; the second receiver says the same.
+fn progress(core: &Core, other: &Receiver) -> Result<Vec<Progress>, String> {
+    let now: Vec<Progress> = core.progress().collect();
+    let figures = now.iter().map(|of| (of.held, of.missing));
+    let others = other.progress();
+    require(
+        figures.eq(others.iter().map(|of| (of.held, of.missing))),
+        || "the proved core and the second receiver hold different blocks".into(),
+    )?;
+    Ok(now)
+}
+
+/// How the first message with keys came together, until it was whole: a line for each block that was new.
+/// Nothing held after that is the whole message, which was taken out.
+fn gathered(run: &Run, clock: impl Fn(Gst) -> String) -> Result<Vec<String>, String> {
+    let (mut receiver, mut area) = (Receiver::new(), [0; RECORDS_LEN]);
+    let mut before: Vec<Progress> = Vec::new();
+    let mut lines = Vec::new();
+    let mut whole = false;
+    proved::followed(&run.bytes, |record, core| {
+        let bytes = record.try_into().map_err(|_| "a record is short")?;
+        answer(&mut receiver, bytes, &mut area);
+        let now = progress(core, &receiver)?;
+        for (old, new) in before.iter().zip(&now).filter(|(old, new)| old != new) {
+            let blocks = match new.held {
+                0 => Blocks {
+                    held: old.held + 1,
+                    missing: Some(0),
+                },
+                held => Blocks {
+                    held,
+                    missing: new.missing,
+                },
+            };
+            let told = match new.held {
+                0 => format!("{0} of {0}: whole", blocks.held),
+                _ => blocks.told(),
+            };
+            if !whole {
+                let (at, bar) = (clock(gst(&record[2..6])), blocks.bar());
+                lines.push(format!("{at}   DSM {}  {bar:<10} {told}", new.dsm_id));
+            }
+            whole |= new.held == 0;
+        }
+        before = now;
+        Ok(())
+    })?;
+    require(whole, || "no message came whole".into())?;
+    Ok(lines)
+}
+
 /// Replays the run and tells it, or says what is not as it must be.
 pub fn told(run: &Run) -> Result<Vec<String>, String> {
     let (receiver, answers) = after(run, run.places())?;
@@ -216,6 +270,13 @@ pub fn told(run: &Run) -> Result<Vec<String>, String> {
             waited - slow_judged
         ),
         String::new(),
+        "How the keys' message was gathered, block by block (# held, . missing, ? how many is unknown):"
+            .into(),
+        String::new(),
+    ];
+    lines.extend(gathered(run, clock)?);
+    lines.extend([
+        String::new(),
         format!(
             "From {} to {} a repeater's older words came in for {}.",
             clock(from),
@@ -226,7 +287,7 @@ pub fn told(run: &Run) -> Result<Vec<String>, String> {
         String::new(),
         "        IODnav heard     authentic set: IODnav (time of its tag)".into(),
         "        own, repeater    before         meanwhile        at the end".into(),
-    ];
+    ]);
     for (prn, [own, other, _]) in &away {
         let (old, kept, now) = (
             read(&before, *prn)?,
@@ -305,6 +366,27 @@ mod tests {
     fn fitter() {
         let lines = told(&run("fitter")).unwrap();
         assert!(lines.iter().any(|line| line.contains("E04, E11, E19, E27")));
+        // Block 0, which names the total, comes last.
+        let blocks = Vec::from_iter(lines.iter().filter(|line| line.contains("DSM 5")));
+        assert_eq!(blocks.len(), 8, "{blocks:?}");
+        assert_eq!(
+            blocks[0],
+            "00:00   DSM 5  #?         1 block held, total unknown"
+        );
+        assert_eq!(
+            blocks[6],
+            "00:30   DSM 5  #######?   7 blocks held, total unknown"
+        );
+        assert_eq!(blocks[7], "00:30   DSM 5  ########   8 of 8: whole");
+    }
+
+    // The first half minute alone lacks block 0 and another.
+    #[test]
+    fn no_message() {
+        let mut short = run("fitter");
+        short.bytes.truncate(13 * RECORD);
+        let told = gathered(&short, |_| String::new());
+        assert_eq!(told, Err("no message came whole".into()));
     }
 
     #[test]

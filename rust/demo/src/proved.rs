@@ -37,6 +37,14 @@ fn settings(record: &[u8]) -> Result<Settings, String> {
 
 /// The core after the whole records of a run that begins with an accepted start, and its lines.
 pub fn replayed(run: &[u8]) -> Result<(Core, String), String> {
+    followed(run, |_, _| Ok(()))
+}
+
+/// The same; `each` is shown every record and the core after it.
+pub fn followed(
+    run: &[u8],
+    mut each: impl FnMut(&[u8], &Core) -> Result<(), String>,
+) -> Result<(Core, String), String> {
     let mut core = Core::new();
     let mut area = NO_RECORDS;
     let mut lines = String::new();
@@ -71,6 +79,7 @@ pub fn replayed(run: &[u8]) -> Result<(Core, String), String> {
             }
             lines.push('\n');
         }
+        each(r, &core)?;
     }
     Ok((core, lines))
 }

@@ -2,6 +2,7 @@
 
 use crate::boom::{minutes, LIMITS, NEEDED};
 use crate::data::{Data, Unproved};
+use crate::gathering::{refused_told, Gathered, Then};
 use crate::history::{Event, Mark, Run, What, WrongTags};
 use crate::refused::Part;
 use crate::time::{self, Clock, SUBFRAME};
@@ -208,6 +209,10 @@ fn no_keys(run: &Run, clock: Clock) -> Option<Finding> {
             "the satellites heard sent no keys and no tags.".into(),
             "check the receiver's Galileo setting. If it is right, the system sends none now.",
         ),
+        (None, None) if run.gathering.whole.is_some() => (
+            "the system's keys came whole, but were not taken.".into(),
+            "check the public key and the settings that the receiver is started with.",
+        ),
         (None, None) => (
             "the system's keys were not heard whole.".into(),
             "leave the receiver under open sky for some minutes more, then record again.",
@@ -217,6 +222,9 @@ fn no_keys(run: &Run, clock: Clock) -> Option<Finding> {
         "{} heard, none marked: without keys no data can be shown to be authentic.",
         count(run.heard.len() as u64, "satellite")
     )];
+    if said_no.is_none() && waits.is_none() {
+        text.push(still_to_come(run, clock));
+    }
     if let (Some(_), Some(since)) = (said_no, waits) {
         text.push(format!(
             "Keys have waited for the chip again since {}.",
@@ -230,6 +238,40 @@ fn no_keys(run: &Run, clock: Clock) -> Option<Finding> {
     ))
 }
 
+/// Why no keys wait for the chip: their message was not taken, or is not whole.
+fn still_to_come(run: &Run, clock: Clock) -> String {
+    if let Some((n, at, then)) = run.gathering.whole {
+        let why = match then {
+            Then::Refused(refusal) => format!("refused: {}", refused_told(refusal)),
+            Then::SaidNo(_) => "the signature chip said NO".into(),
+            _ => "the system does not use these keys now".into(),
+        };
+        return format!(
+            "The message with the keys came whole {}, last at {}; {why}.",
+            count(n, "time"),
+            clock.say(at)
+        );
+    }
+    let open = run.gathering.open().into_iter();
+    let open: Vec<Gathered> = open.filter(Gathered::is_root).collect();
+    let told = |one: &Gathered| {
+        let of = match open.len() {
+            1 => String::new(),
+            _ => format!(" (message {})", one.dsm_id),
+        };
+        one.blocks().told() + &of
+    };
+    let grown = |one: &Gathered| one.steps.last().map(|step| step.first);
+    match open.iter().filter_map(grown).max() {
+        None => "No block of the message with the keys came.".into(),
+        Some(at) => format!(
+            "The message with the keys never came whole: at the end {}. The last new block came at {}.",
+            Vec::from_iter(open.iter().map(told)).join("; "),
+            clock.say(at)
+        ),
+    }
+}
+
 fn withdrawn(run: &Run, clock: Clock) -> Option<Finding> {
     let event = run.withdrawn.as_ref()?;
     let since = |event: &Event| {
@@ -238,6 +280,9 @@ fn withdrawn(run: &Run, clock: Clock) -> Option<Finding> {
             .map_or(String::new(), |at| format!(" at {}", clock.say(at)))
     };
     let mut text = vec![marked_told(run)];
+    if run.renewed.is_none() && run.wanting().is_some() {
+        text.push(still_to_come(run, clock));
+    }
     let (title, to_do) = match &run.renewed {
         None => (
             format!(

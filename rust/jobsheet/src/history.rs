@@ -11,14 +11,15 @@
 use crate::boom::{self, Watch};
 use crate::candidate::{Candidate, Candidates};
 use crate::data::Data;
+use crate::gathering::{Came, Gathering, Then, Wanting};
 use crate::receiver::Answer;
 use crate::recording::{Cut, Record};
 use crate::refused::{Part, Refusals};
 use crate::timeline::{Said, Timeline, COLUMNS};
 use crate::vouched::{Change, Keys, Root, Vouch, Vouched};
 use osnma::{
-    AuthenticSet, Core, Gst, Outcome, Refusal, Settings, TagRecord, WaitingMessage, SET_LEN,
-    WORD_LEN,
+    AuthenticSet, Core, Gst, Outcome, Progress, Refusal, Settings, TagRecord, WaitingMessage,
+    FIELDS_LEN, SET_LEN, WORD_LEN,
 };
 use portable_hash::DIGEST_LEN;
 use std::collections::{BTreeMap, BTreeSet, VecDeque};
@@ -44,6 +45,8 @@ pub trait Reads {
     fn message(&self) -> Option<WaitingMessage>;
     /// Whether four satellites have a set that is at most `limit` sub-frames old.
     fn four(&self, limit: u32) -> bool;
+    /// How far along the message of each DSM ID is.
+    fn progress(&self) -> Vec<Progress>;
 }
 
 impl Reads for Core {
@@ -57,6 +60,10 @@ impl Reads for Core {
 
     fn four(&self, limit: u32) -> bool {
         Core::four(self, limit)
+    }
+
+    fn progress(&self) -> Vec<Progress> {
+        Core::progress(self).collect()
     }
 }
 
@@ -314,6 +321,8 @@ pub struct Run {
     pub stopped: Option<(u64, Gst)>,
     /// What the boom found, by each of its limits.
     pub watch: [Watch; boom::LIMITS.len()],
+    /// How messages were gathered.
+    pub gathering: Gathering,
     /// The last record's place.
     pub last_place: u64,
     /// The message that waits for the signature chip, and since when.
@@ -348,6 +357,7 @@ impl Run {
             refused: Refusals::default(),
             stopped: None,
             watch: [Watch::default(); boom::LIMITS.len()],
+            gathering: Gathering::default(),
             last_place: place,
             message: None,
             waiting: Vec::new(),
@@ -485,7 +495,13 @@ impl Run {
         });
     }
 
-    fn subframe(&mut self, prn: u8, at: Gst, answer: &Answer, reads: &dyn Reads) -> Vec<Judged> {
+    fn subframe(
+        &mut self,
+        (prn, at): (u8, Gst),
+        fields: &[u8; FIELDS_LEN],
+        answer: &Answer,
+        reads: &dyn Reads,
+    ) -> Vec<Judged> {
         use Refusal::{OutOfOrder, OutOfRange, Stopped, WrongLength};
         if let (Err(both), Err(_)) = (answer.first, answer.second) {
             if [WrongLength, OutOfRange, Stopped, OutOfOrder].contains(&both) {
@@ -505,7 +521,7 @@ impl Run {
         }
         let judged = Vec::from_iter(answer.tags.iter().map(|tag| self.tag(*tag, at)));
         self.marks(&judged, at, reads);
-        self.await_message(reads);
+        self.gather(at, fields, answer, reads);
         self.ask_for_four(at, reads);
         judged
     }
@@ -540,13 +556,43 @@ impl Run {
         }
     }
 
-    /// Notes since when the message that waits has waited.
-    fn await_message(&mut self, reads: &dyn Reads) {
+    /// How far along each message is, now, and whether another waits for the chip.
+    fn gather(&mut self, at: Gst, fields: &[u8; FIELDS_LEN], answer: &Answer, reads: &dyn Reads) {
+        let waited = self.message.is_some();
+        let new_message = self.await_message(reads);
+        let came = Came {
+            at,
+            // The second byte of HKROOT begins with it (01, HKROOT).
+            dsm_id: fields[5] >> 4,
+            answer: answer.first,
+            stopped: answer.second == Err(Refusal::Stopped),
+            new_message,
+            wanting: self.without_keys().filter(|_| new_message || !waited),
+        };
+        self.gathering.note(came, &reads.progress());
+    }
+
+    fn without_keys(&self) -> Wanting {
+        Some(self.vouched.keys).filter(|keys| *keys != Keys::InForce)
+    }
+
+    /// Whether keys are wanting: no message with them waits for the chip either.
+    pub fn wanting(&self) -> Wanting {
+        self.without_keys().filter(|_| self.message.is_none())
+    }
+
+    /// Notes since when the message that waits has waited; gives whether it did not before.
+    fn await_message(&mut self, reads: &dyn Reads) -> bool {
         let now = reads.message().zip(self.last_subframe);
-        self.message = now.map(|(message, at)| match self.message.take() {
-            Some((before, since)) if *before == message => (before, since),
-            _ => (Box::new(message), at),
-        });
+        let before = self.message.take();
+        if let (Some((before, since)), Some((now, _))) = (&before, &now) {
+            if **before == *now {
+                self.message = Some((before.clone(), *since));
+                return false;
+            }
+        }
+        self.message = now.map(|(message, at)| (Box::new(message), at));
+        self.message.is_some()
     }
 
     /// A tag record of the sub-frame at this time: of a tag that waited, or of a new one.
@@ -722,6 +768,17 @@ impl Run {
         }
     }
 
+    /// The message that waited does no more after a verdict with this answer.
+    fn answered(&mut self, first: Result<(), Refusal>) {
+        if let Some(at) = self.last_subframe {
+            self.gathering.answered(match first {
+                Ok(()) => Then::SaidYes(at),
+                Err(Refusal::VerdictBad) => Then::SaidNo(at),
+                Err(_) => Then::NotCounted(at),
+            });
+        }
+    }
+
     /// A good verdict answered 0.
     fn vouch(&mut self, key_id: u8, message: &[u8; osnma::MESSAGE_LEN]) {
         let vouch = Vouch {
@@ -823,8 +880,13 @@ impl History {
         };
         run.last_place = place;
         match (record, answer.first) {
-            (Record::Subframe { prn, time, .. }, _) => {
-                self.judged = run.subframe(*prn, *time, answer, reads);
+            (
+                Record::Subframe {
+                    prn, time, fields, ..
+                },
+                _,
+            ) => {
+                self.judged = run.subframe((*prn, *time), fields, answer, reads);
             }
             (Record::Word { prn, time, word }, Ok(())) => run.word(*prn, *time, word),
             (
@@ -834,7 +896,11 @@ impl History {
                 first,
             ) => {
                 run.verdict(*key_id, message, first);
+                let waited = run.message.is_some();
                 run.await_message(reads);
+                if waited && run.message.is_none() {
+                    run.answered(first);
+                }
             }
             (Record::Word { prn, .. }, Err(refusal)) => {
                 run.refuse(Part::Word, refusal, Some(*prn), None);

@@ -227,7 +227,10 @@ fn one_warning(out: &mut String, warning: &Warning) {
 }
 
 fn rows(out: &mut String, table: &Table) {
-    out.push_str("<table><thead><tr>");
+    out.push_str(match table.bar {
+        None => "<table><thead><tr>",
+        Some(_) => "<table class=\"blocks\"><thead><tr>",
+    });
     for name in &table.head {
         let _ = write!(out, "<th>{}</th>", escaped(name));
     }
@@ -235,11 +238,37 @@ fn rows(out: &mut String, table: &Table) {
     for row in &table.rows {
         let fields: String = row
             .iter()
-            .map(|field| format!("<td>{}</td>", escaped(&field.replace('\n', "; "))))
+            .enumerate()
+            .map(|(n, field)| match table.bar == Some(n) {
+                false => format!("<td>{}</td>", escaped(&field.replace('\n', "; "))),
+                true => format!("<td>{}</td>", bar(field)),
+            })
             .collect();
         let _ = writeln!(out, "<tr>{fields}</tr>");
     }
     out.push_str("</tbody></table>\n");
+}
+
+/// Blocks side by side: full ones are held, empty ones missing.
+fn bar(blocks: &str) -> String {
+    let mut out = format!(
+        "<svg viewBox=\"0 0 {} 12\" style=\"width: {:.1}mm\" aria-hidden=\"true\">",
+        10 * blocks.len(),
+        2.4 * blocks.len() as f64
+    );
+    for (n, block) in blocks.chars().enumerate() {
+        let x = 10 * n + 1;
+        let _ = match block {
+            '?' => write!(out, "<text x=\"{x}\" y=\"10.5\">?</text>"),
+            _ => write!(
+                out,
+                "<rect x=\"{x}\" y=\"1\" width=\"8\" height=\"10\" class=\"{}\"/>",
+                if block == '#' { "held" } else { "lacks" }
+            ),
+        };
+    }
+    out.push_str("</svg>");
+    out
 }
 
 /// For the engineer: chain and root, refusals with their numbers, data that changed.

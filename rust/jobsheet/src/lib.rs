@@ -16,6 +16,7 @@ pub mod candidate;
 pub mod csv;
 pub mod data;
 pub mod finding;
+pub mod gathering;
 pub mod history;
 pub mod html;
 mod output;

@@ -25,7 +25,7 @@ const CHECK: f64 = 1900.0;
 /// Cells at the end of a strip in which its satellite is not heard, so that it is said.
 const SILENT: usize = 4;
 /// For all strips of the front's drawing, at the most: with 36 the rest of the front has room.
-pub const FRONT_ROWS: f64 = 1265.0;
+pub const FRONT_ROWS: f64 = 1215.0;
 /// For those of a drawing behind it: two drawings a page.
 pub const DETAIL_ROWS: f64 = 1110.0;
 

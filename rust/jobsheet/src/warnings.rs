@@ -1,6 +1,7 @@
 //! What somebody should look at: on the front in the fitter's words, on the back in the engineer's.
 
 use crate::finding::{self, STORY};
+use crate::gathering::{self, Row, Wanting, LONG};
 use crate::history::{Became, Run, Tally, WordsChanged, WrongTags};
 use crate::refused::{Part, Refused};
 use crate::time::Clock;
@@ -25,6 +26,8 @@ pub struct Table {
     pub head: Vec<&'static str>,
     /// As many fields a row as the head has; a field may have several lines.
     pub rows: Vec<Vec<String>>,
+    /// The column with blocks side by side: `#` is held, `.` missing, `?` an unknown total.
+    pub bar: Option<usize>,
 }
 
 /// One of them.
@@ -51,6 +54,9 @@ impl Warning {
     }
 }
 
+/// Lines of blocks on the front, the last; where there are more, all stand on the back.
+const FRONT_BLOCKS: usize = 10;
+
 /// Satellites whose data changes are said one by one; with more, those of one time are joined.
 const SINGLE_ROWS: usize = 16;
 
@@ -73,6 +79,7 @@ pub fn front(run: &Run, clock: Clock) -> Vec<Warning> {
     all.extend(silent(run, clock));
     all.extend(pages_lost(run, clock));
     all.extend(no_place(run, clock));
+    all.extend(long_messages(run, clock));
     by_grade(all)
 }
 
@@ -84,6 +91,7 @@ pub fn back(run: &Run, clock: Clock) -> Vec<Warning> {
     all.extend(refusals(run, clock));
     all.extend(bits_missing(run, clock));
     all.extend(given_up(run));
+    all.extend(all_messages(run, clock));
     by_grade(all)
 }
 
@@ -102,6 +110,7 @@ fn told_by_story(
     let table = Table {
         head: STORY.to_vec(),
         rows: rows.collect(),
+        bar: None,
     };
     (!prns.is_empty()).then(|| Warning {
         table: Some(table),
@@ -257,8 +266,81 @@ fn without_keys(run: &Run, clock: Clock) -> Vec<Warning> {
             ),
         }
     };
-    let sums = run.refused.all().filter(|sum| is_without_keys(sum));
-    sums.map(told).collect()
+    let mut all = Vec::new();
+    for keys in [Keys::NotYet, Keys::Withdrawn] {
+        let of = |sum: &&Refused| is_without_keys(sum) && sum.keys == keys;
+        let refused = run.refused.all().find(of).map(told);
+        let rows = blocks(run, clock, Some(keys));
+        let bare = || Warning::new(Grade::Note, "How the keys came.".into(), "");
+        let warning = refused.or_else(|| (!rows.is_empty()).then(bare));
+        let what = "Blocks held of the signed message at the end of each half minute";
+        all.extend(warning.map(|warning| with_blocks(warning, what, &rows)));
+    }
+    all
+}
+
+/// How messages came while keys were wanting so.
+fn blocks(run: &Run, clock: Clock, wanting: Wanting) -> Vec<Row> {
+    let mut rows = gathering::rows(&run.gathering, run.wanting(), clock);
+    rows.retain(|row| row.wanting == wanting);
+    rows
+}
+
+fn block_table(rows: &[Row]) -> Table {
+    Table {
+        head: vec!["When", "Message", "Blocks", "Held", ""],
+        rows: rows.iter().map(|row| row.fields().to_vec()).collect(),
+        bar: Some(2),
+    }
+}
+
+/// The same with these rows: one in words, several in a table, of many the last.
+fn with_blocks(warning: Warning, what: &str, rows: &[Row]) -> Warning {
+    let before = rows.len().saturating_sub(FRONT_BLOCKS);
+    let (more, table) = match (rows, before) {
+        ([], _) => (String::new(), None),
+        ([row], _) => (row.told(), None),
+        (_, 0) => (format!("{what}:"), Some(block_table(rows))),
+        _ => (
+            format!("{what}, the last lines; all stand on the back:"),
+            Some(block_table(&rows[before..])),
+        ),
+    };
+    let parts = [warning.text, more].into_iter();
+    let parts = parts.filter(|part| !part.is_empty());
+    Warning {
+        text: Vec::from_iter(parts).join(" "),
+        table,
+        ..warning
+    }
+}
+
+/// Messages that took long though keys were in force.
+fn long_messages(run: &Run, clock: Clock) -> Option<Warning> {
+    let rows = blocks(run, clock, None);
+    let title = format!(
+        "Messages of the system that took more than {} minutes.",
+        LONG / 60
+    );
+    let warning = || Warning::new(Grade::Note, title, "");
+    let what = "Blocks held, each from its first on";
+    (!rows.is_empty()).then(|| with_blocks(warning(), what, &rows))
+}
+
+/// All lines of blocks, where the front has not all.
+fn all_messages(run: &Run, clock: Clock) -> Option<Warning> {
+    let all = [Some(Keys::NotYet), Some(Keys::Withdrawn), None];
+    let many = |wanting| blocks(run, clock, wanting).len() > FRONT_BLOCKS;
+    let left_out = run.gathering.left_out;
+    let text = match left_out {
+        0 => String::new(),
+        n => format!("{} that ended later are not shown.", count(n, "message")),
+    };
+    let rows = gathering::rows(&run.gathering, run.wanting(), clock);
+    (left_out > 0 || all.into_iter().any(many)).then(|| Warning {
+        table: Some(block_table(&rows)),
+        ..Warning::new(Grade::Note, "How the keys came.".into(), text)
+    })
 }
 
 fn silent(run: &Run, clock: Clock) -> Option<Warning> {
@@ -360,6 +442,7 @@ fn changed(run: &Run, clock: Clock) -> Option<Warning> {
             "Marked at the end",
         ],
         rows,
+        bar: None,
     };
     let grade = if any_wrong {
         Grade::Warning

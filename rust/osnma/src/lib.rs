@@ -52,6 +52,8 @@
 //! assert_eq!(core.read_set(18), Err(Refusal::NoSet));
 //! assert!(!core.four(10));
 //! assert_eq!(core.read_message(), Err(Refusal::NotWaiting));
+//! // Nor has a block of any come.
+//! assert!(core.progress().all(|message| message.held == 0));
 //! # Ok::<(), Refusal>(())
 //! ```
 //!
@@ -105,6 +107,7 @@
 pub mod collector;
 mod gst;
 mod marks;
+mod progress;
 mod raw;
 mod refusal;
 #[cfg(feature = "regions")]
@@ -119,6 +122,7 @@ mod waiting_message;
 
 pub use gst::Gst;
 pub use marks::Marks;
+pub use progress::Progress;
 pub use refusal::Refusal;
 pub use tag_record::{Outcome, TagRecord, TagRecords};
 pub use waiting_message::WaitingMessage;
@@ -153,6 +157,8 @@ pub const SIGNATURE_LEN: usize = 132;
 pub const KEY_LEN: usize = 67;
 /// Bytes of the root of the tree of public keys.
 pub const TREE_ROOT_LEN: usize = 32;
+/// DSM IDs: 0 to 11 of DSM-KROOTs, 12 to 15 of DSM-PKRs.
+pub const DSM_IDS: usize = 16;
 /// The tag bits that must agree on a set before it is authentic.
 pub const AUTHENTIC_BITS: u32 = 40;
 /// The mark of a flexible field; the others are 0 to 15, the ADKD of a fixed one.
@@ -251,7 +257,8 @@ impl Core {
 
     /// Whether an emergency message stopped the core: since the last accepted start a section, a word
     /// or a verdict was answered [`Refusal::Stopped`]. The core goes on to answer so to all but a new start
-    /// and the reads, [`four`](Core::four) among them, and what these give is no longer to be used.
+    /// and the reads, [`four`](Core::four) and [`progress`](Core::progress) among them, and what these give
+    /// is no longer to be used.
     pub const fn is_stopped(&self) -> bool {
         self.told.stopped
     }
@@ -495,6 +502,46 @@ impl Core {
             &mut waiting.key_type,
         ))?;
         Ok(waiting)
+    }
+
+    /// How far along each message is: for each of the sixteen DSM IDs, in their order, the number of blocks
+    /// held and, once block 0 is, the number still missing. It changes nothing. A stopped core answers too.
+    ///
+    /// What counts is what the core holds at this moment:
+    /// - A complete message is taken out, whatever is then answered to it: its DSM ID has no block again.
+    /// - Blocks over 3,600 seconds old count until the next one of their DSM ID is held, which drops them.
+    /// - A block that is refused is not held.
+    ///
+    /// ```
+    /// use osnma::{Core, Progress};
+    ///
+    /// /// The messages of which blocks are held.
+    /// fn gathering(core: &Core) -> impl Iterator<Item = Progress> {
+    ///     core.progress().filter(|message| message.held > 0)
+    /// }
+    /// # let mut core = Core::new();
+    /// # assert_eq!(gathering(&core).next(), None);
+    /// # // Blocks 1 and 4 of DSM ID 12, and blocks 0, 1 and 2 of DSM ID 3, which has 8 (NB 2).
+    /// # core.regions_mut().present[12] = 0b10010;
+    /// # core.regions_mut().present[3] = 0b111;
+    /// # core.regions_mut().blocks[3 * 208] = 0x2F;
+    ///
+    /// for Progress { dsm_id, held, missing } in gathering(&core) {
+    ///     match missing {
+    ///         Some(missing) => println!("DSM {dsm_id}: {held} held, {missing} missing"),
+    ///         None => println!("DSM {dsm_id}: {held} held, total unknown"),
+    ///     }
+    /// }
+    /// # let found: Vec<_> = gathering(&core).map(|m| (m.dsm_id, m.held, m.missing)).collect();
+    /// # assert_eq!(found, [(3, 3, Some(5)), (12, 2, None)]);
+    /// # assert!(core.progress().rev().map(|m| m.dsm_id).eq((0..16).rev()));
+    /// # assert_eq!(core.progress().len(), osnma::DSM_IDS);
+    /// ```
+    pub fn progress(&self) -> impl DoubleEndedIterator<Item = Progress> + ExactSizeIterator {
+        let mut pairs = [[0; 2]; DSM_IDS];
+        // The lengths are right, so it answers 0.
+        let _ = self.regions.view().progress(pairs.as_flattened_mut());
+        (0..DSM_IDS as u8).zip(pairs).map(Progress::of)
     }
 
     /// The memory as it is.

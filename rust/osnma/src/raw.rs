@@ -176,4 +176,13 @@ extern "C" {
         id: *mut u8,
         kind: *mut u8,
     ) -> u32;
+
+    pub fn osnma_regions_progress(
+        blocks: *const u8,
+        blocks_count: usize,
+        present: *const u16,
+        present_count: usize,
+        out: *mut u8,
+        out_count: usize,
+    ) -> u32;
 }

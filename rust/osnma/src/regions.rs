@@ -93,6 +93,9 @@ regions! {
 // As the header says of `struct osnma_core`.
 const _: () = assert!(size_of::<Regions>() <= 35_664);
 
+/// In the place of a number of missing blocks: block 0 is not held, so the total is unknown.
+pub const UNKNOWN_TOTAL: u8 = 255;
+
 /// Lends the named regions to an export, by pointer and count, and then its other arguments.
 macro_rules! lend {
     ($export:ident, $from:ident.$pointer:ident, [$($region:ident)*], $($other:expr),*) => {
@@ -271,6 +274,21 @@ impl View<'_> {
                 key.len(),
                 key_id,
                 key_type
+            )
+        }
+    }
+
+    /// Writes a pair for each of the sixteen DSM IDs: the blocks held, and those missing of the total that block 0
+    /// names, at least 0, or [`UNKNOWN_TOTAL`] without block 0.
+    pub fn progress(&self, pairs: &mut [u8]) -> u32 {
+        // SAFETY: as above.
+        unsafe {
+            lend!(
+                osnma_regions_progress,
+                self.as_ptr,
+                [blocks present],
+                pairs.as_mut_ptr(),
+                pairs.len()
             )
         }
     }

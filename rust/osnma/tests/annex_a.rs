@@ -46,9 +46,10 @@ fn subframe(
     ([answer.hkroot, answer.mack], answer.tags.collect())
 }
 
-/// All blocks of a message, a half minute apart from one satellite: what the last one's HKROOT half answers.
+/// All blocks of a message, a half minute apart from one satellite: what the last one's HKROOT half answers. Nothing else
+/// is gathered.
 fn message(core: &mut Core, time: u32, id: u8, dsm: &[u8]) -> Result<(), Refusal> {
-    let mut last = Ok(());
+    let (mut last, total) = (Ok(()), (dsm.len() / 13) as u8);
     for (block, k) in dsm.chunks(13).zip(0u8..) {
         assert_eq!(last, Ok(()), "block {k}");
         let hkroot = hkroot(HEADER_A, id, k, block);
@@ -56,6 +57,14 @@ fn message(core: &mut Core, time: u32, id: u8, dsm: &[u8]) -> Result<(), Refusal
             subframe(core, 18, later(time, k.into()), &hkroot, &[0x77; 60]);
         assert_eq!((second, tags), (Err(Refusal::NotInForce), vec![]));
         last = first;
+        for message in core.progress() {
+            let missing = total - (k + 1);
+            let right = match message.dsm_id == id && missing > 0 {
+                true => (k + 1, Some(missing)),
+                false => (0, None),
+            };
+            assert_eq!((message.held, message.missing), right, "{message:?}");
+        }
     }
     last
 }

@@ -262,6 +262,11 @@ fn one_change_of_a_declaration_is_seen() {
             "uint16_t limit,\n    uint8_t",
         ),
         ("uint8_t *yes);", "const uint8_t *yes);"),
+        ("const uint16_t *present", "uint16_t *present"),
+        (
+            "uint8_t *out, size_t out_count);",
+            "const uint8_t *out, size_t out_count);",
+        ),
         ("uint32_t osnma_regions_word", "uint8_t osnma_regions_word"),
         (
             "uint32_t osnma_regions_word",
@@ -282,6 +287,7 @@ fn one_change_of_a_declaration_is_seen() {
         ("arrivals: *const u32", "arrivals: *mut u32"),
         ("limit: u32", "limit: u64"),
         ("yes: *mut u8", "yes: *const u8"),
+        ("present: *const u16", "present: *mut u16"),
         (") -> u32;", ") -> u8;"),
         (") -> u32;", ");"),
     ] {

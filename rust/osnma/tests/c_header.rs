@@ -6,8 +6,8 @@ mod compiled;
 
 use compiled::{build, cpp_compilers, run, top, Program, C99, CPP17};
 use osnma::collector::NotTaken;
-use osnma::regions::Regions;
-use osnma::{Gst, WaitingMessage, AUTHENTIC_BITS, LAYOUT, VERSION};
+use osnma::regions::{Regions, UNKNOWN_TOTAL};
+use osnma::{Gst, WaitingMessage, AUTHENTIC_BITS, DSM_IDS, LAYOUT, VERSION};
 use std::fmt::Write;
 use std::fs;
 use std::mem::offset_of;
@@ -60,6 +60,7 @@ fn text(shown: impl std::fmt::Display) -> String {
 fn glue() -> String {
     let mut lines = format!("version {VERSION}, layout {LAYOUT}\n");
     writeln!(lines, "authentic at {AUTHENTIC_BITS} bits").unwrap();
+    writeln!(lines, "{DSM_IDS} DSM IDs, unknown total {UNKNOWN_TOTAL}").unwrap();
     writeln!(lines, "answer 0: done").unwrap();
     let unlisted = "a number that is not listed";
     for number in 1..20 {
@@ -169,7 +170,10 @@ const LAYOUTS: [(u32, u64); 2] = [(1, 0x861F_34CF_E277_74A6), (2, 0x2CBB_81E3_24
 
 /// The exports that came to a layout later, with those of their parameters. A line is added with each export, and none is
 /// changed.
-const ADDED: [(u32, &str, u64); 1] = [(2, "osnma_regions_four", 0xC01E_278E_04BE_2922)];
+const ADDED: [(u32, &str, u64); 2] = [
+    (2, "osnma_regions_four", 0xC01E_278E_04BE_2922),
+    (2, "osnma_regions_progress", 0x2F65_3A2B_3B3B_E3AE),
+];
 
 fn first_bytes(text: &str) -> u64 {
     let digest = portable_hash::sha256(text.as_bytes());
@@ -211,6 +215,7 @@ fn layout_rises_with_what_is_lent() {
             "uint8_t *kind, uint8_t *id);",
         ),
         ("uint32_t limit,", "uint16_t limit,"),
+        ("const uint16_t *present,", "const uint8_t *present,"),
         (
             "/* ---- the calls over a core, by",
             "uint32_t osnma_regions_five(uint8_t *yes);\n\n/* ---- the calls over a core, by",

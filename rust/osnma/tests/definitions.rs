@@ -5,7 +5,7 @@
 mod common;
 
 use common::twin::{garbage, Call, Kind};
-use common::{draw, driver, stamps};
+use common::{draw, driver, stamps, stores};
 use osnma::regions::{Regions, View};
 use osnma::Marks;
 use rules_runner::machine::with_large_stack;
@@ -323,6 +323,8 @@ type Given = (u64, Vec<u8>, [u64; 2]);
 
 /// What is in the record area before a sub-frame.
 const AREA: [u8; 3240] = [0x5A; 3240];
+/// What is in the bytes for the progress of messages before the question.
+const PAIRS: [u8; 32] = [0x5A; 32];
 
 fn by_core(r: &mut Regions, call: &Call) -> Given {
     let mut lent = r.lend();
@@ -385,6 +387,11 @@ fn by_core(r: &mut Regions, call: &Call) -> Given {
             let number = lent.view().four(*limit, &mut yes);
             (number.into(), vec![], [yes.into(), 0])
         }
+        Call::Progress => {
+            let mut pairs = PAIRS;
+            let number = lent.view().progress(&mut pairs);
+            (number.into(), pairs.to_vec(), [0; 2])
+        }
     }
 }
 
@@ -433,13 +440,20 @@ fn by_rules(run: &mut rules::Run, call: &Call) -> Given {
             let read = run.four(*limit);
             (read.number, vec![], [read.yes, 0])
         }
+        Call::Progress => {
+            let read = run.progress(&PAIRS);
+            (read.number, read.pairs, [0; 2])
+        }
     }
 }
 
-/// Whether four satellites have a recent set, with a limit mostly around the least that is enough.
+/// Whether four satellites have a recent set, with a limit mostly around the least that is enough, and how far along each
+/// message is.
 fn ask(r: &mut Regions, run: &mut rules::Run, asks: &mut Rng) {
-    let call = Call::Four(stamps::limit(asks, stamps::least_limit_of(r)));
-    assert_eq!(by_core(r, &call), by_rules(run, &call), "{call:?}");
+    let four = Call::Four(stamps::limit(asks, stamps::least_limit_of(r)));
+    for call in [four, Call::Progress] {
+        assert_eq!(by_core(r, &call), by_rules(run, &call), "{call:?}");
+    }
 }
 
 // A core's regions have the lengths that the definitions name.
@@ -454,14 +468,15 @@ fn lengths_of_the_regions() {
     assert_eq!(lists(&regions).map(|region| region.len()), lengths);
 }
 
-/// Elements of a region lent with another length: the definitions say of any.
-fn resized(region: &[u32], rng: &mut Rng) -> Vec<u32> {
-    let mut region = region.to_vec();
+/// Elements lent with another length: the definitions say of any.
+fn resized<T: Copy + From<u8>>(elements: &[T], rng: &mut Rng) -> Vec<T> {
+    let mut elements = elements.to_vec();
     if rng.once_in(8) {
-        let len = region.len();
-        region.resize(*rng.pick(&[0, 1, len - 1, len, len + 1, 2 * len]), 1);
+        let len = elements.len();
+        let len = *rng.pick(&[0, 1, len - 1, len, len + 1, 2 * len]);
+        elements.resize(len, 1.into());
     }
-    region
+    elements
 }
 
 // Whether four satellites have a recent set, on clocks and arrivals of any contents and lengths.
@@ -495,6 +510,50 @@ fn four_on_any_stamps() {
     println!("{told:?}");
     let answers: Vec<(u64, u64)> = told.into_keys().collect();
     assert_eq!(answers, [(0, 0), (0, 1), (1, 0)]);
+}
+
+// How far along each message is, on blocks and marks of any contents and lengths, in lent bytes of any length.
+#[test]
+fn progress_on_any_blocks() {
+    let crates = Path::new(env!("CARGO_MANIFEST_DIR")).join("../../crates");
+    let (answers, told) = with_large_stack(|| {
+        let rules = Rules::load(&crates, Hashes::Portable).unwrap_or_else(|e| panic!("{e}"));
+        let (mut rng, mut answers) = (Rng::new(14), BTreeMap::new());
+        let (mut regions, mut told) = (Regions::zeroed(), stores::Told::default());
+        for at in 0..CALLS {
+            stores::draw(&mut rng, &mut regions);
+            let blocks = resized(&regions.blocks, &mut rng);
+            let present = resized(&regions.present, &mut rng);
+            let mut pairs = resized(&rng.array::<32>(), &mut rng);
+            let mut lists = lists(&regions);
+            (lists[4], lists[6]) = (list(&blocks), list(&present));
+            let right = rules.run_on(&lists).progress(&pairs);
+            let view = View {
+                blocks: &blocks,
+                present: &present,
+                ..regions.view()
+            };
+            let number = u64::from(view.progress(&mut pairs));
+            assert_eq!(
+                (number, pairs),
+                (right.number, right.pairs),
+                "question {at}"
+            );
+            let after = [list(&blocks), list(&present)];
+            assert!(
+                after == [lists[4].clone(), lists[6].clone()],
+                "question {at}"
+            );
+            *answers.entry(number).or_insert(0u64) += 1;
+            if number == 0 {
+                stores::tell(&regions, &mut told);
+            }
+        }
+        (answers, told)
+    });
+    println!("{answers:?} {told:?}");
+    assert_eq!(answers.into_keys().collect::<Vec<_>>(), [0, 1]);
+    assert!(told.iter().all(|&count| count > 0), "{told:?}");
 }
 
 #[test]

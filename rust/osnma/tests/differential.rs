@@ -7,10 +7,12 @@ use common::driver::{replay, Driver, Tally};
 use common::expected::difference;
 use common::loose::{parts, refused, regions_of, WRONG};
 use common::stamps;
+use common::stores;
 use common::twin::{garbage, Call, Twin};
 use common::{draw, driver};
 use osnma::regions::Regions;
 use osnma::{Core, Gst, Refusal};
+use signal::replay::Progress;
 use signal::rng::Rng;
 use signal::scenario::{self, Functions, Pages};
 use std::fs;
@@ -39,18 +41,39 @@ fn says(core: &Core, least: Option<u64>) -> Result<(), String> {
     }
 }
 
+/// Whether the core and the second receiver say this of how far along each message is.
+fn tells(twin: &Twin, right: &Progress) -> Result<(), String> {
+    let core = twin
+        .core
+        .progress()
+        .map(|of_id| (of_id.held, of_id.missing));
+    let receiver = twin
+        .receiver
+        .progress()
+        .map(|of_id| (of_id.held, of_id.missing));
+    match core.eq(*right) && receiver == *right {
+        true => Ok(()),
+        false => Err(format!("progress: {receiver:?}, not {right:?}")),
+    }
+}
+
 fn replay_named(long: bool) -> Tally {
-    let (mut tally, mut stated, mut asked) = (Tally::default(), 0, 0);
+    let (mut tally, mut stated, mut asked) = (Tally::default(), [0; 2], [0; 2]);
     for scenario in scenario::all() {
         if LONG.contains(&scenario.name) == long {
             let run = scenario.run(scenario::SEED);
-            stated += run.expects.least.len();
+            let (least, progress) = (&run.expects.least, &run.expects.progress);
+            stated = [stated[0] + least.len(), stated[1] + progress.len()];
             let each = |twin: &Twin, place: usize, _: &mut Rng| {
-                let mut of_place = run.expects.least.iter().filter(|(at, _)| *at == place);
-                of_place.try_for_each(|(_, least)| {
-                    asked += 1;
-                    says(&twin.core, *least)
-                })
+                for (_, least) in least.iter().filter(|(at, _)| *at == place) {
+                    asked[0] += 1;
+                    says(&twin.core, *least)?;
+                }
+                for (_, progress) in progress.iter().filter(|(at, _)| *at == place) {
+                    asked[1] += 1;
+                    tells(twin, progress)?;
+                }
+                Ok(())
             };
             if let Err(error) = replay(&run.bytes, &mut Rng::new(1), &mut tally, each) {
                 panic!("{}: {error}", run.name);
@@ -58,7 +81,9 @@ fn replay_named(long: bool) -> Tally {
         }
     }
     println!("{tally}");
-    assert!(asked == stated && (long || stated > 90), "{asked} {stated}");
+    assert_eq!(asked, stated);
+    let [least, progress] = stated;
+    assert!(long || least > 90 && progress > 300, "{stated:?}");
     tally
 }
 
@@ -116,6 +141,7 @@ fn wrong_lengths() {
             Call::ReadMessage,
             Call::Four(0),
             Call::Four(u32::MAX),
+            Call::Progress,
         ];
         calls.extend((0..2).map(|_| draw::word(&mut rng, receiver)));
         calls.extend((0..2).map(|_| draw::verdict(&mut rng, receiver)));
@@ -156,20 +182,44 @@ fn four_on_any_stamps() {
     assert!(seen.contains_key(&None));
 }
 
-// After each recorded run the core says the least limit that is recorded beside it; where none is, no limit is enough.
+// How far along each message is, on blocks and marks of any contents; all that can be told is.
 #[test]
-fn recorded_least_limits() {
+fn progress_on_any_blocks() {
+    let told = stores::compare(CALLS, 10).unwrap_or_else(|error| panic!("{error}"));
+    println!("{told:?}");
+    assert!(told.iter().all(|&count| count > CALLS / 10), "{told:?}");
+}
+
+/// The recorded progress of each message; where none is, no block is held.
+fn recorded_progress(input: &Path) -> Progress {
+    let Ok(line) = fs::read_to_string(input.with_extension("progress")) else {
+        return [(0, None); 16];
+    };
+    let mut words = line["D ".len()..].split_whitespace();
+    let progress = [(); 16].map(|()| {
+        let (held, missing) = words.next().unwrap().split_once('/').unwrap();
+        (held.parse().unwrap(), missing.parse().ok())
+    });
+    assert_eq!(words.next(), None);
+    progress
+}
+
+// After each recorded run the core says the least limit that is recorded beside it, where none is, that no limit is enough;
+// and how far along each message is.
+#[test]
+fn recorded_answers() {
     let folder = Path::new(env!("CARGO_MANIFEST_DIR")).join("../second_receiver/tests/cases");
     let files = fs::read_dir(&folder).unwrap();
     let files = files.map(|file| file.unwrap().path());
-    let (mut runs, mut enough) = (0, 0);
+    let (mut runs, mut enough, mut held) = (0, 0, 0);
     for input in files.filter(|file| file.extension().is_some_and(|name| name == "in")) {
         let recorded = fs::read_to_string(input.with_extension("four")).ok();
         let least = recorded.map(|line| line["F ".len()..].trim_end().parse().unwrap());
+        let progress = recorded_progress(&input);
         let mut last = Ok(());
         let each = |twin: &Twin, _: usize, _: &mut Rng| {
             if twin.receiver.is_started() {
-                last = says(&twin.core, least);
+                last = says(&twin.core, least).and(tells(twin, &progress));
             }
             Ok(())
         };
@@ -178,8 +228,10 @@ fn recorded_least_limits() {
         assert_eq!(replayed.and(last), Ok(()), "{}", input.display());
         runs += 1;
         enough += u32::from(least.is_some());
+        held += u32::from(progress != [(0, None); 16]);
     }
-    assert!(runs > 20 && enough > 5, "{runs} {enough}");
+    let counts = [runs, enough, held];
+    assert!(runs > 20 && enough > 5 && held > 10, "{counts:?}");
 }
 
 // Before a sub-frame is noted no limit is enough, and a start forgets the clock and the sets.

@@ -1,6 +1,6 @@
 //! The collector, in Rust and in C: every named run of the bench signal, cut into pages in the order of the air, gives
 //! what the recording gives: the numbers and tag records of every sub-frame, start and verdict, whether four satellites
-//! have authentic sets that are not too old, and these sets at the end. Pages as a receiver hears them, lost, twice, late
+//! have authentic sets that are not too old, how far along each message is, and these sets at the end. Pages as a receiver hears them, lost, twice, late
 //! or in any order, give what `heard` says. The programs are `examples/receiver.rs` and `examples/receiver.c`.
 
 mod compiled;
@@ -43,8 +43,30 @@ fn four(receiver: &Receiver) -> String {
     format!("four within 10: {}, within 20: {}", yes(10), yes(20))
 }
 
-/// That, after each whole record of a recording.
-fn fours(recording: &[u8]) -> Vec<String> {
+/// Blocks held and missing of each DSM ID.
+type Gathering = [(u8, Option<u8>); 16];
+
+/// What a start leaves.
+const NO_BLOCKS: Gathering = [(0, None); 16];
+
+/// Where no chain is in force.
+fn gathering(receiver: &Receiver) -> Option<Gathering> {
+    let waits = receiver.chain().is_none();
+    waits.then(|| receiver.progress().map(|of| (of.held, of.missing)))
+}
+
+/// What the examples say of messages that have changed since what they showed.
+fn changed(now: &Gathering, shown: &Gathering) -> Vec<String> {
+    let line = |id: usize| match now[id] {
+        (held, None) => format!("DSM {id}: {held} held, total unknown"),
+        (held, Some(missing)) => format!("DSM {id}: {held} held, {missing} missing"),
+    };
+    let differs = |&id: &usize| now[id] != shown[id];
+    (0..16).filter(differs).map(line).collect()
+}
+
+/// Both, after each whole record of a recording.
+fn asked(recording: &[u8]) -> Vec<(String, Option<Gathering>)> {
     let (mut receiver, mut area) = (Receiver::new(), [0; 3240]);
     let records = recording.chunks_exact(RECORD);
     let after = |record: &[u8]| {
@@ -53,7 +75,7 @@ fn fours(recording: &[u8]) -> Vec<String> {
             record.try_into().expect("a record"),
             &mut area,
         );
-        four(&receiver)
+        (four(&receiver), gathering(&receiver))
     };
     records.map(after).collect()
 }
@@ -61,14 +83,14 @@ fn fours(recording: &[u8]) -> Vec<String> {
 /// What the examples print.
 struct Printed {
     lines: String,
-    /// Of each line: what stands of four satellites behind it, if that does.
-    fours: Vec<String>,
+    /// Of each line: what stands of four satellites behind it, if that does, and what messages are gathered then.
+    asked: Vec<(String, Option<Gathering>)>,
 }
 
 /// The second receiver's answers as the examples print them, from the first accepted start on and without those of words,
 /// and what it holds at the end.
 fn wanted(recording: &[u8]) -> Printed {
-    let mut fours = fours(recording).into_iter();
+    let mut asked = asked(recording).into_iter();
     let mut after = Vec::new();
     let mut lines = Vec::new();
     let receiver = replay(recording, &mut lines).expect("lines");
@@ -76,7 +98,7 @@ fn wanted(recording: &[u8]) -> Printed {
     let mut lines = lines.lines();
     let (mut want, mut started) = (String::new(), false);
     for record in recording.chunks_exact(RECORD) {
-        let (four, begun) = (fours.next().expect("as many"), want.len());
+        let (then, begun) = (asked.next().expect("as many"), want.len());
         let line = lines.next().expect("a line");
         let (_place, answers) = line.split_once(' ').expect("a place");
         let (first, rest) = answers.split_once(' ').expect("two answers");
@@ -94,7 +116,7 @@ fn wanted(recording: &[u8]) -> Printed {
         for _ in 0..count.parse().expect("a count") {
             writeln!(want, "{}", lines.next().expect("a tag record")).unwrap();
         }
-        after.resize(after.len() + want[begun..].lines().count(), four);
+        after.resize(after.len() + want[begun..].lines().count(), then);
     }
     if started {
         let (stopped, chain) = (receiver.is_stopped(), receiver.chain().is_some());
@@ -114,23 +136,35 @@ fn wanted(recording: &[u8]) -> Printed {
     }
     Printed {
         lines: want,
-        fours: after,
+        asked: after,
     }
 }
 
-/// The first difference of what an example prints; else how many half minutes it says no and yes of.
-fn compared(got: &str, want: &Printed) -> Result<[usize; 2], String> {
-    let (mut lines, mut sums) = (String::new(), [0; 2]);
-    let mut place = 0;
-    for line in got.lines() {
+/// The first difference of what an example prints; else how many half minutes it says no and yes of, and how many lines it
+/// has on messages.
+fn compared(got: &str, want: &Printed) -> Result<[usize; 3], String> {
+    let (mut lines, mut sums) = (String::new(), [0; 3]);
+    let (mut place, mut shown) = (0, NO_BLOCKS);
+    let mut got = got.lines().peekable();
+    while let Some(line) = got.next() {
         if !line.starts_with("four ") {
             writeln!(lines, "{line}").unwrap();
             place += 1;
-        } else if want.fours.get(place - 1).is_some_and(|four| four == line) {
-            sums[usize::from(line.ends_with('1'))] += 1;
-        } else {
-            return Err(format!("after line {place}: {line}"));
+            if line == "start: 0" {
+                shown = NO_BLOCKS;
+            }
+            continue;
         }
+        let (four, gathering) = want.asked.get(place - 1).ok_or("too many lines")?;
+        let now = gathering.as_ref().unwrap_or(&shown);
+        let told: Vec<&str> =
+            std::iter::from_fn(|| got.next_if(|line| line.starts_with("DSM "))).collect();
+        if four != line || told != changed(now, &shown) {
+            return Err(format!("after line {place}: {line}, {told:?}"));
+        }
+        sums[usize::from(line.ends_with('1'))] += 1;
+        sums[2] += told.len();
+        shown = *now;
     }
     first_difference(&lines, &want.lines).map_or(Ok(sums), Err)
 }
@@ -157,9 +191,8 @@ fn count(air: &[u8], kinds: &[u8]) -> usize {
 /// Runs that are as the air is: every sub-frame comes by pages, and no half minute is cut but by the verdict and the end.
 const LIKE_THE_AIR: [&str; 5] = ["fitter", "full_sky", "nominal", "trees", "cmac_256"];
 
-/// Both languages give of the air what the second receiver gives of the recording. Gives that, and how many half minutes
-/// had not four satellites and had them.
-fn compare(name: &str, recording: &[u8], air: &[u8], program: &Path) -> (String, [usize; 2]) {
+/// Both languages give of the air what the second receiver gives of the recording. Gives that, and what `compared` counts.
+fn compare(name: &str, recording: &[u8], air: &[u8], program: &Path) -> (String, [usize; 3]) {
     let want = wanted(recording);
     let in_rust = compared(&in_rust(air), &want);
     let in_c = compared(&run(program, &[], air), &want);
@@ -182,11 +215,11 @@ fn half_minutes(lines: &str) -> usize {
     times.len()
 }
 
-/// Compares a recording with itself cut; gives how many pages it has, how many sub-frames that no page can bring, and how
-/// many half minutes had not four satellites and had them.
-fn compare_cut(name: &str, recording: &[u8], program: &Path) -> [usize; 4] {
+/// Compares a recording with itself cut; gives how many pages it has, how many sub-frames that no page can bring, and what
+/// `compared` counts.
+fn compare_cut(name: &str, recording: &[u8], program: &Path) -> [usize; 5] {
     let air = cut(recording);
-    let (want, [no, yes]) = compare(name, recording, &air, program);
+    let (want, [no, yes, told]) = compare(name, recording, &air, program);
     let direct = count(&air, &[3, 6]);
     if LIKE_THE_AIR.contains(&name) {
         let ends = count(&air, &[END]);
@@ -196,13 +229,13 @@ fn compare_cut(name: &str, recording: &[u8], program: &Path) -> [usize; 4] {
         let asked = half_minutes(&want)..=half_minutes(&want) + ends + 1;
         assert!(asked.contains(&(no + yes)), "{name}: {no}, {yes}");
     }
-    [count(&air, &[PAGE, FIELD]), direct, no, yes]
+    [count(&air, &[PAGE, FIELD]), direct, no, yes, told]
 }
 
 #[test]
 fn every_run() {
     let program = build("cc", C99, "examples/receiver.c", "receiver_c99");
-    let (next, sums) = (AtomicUsize::new(0), Mutex::new([0; 4]));
+    let (next, sums) = (AtomicUsize::new(0), Mutex::new([0; 5]));
     let work = || {
         while let Some(scenario) = all().get(next.fetch_add(1, Relaxed)) {
             let recording = scenario.run(SEED).bytes;
@@ -217,10 +250,11 @@ fn every_run() {
             scope.spawn(work);
         });
     });
-    let [pages, direct, no, yes] = sums.into_inner().expect("no thread failed");
+    let [pages, direct, no, yes, told] = sums.into_inner().expect("no thread failed");
     println!("{pages} pages, {direct} sub-frames that no page can bring");
     println!("four satellites in {yes} half minutes, not in {no}");
-    assert!(no > 100 && yes > 100, "{no}, {yes}");
+    println!("{told} lines on messages");
+    assert!(no > 100 && yes > 100 && told > 100, "{no}, {yes}, {told}");
     assert!(
         pages > 15 * 100 * direct,
         "{pages} pages, {direct} sub-frames"
@@ -245,7 +279,7 @@ fn after_each_verdict() {
 #[test]
 fn disturbed_air() {
     let program = build("cc", C99, "examples/receiver.c", "receiver_disturbed");
-    let (mut outcomes, mut sums) = ([0; 9], [0; 2]);
+    let (mut outcomes, mut sums) = ([0; 9], [0; 3]);
     for name in ["fitter", "trees", "week_change", "cmac_256"] {
         let air = cut(&find(name).expect("a scenario").run(SEED).bytes);
         for seed in 0..6 {
@@ -259,7 +293,7 @@ fn disturbed_air() {
         }
     }
     println!("outcomes: {outcomes:?}");
-    let [no, yes] = sums;
+    let [no, yes, _] = sums;
     println!("four satellites in {yes} half minutes, not in {no}");
     assert!(no > 100 && yes > 100, "{no}, {yes}");
     for outcome in [1, 2, 3, 5, 8] {

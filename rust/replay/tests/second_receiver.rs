@@ -58,7 +58,7 @@ fn recorded_runs() {
             count += 1;
         }
     }
-    assert_eq!(count, 28, "recorded runs found");
+    assert_eq!(count, 29, "recorded runs found");
 }
 
 /// What `rt check replay` runs.

@@ -84,6 +84,10 @@ impl<'p> Machine<'p> {
                 let labels = record.labels.clone();
                 Value::Record(Rc::new(Record { labels, fields }))
             }
+            Value::Constructor(at, arguments) => {
+                let arguments = arguments.into_iter().map(|argument| self.whole(argument));
+                Value::Constructor(at, arguments.collect())
+            }
             Value::List(list) if list.numbers().is_none() => {
                 let values = list.values().into_iter().map(|value| self.whole(value));
                 Value::List(List::of_values(values))
@@ -218,7 +222,12 @@ impl<'p> Machine<'p> {
                 number > 0 && self.matches(inner, Value::Number(number - 1), base)
             }
             (Pattern::Bool(own), Value::Bool(value)) => *own == value,
-            (Pattern::Constructor(own), Value::Constructor(at)) => *own == at,
+            (Pattern::Constructor(own, parts), Value::Constructor(at, arguments))
+                if *own != at || parts.len() == arguments.len() =>
+            {
+                let mut pairs = parts.iter().zip(arguments);
+                *own == at && pairs.all(|(part, argument)| self.matches(part, argument, base))
+            }
             (Pattern::Nil, Value::List(list)) => list.is_empty(),
             (Pattern::Cons(head, tail), Value::List(list)) => match list.get(0) {
                 Some(first) => {
@@ -324,7 +333,10 @@ impl<'p> Machine<'p> {
         match expr {
             Expr::Number(number) => Value::Number(*number),
             Expr::Bool(value) => Value::Bool(*value),
-            Expr::Constructor(at) => Value::Constructor(*at),
+            Expr::Constructor(at, arguments) => {
+                let arguments = arguments.iter().map(|argument| self.eval(argument, base));
+                Value::Constructor(*at, arguments.collect())
+            }
             Expr::Slot(slot) => self.slot(base + slot),
             Expr::Let(slot, value, body) => {
                 self.slots[base + slot] = self.argument(value, base);

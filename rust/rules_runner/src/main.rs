@@ -1,7 +1,7 @@
 //! The replay program over the definitions: records on standard input, lines on standard output.
 //! With `--reads FILE` it also writes to FILE what every read gives after the last record, with `--candidates FILE` the
 //! candidates that are held then, with `--four FILE` the least limit with which four satellites have a recent authentic
-//! set; `--crates DIR` names the folder of crates whose definitions are run.
+//! set, with `--progress FILE` how far along each message is; `--crates DIR` names the folder of crates whose definitions are run.
 
 #![forbid(unsafe_code)]
 
@@ -20,6 +20,7 @@ struct Options {
     reads: Option<PathBuf>,
     candidates: Option<PathBuf>,
     four: Option<PathBuf>,
+    progress: Option<PathBuf>,
 }
 
 fn options() -> Option<Options> {
@@ -28,6 +29,7 @@ fn options() -> Option<Options> {
         reads: None,
         candidates: None,
         four: None,
+        progress: None,
     };
     let mut arguments = std::env::args().skip(1);
     while let Some(argument) = arguments.next() {
@@ -36,6 +38,7 @@ fn options() -> Option<Options> {
             "--reads" => options.reads = Some(arguments.next()?.into()),
             "--candidates" => options.candidates = Some(arguments.next()?.into()),
             "--four" => options.four = Some(arguments.next()?.into()),
+            "--progress" => options.progress = Some(arguments.next()?.into()),
             _ => return None,
         }
     }
@@ -57,12 +60,15 @@ fn run(options: &Options) -> Result<(), Box<dyn Error + Send + Sync>> {
     if let Some(path) = &options.four {
         fs::write(path, replayed.four)?;
     }
+    if let Some(path) = &options.progress {
+        fs::write(path, replayed.progress)?;
+    }
     Ok(())
 }
 
 fn main() -> ExitCode {
     let Some(options) = options() else {
-        eprintln!("usage: rules_runner [--crates DIR] [--reads FILE] [--candidates FILE] [--four FILE] < INPUT");
+        eprintln!("usage: rules_runner [--crates DIR] [--reads FILE] [--candidates FILE] [--four FILE] [--progress FILE] < INPUT");
         return ExitCode::from(2);
     };
     match with_large_stack(|| run(&options)) {

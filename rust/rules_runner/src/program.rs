@@ -58,14 +58,15 @@ pub enum Pattern {
     Nil,
     Cons(Box<Pattern>, Box<Pattern>),
     Bool(bool),
-    Constructor(u32),
+    Constructor(u32, Vec<Pattern>),
 }
 
 #[derive(Clone, Debug)]
 pub enum Expr {
     Number(u64),
     Bool(bool),
-    Constructor(u32),
+    /// A constructor and all its arguments.
+    Constructor(u32, Vec<Expr>),
     Slot(usize),
     Let(usize, Box<Expr>, Box<Expr>),
     Cond(Box<Expr>, Box<Expr>, Box<Expr>),
@@ -397,7 +398,7 @@ impl Frame<'_> {
                 Some(Meaning::Number(number)) => Ok(Pattern::Number(*number)),
                 Some(Meaning::Bool(value)) => Ok(Pattern::Bool(*value)),
                 Some(Meaning::Nil) => Ok(Pattern::Nil),
-                Some(Meaning::Constructor(at)) => Ok(Pattern::Constructor(*at)),
+                Some(Meaning::Constructor(at)) => Ok(Pattern::Constructor(*at, Vec::new())),
                 _ => match top {
                     Some(slot) => {
                         self.variables.push((path[0].clone(), slot));
@@ -413,18 +414,22 @@ impl Frame<'_> {
                 let tail = self.pattern(right, None)?;
                 Ok(Pattern::Cons(Box::new(head), Box::new(tail)))
             }
-            Kind::Apply(head, arguments) => match (&head.kind, &arguments[..]) {
-                (Kind::Name(path), [argument])
-                    if path.len() == 1
-                        && matches!(
-                            self.scope.get(&path[0]),
-                            Some(Meaning::Primitive(Primitive::Suc, _))
-                        ) =>
-                {
-                    Ok(Pattern::Suc(Box::new(self.pattern(argument, None)?)))
+            Kind::Apply(head, arguments) => {
+                let meaning = match &head.kind {
+                    Kind::Name(path) if path.len() == 1 => self.scope.get(&path[0]),
+                    _ => None,
+                };
+                match (meaning, &arguments[..]) {
+                    (Some(Meaning::Primitive(Primitive::Suc, _)), [argument]) => {
+                        Ok(Pattern::Suc(Box::new(self.pattern(argument, None)?)))
+                    }
+                    (Some(Meaning::Constructor(at)), arguments) => {
+                        let parts = arguments.iter().map(|part| self.pattern(part, None));
+                        Ok(Pattern::Constructor(*at, parts.collect::<Result<_>>()?))
+                    }
+                    _ => fail(self.file, line, "this pattern is not read"),
                 }
-                _ => fail(self.file, line, "this pattern is not read"),
-            },
+            }
             _ => fail(self.file, line, "this pattern is not read"),
         }
     }
@@ -549,7 +554,9 @@ impl Frame<'_> {
         let arity = match &meaning {
             Meaning::Function(at) => self.loader.functions[*at].arity,
             Meaning::Primitive(_, arity) => *arity,
-            Meaning::Number(_) | Meaning::Bool(_) | Meaning::Nil | Meaning::Constructor(_) => 0,
+            // It stands with all its arguments; how many these are, its declaration in a crate's code says.
+            Meaning::Constructor(_) => arguments.len(),
+            Meaning::Number(_) | Meaning::Bool(_) | Meaning::Nil => 0,
             Meaning::Cons | Meaning::And | Meaning::Or => 2,
             Meaning::Cond => 3,
             Meaning::Type => return fail(self.file, line, format!("'{name}' is a type")),
@@ -570,7 +577,7 @@ impl Frame<'_> {
             Meaning::Number(number) => Expr::Number(number),
             Meaning::Bool(value) => Expr::Bool(value),
             Meaning::Nil => Expr::List(Vec::new(), None),
-            Meaning::Constructor(at) => Expr::Constructor(at),
+            Meaning::Constructor(at) => Expr::Constructor(at, arguments),
             Meaning::And => Expr::And(next(), next()),
             Meaning::Or => Expr::Or(next(), next()),
             Meaning::Cond => Expr::Cond(next(), next(), next()),

@@ -4,6 +4,8 @@ use crate::rules::{Replay, Rules, Run};
 use std::fmt::Write;
 
 const INPUT_LEN: usize = 256;
+/// In the place of a number of missing blocks where the total is unknown.
+const UNKNOWN_TOTAL: u8 = 255;
 
 fn hex(bytes: &[u8]) -> String {
     bytes.iter().map(|byte| format!("{byte:02X}")).collect()
@@ -75,13 +77,25 @@ fn four(run: &Run) -> String {
     format!("F {high}\n")
 }
 
-/// What a replay program prints for an input, what all reads give after it, the candidates that are held then, and the
-/// least limit with which four satellites have a recent authentic set.
+/// How far along each message is: `D`, then `HELD/MISSING` for each DSM ID, `?` where the total is unknown.
+fn progress(run: &Run) -> String {
+    let read = run.progress(&[0; 32]);
+    assert_eq!(read.number, 0, "a state of the right lengths");
+    let pairs = read.pairs.chunks_exact(2).map(|pair| match pair[1] {
+        UNKNOWN_TOTAL => format!(" {}/?", pair[0]),
+        missing => format!(" {}/{missing}", pair[0]),
+    });
+    format!("D{}\n", pairs.collect::<String>())
+}
+
+/// What a replay program prints for an input, what all reads give after it, the candidates that are held then, the least
+/// limit with which four satellites have a recent authentic set, and how far along each message is.
 pub struct Replayed {
     pub lines: String,
     pub reads: String,
     pub candidates: String,
     pub four: String,
+    pub progress: String,
 }
 
 /// The definition of one record is run for each; `whole` runs that of a whole input.
@@ -105,6 +119,7 @@ pub fn replay_and_ask(rules: &Rules, input: &[u8], mut each: impl FnMut(&[u8], &
         reads: reads(rules, replay.started(), &run),
         candidates: candidates(&run),
         four: four(&run),
+        progress: progress(&run),
     }
 }
 

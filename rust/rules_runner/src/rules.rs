@@ -79,6 +79,12 @@ pub struct FourAnswer {
     pub yes: u64,
 }
 
+/// How far along each message is (02, P9): the lent bytes with a pair for each DSM ID.
+pub struct ProgressAnswer {
+    pub number: u64,
+    pub pairs: Vec<u8>,
+}
+
 /// A run of the definitions: the state that the last call left.
 pub struct Run<'r> {
     rules: &'r Rules,
@@ -448,6 +454,15 @@ impl Run<'_> {
         FourAnswer {
             number: self.rules.number(&read, "code"),
             yes: self.rules.number(&read, "yes"),
+        }
+    }
+
+    pub fn progress(&self, lent: &[u8]) -> ProgressAnswer {
+        let arguments = vec![self.state.clone(), list(lent)];
+        let read = self.rules.call("rules.Calls.progressRead", arguments);
+        ProgressAnswer {
+            number: self.rules.number(&read, "code"),
+            pairs: self.rules.bytes(&read, "out"),
         }
     }
 }

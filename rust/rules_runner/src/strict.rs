@@ -36,7 +36,7 @@ fn asked(expr: &Expr, functions: &[Function]) -> BTreeSet<usize> {
             sure.flat_map(|(argument, _)| asked(argument, functions))
                 .collect()
         }
-        Expr::Primitive(_, arguments) => all(arguments),
+        Expr::Primitive(_, arguments) | Expr::Constructor(_, arguments) => all(arguments),
         Expr::List(elements, rest) => {
             let mut slots = all(elements);
             if let Some(rest) = rest {
@@ -99,7 +99,10 @@ fn each(expr: &Expr, visit: &mut dyn FnMut(&Expr)) {
             visit(b);
             visit(c);
         }
-        Expr::Call(_, parts) | Expr::Primitive(_, parts) | Expr::Record(_, parts) => {
+        Expr::Call(_, parts)
+        | Expr::Primitive(_, parts)
+        | Expr::Constructor(_, parts)
+        | Expr::Record(_, parts) => {
             parts.iter().for_each(visit);
         }
         Expr::List(parts, rest) => {
@@ -151,7 +154,10 @@ fn each_mut(expr: &mut Expr, visit: &mut dyn FnMut(&mut Expr)) {
             visit(b);
             visit(c);
         }
-        Expr::Call(_, parts) | Expr::Primitive(_, parts) | Expr::Record(_, parts) => {
+        Expr::Call(_, parts)
+        | Expr::Primitive(_, parts)
+        | Expr::Constructor(_, parts)
+        | Expr::Record(_, parts) => {
             parts.iter_mut().for_each(visit);
         }
         Expr::List(parts, rest) => {
@@ -207,9 +213,9 @@ impl Delayer<'_> {
                 let code = self.put_aside(&expr, &[]);
                 Expr::DelayFields(slot, fields, code)
             }
-            (_, Expr::Slot(_) | Expr::Number(_) | Expr::Bool(_) | Expr::Constructor(_)) => expr,
+            (_, Expr::Slot(_) | Expr::Number(_) | Expr::Bool(_)) => expr,
             (_, Expr::Record(..) | Expr::Lambda(..)) => self.settled(expr),
-            (_, Expr::List(elements, None)) if elements.is_empty() => expr,
+            (_, Expr::List(parts, None) | Expr::Constructor(_, parts)) if parts.is_empty() => expr,
             _ => Expr::Delay(self.put_aside(&expr, &[])),
         }
     }

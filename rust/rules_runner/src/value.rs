@@ -9,8 +9,8 @@ pub enum Value {
     /// A number past 64 bits.
     Wide(u128),
     Bool(bool),
-    /// A constructor without arguments, by its number in the program.
-    Constructor(u32),
+    /// A constructor, by its number in the program, and its arguments.
+    Constructor(u32, Vec<Value>),
     List(List),
     Record(Rc<Record>),
     Function(Rc<Closure>),

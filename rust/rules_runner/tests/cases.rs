@@ -10,7 +10,7 @@ use std::fs;
 use std::path::{Path, PathBuf};
 
 /// The recorded inputs that are run here.
-const RUN: [&str; 27] = [
+const RUN: [&str; 28] = [
     "P1_cmac_nominal",
     "P1_mf_changes",
     "P3_hkroot",
@@ -19,6 +19,7 @@ const RUN: [&str; 27] = [
     "P4_nominal",
     "P5_four",
     "P6_nominal",
+    "P9_progress",
     "a_empty",
     "a_example",
     "a_framing",
@@ -49,10 +50,11 @@ fn folder() -> PathBuf {
 
 fn read(name: &str, extension: &str) -> Vec<u8> {
     let path = folder().join(name).with_extension(extension);
-    // Where there are no candidates, or no limit is enough, there is no file of them.
+    // Where there are no candidates, no limit is enough or no block is held, there is no file of them.
     match extension {
         "candidates" if !path.exists() => Vec::new(),
         "four" if !path.exists() => b"F -\n".to_vec(),
+        "progress" if !path.exists() => format!("D{}\n", " 0/?".repeat(16)).into(),
         _ => fs::read(&path).unwrap_or_else(|error| panic!("{}: {error}", path.display())),
     }
 }
@@ -67,6 +69,7 @@ fn check(names: &[&str]) {
                 ("reads", got.reads),
                 ("candidates", got.candidates),
                 ("four", got.four),
+                ("progress", got.progress),
             ] {
                 let want = String::from_utf8(read(name, extension)).unwrap();
                 if let Some(difference) = first_difference(&got, &want) {

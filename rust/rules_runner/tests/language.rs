@@ -181,6 +181,49 @@ both n (suc zero) = let p = pair n n in p .low + p.high
     assert_eq!(value("both", text, vec![4, 5]), "43");
 }
 
+// Constructors of a type that a crate's code declares, with arguments and without; patterns look into the arguments.
+#[test]
+fn constructors() {
+    let text = "use Rattle.test.specs.declared.Shape.{Shape}
+use Rattle.test.specs.declared.Shape.the-variants.{Dot, Line, Pair}
+
+shape : ℕ → Shape
+shape zero = Dot
+shape (suc zero) = Line 7 (3 ∷ [])
+shape (suc (suc zero)) = Line (4 + 4) (5 ∷ 6 ∷ [])
+shape n = Pair (let m = n + n in shape (m - 7)) (Line n [])
+
+sum : Shape → ℕ
+sum Dot = 1
+sum (Line 7 (n ∷ [])) = n
+sum (Line n (a ∷ b ∷ [])) = n * 100 + a * 10 + b
+sum (Line n l) = n
+sum (Pair Dot b) = 90
+sum (Pair a b) = sum a * 10 + sum b
+
+run : ℕ → ℕ
+run n = sum (shape n)
+";
+    for (n, sum) in [(0, "1"), (1, "3"), (2, "856"), (3, "90"), (4, "34")] {
+        assert_eq!(value("run", text, vec![n]), sum);
+    }
+}
+
+// A constructor with other arguments than the pattern's is no value of the type.
+#[test]
+#[should_panic(expected = "is matched against Constructor")]
+fn constructors_of_another_arity() {
+    let text = "use Rattle.test.specs.declared.Shape.the-variants.{Line}
+
+one : Shape → ℕ
+one (Line a b) = a
+
+bad : ℕ → ℕ
+bad n = one (Line n)
+";
+    value("bad", text, vec![1]);
+}
+
 // What is not asked for is not computed: here it would not fit in 128 bits.
 #[test]
 fn delayed() {

@@ -20,6 +20,7 @@
 //! - `mack`: the layout of a MACK section, what of it is missing, and the check of its keys;
 //! - `sets`: authentic sets and candidates;
 //! - `four`: how recent the tags of authentic sets are;
+//! - `progress`: how far along each message is;
 //! - `tags`: MACSEQ, tag outcomes, waiting tags, tag records;
 //! - `receiver`: the calls of 01 over the whole state;
 //! - `replay`: the replay program's format.
@@ -37,6 +38,7 @@ pub mod mack;
 pub mod navdata;
 pub mod numbers;
 pub mod pkr;
+pub mod progress;
 pub mod public_keys;
 pub mod received;
 pub mod receiver;

@@ -1,11 +1,12 @@
 //! The replay program of the second receiver: records on standard input, lines on standard output.
 //! With `--reads FILE` it also writes to FILE what every read gives after the last record, with
 //! `--candidates FILE` the candidates that are held then, with `--four FILE` the least limit with
-//! which four satellites have a recent authentic set.
+//! which four satellites have a recent authentic set, with `--progress FILE` how far along the message
+//! of each DSM ID is.
 
 #![forbid(unsafe_code)]
 
-use second_receiver::replay::{replay, write_candidates, write_four, write_reads};
+use second_receiver::replay::{replay, write_candidates, write_four, write_progress, write_reads};
 use std::fs::File;
 use std::io::{self, BufReader, BufWriter};
 use std::process::ExitCode;
@@ -15,6 +16,7 @@ struct Options {
     reads: Option<String>,
     candidates: Option<String>,
     four: Option<String>,
+    progress: Option<String>,
 }
 
 fn options() -> Option<Options> {
@@ -25,6 +27,7 @@ fn options() -> Option<Options> {
             "--reads" => &mut options.reads,
             "--candidates" => &mut options.candidates,
             "--four" => &mut options.four,
+            "--progress" => &mut options.progress,
             _ => return None,
         };
         *file = Some(arguments.next()?);
@@ -46,13 +49,16 @@ fn run(options: &Options) -> io::Result<()> {
     if let Some(path) = &options.four {
         write_four(&receiver, BufWriter::new(File::create(path)?))?;
     }
+    if let Some(path) = &options.progress {
+        write_progress(&receiver, BufWriter::new(File::create(path)?))?;
+    }
     Ok(())
 }
 
 fn main() -> ExitCode {
     let Some(options) = options() else {
         eprintln!(
-            "usage: second_receiver [--reads FILE] [--candidates FILE] [--four FILE] < INPUT"
+            "usage: second_receiver [--reads FILE] [--candidates FILE] [--four FILE] [--progress FILE] < INPUT"
         );
         return ExitCode::from(2);
     };

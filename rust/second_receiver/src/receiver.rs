@@ -8,6 +8,7 @@ use crate::mack::{self, Layout, Missing, Section, SECTION_LEN};
 use crate::navdata::{svid, word_type, NavSet, SatelliteWords, Words, SET_LEN, WORD_LEN};
 use crate::numbers::*;
 use crate::pkr::{self, Proved, NODE_LEN};
+use crate::progress::Progress;
 use crate::public_keys::{is_key_id, key_len, PublicKey, PublicKeys, MAX_KEY_LEN};
 use crate::received::{Received, FIELDS, FIELD_LEN};
 use crate::sets::{AuthenticSet, Candidate, SatelliteSets, Sets};
@@ -427,6 +428,16 @@ impl Receiver {
         // Candidates do not count (B33).
         let sets = (1..=SATELLITES as u8).filter_map(|prn| self.authentic_set(prn));
         four::least_limit(self.last_subframe, sets.map(|held| held.time))
+    }
+
+    /// How far along the message of each DSM ID is (02, P9), as the blocks stand: old ones count until
+    /// the next of their ID comes, and those of a complete message are gone (B65).
+    pub fn progress(&self) -> [Progress; 16] {
+        let stores = self.gathered.stores.each_ref();
+        stores.map(|store| {
+            let blocks = store.blocks.each_ref();
+            Progress::of(blocks.map(|block| block.as_ref().map(|block| &block.bytes)))
+        })
     }
 }
 

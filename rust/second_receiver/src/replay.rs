@@ -133,6 +133,20 @@ pub fn write_four(receiver: &Receiver, mut output: impl Write) -> io::Result<()>
     output.flush()
 }
 
+/// Writes `D`, then for each DSM ID in order `HELD/MISSING`, the blocks held and those still missing, `?` where the total is
+/// unknown.
+pub fn write_progress(receiver: &Receiver, mut output: impl Write) -> io::Result<()> {
+    write!(output, "D")?;
+    for message in receiver.progress() {
+        match message.missing {
+            Some(missing) => write!(output, " {}/{missing}", message.held)?,
+            None => write!(output, " {}/?", message.held)?,
+        }
+    }
+    writeln!(output)?;
+    output.flush()
+}
+
 /// Writes what every read gives: `A PRN 0 SET IODnav GST_SF` or `A PRN 16` for PRN 1 to 36, then
 /// `W 0 KEYID MESSAGE SIGNATURE TYPE KEY` or `W 14`; `no start` alone before an accepted start.
 pub fn write_reads(receiver: &Receiver, mut output: impl Write) -> io::Result<()> {

@@ -1,6 +1,7 @@
-//! Every replay input under tests/cases gives the lines, the reads, the candidates and the least limit beside it.
+//! Every replay input under tests/cases gives the lines, the reads, the candidates, the least limit and the progress of each
+//! message beside it.
 
-use second_receiver::replay::{replay, write_candidates, write_four, write_reads};
+use second_receiver::replay::{replay, write_candidates, write_four, write_progress, write_reads};
 use std::fs;
 use std::path::Path;
 
@@ -29,22 +30,26 @@ fn all_cases() {
             continue;
         }
         count += 1;
-        let [mut lines, mut reads, mut candidates, mut four] = [const { Vec::new() }; 4];
+        let [mut lines, mut reads, mut candidates, mut four, mut progress] =
+            [const { Vec::new() }; 5];
         let receiver = replay(&fs::read(&path).unwrap()[..], &mut lines).unwrap();
         write_reads(&receiver, &mut reads).unwrap();
         write_candidates(&receiver, &mut candidates).unwrap();
         write_four(&receiver, &mut four).unwrap();
+        write_progress(&receiver, &mut progress).unwrap();
         for (extension, got) in [
             ("out", lines),
             ("reads", reads),
             ("candidates", candidates),
             ("four", four),
+            ("progress", progress),
         ] {
             let file = path.with_extension(extension);
-            // Where there are no candidates, or no limit is enough, there is no file of them.
+            // Where there are no candidates, no limit is enough or no block is held, there is no file of them.
             let want = match extension {
                 "candidates" if !file.exists() => Vec::new(),
                 "four" if !file.exists() => b"F -\n".to_vec(),
+                "progress" if !file.exists() => format!("D{}\n", " 0/?".repeat(16)).into(),
                 _ => fs::read(file).unwrap(),
             };
             if let Some(difference) = first_difference(&got, &want) {
@@ -52,6 +57,6 @@ fn all_cases() {
             }
         }
     }
-    assert_eq!(count, 28, "inputs found");
+    assert_eq!(count, 29, "inputs found");
     assert!(differences.is_empty(), "{}", differences.join("\n"));
 }

@@ -6,13 +6,6 @@ use common::*;
 
 const T: u32 = 1000 << 20 | 36_000;
 
-/// Block 0 of a DSM of `count` blocks.
-fn block_0(count: u8) -> [u8; 13] {
-    let mut block = [3; 13];
-    block[0] = (count - 6) << 4;
-    block
-}
-
 fn present(bench: &Bench, id: u8) -> u16 {
     bench.receiver.dsm(id).unwrap().present()
 }

@@ -313,5 +313,8 @@ fn the_program() {
     );
     assert_eq!(run(&["--four", path], &example()).0, Some(0));
     assert_eq!(fs::read_to_string(&file).unwrap(), "F -\n");
+    assert_eq!(run(&["--progress", path], &example()).0, Some(0));
+    let none = format!("D{}\n", " 0/?".repeat(16));
+    assert_eq!(fs::read_to_string(&file).unwrap(), none);
     fs::remove_file(&file).unwrap();
 }

@@ -104,6 +104,9 @@ pub enum Read {
     },
 }
 
+/// By DSM ID: blocks held, and blocks missing if the total is known.
+pub type Progress = [(u8, Option<u8>); 16];
+
 /// What a run intends of a receiver; places count records from 1.
 #[derive(Clone, Debug, Default)]
 pub struct Expects {
@@ -115,6 +118,8 @@ pub struct Expects {
     pub reads: Vec<(u8, Read)>,
     /// Place, the least limit with which four satellites then have a recent authentic set (02, P5), if any is enough.
     pub least: Vec<(usize, Option<u64>)>,
+    /// Place, and how far along each message then is (02, P9).
+    pub progress: Vec<(usize, Progress)>,
     /// Outcomes that some tag record must have.
     pub some: Vec<u8>,
     /// Outcomes that no tag record may have.
@@ -172,6 +177,12 @@ impl Run {
     pub fn least(&mut self, least: Option<u64>) {
         let place = self.places();
         self.expects.least.push((place, least));
+    }
+
+    /// States how far along each message is after the last record.
+    pub fn progress(&mut self, progress: Progress) {
+        let place = self.places();
+        self.expects.progress.push((place, progress));
     }
 
     /// Compares what a replay program printed, and what its reads gave if known, with what the run intends. Reads are

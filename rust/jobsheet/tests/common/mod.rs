@@ -9,9 +9,11 @@ use jobsheet::recording::RECORD_LEN;
 use jobsheet::sheet::{RunSheet, Sheet};
 use jobsheet::{html, text};
 use second_receiver::navdata::SET_LEN;
+use second_receiver::progress::Progress;
 use second_receiver::receiver::RECORDS_LEN;
 use second_receiver::replay::{answer, replay};
 use second_receiver::sets::Candidate;
+use second_receiver::verdict::WaitingMessage;
 use second_receiver::Receiver;
 use signal::scenario::{self, SEED};
 use std::collections::BTreeMap;
@@ -33,6 +35,15 @@ fn built() -> Vec<(String, Vec<u8>)> {
             ("spoiled word".to_string(), spoiled_word()),
             ("short".to_string(), short_of_a_mark()),
             ("newer data short".to_string(), newer_data_short()),
+            ("late keys".to_string(), late_keys()),
+            ("no first block".to_string(), without_block(0)),
+            ("no last block".to_string(), without_block(7)),
+            ("few new keys".to_string(), few_new_keys()),
+            ("no keys of two".to_string(), lost(&few_new_keys(), 7)),
+            ("chip says no".to_string(), chip_says_no()),
+            ("late again".to_string(), late_again()),
+            ("no new keys".to_string(), withdrawn(Some(6))),
+            ("new keys denied".to_string(), withdrawn(None)),
         ])
         .map(|(name, mut bytes)| {
             bytes.truncate(bytes.len() / RECORD_LEN * RECORD_LEN);
@@ -87,6 +98,115 @@ pub fn newer_data_short() -> Vec<u8> {
     cut("nominal", is)
 }
 
+/// The block ID of a record that has a block of the fitter's message.
+fn block(r: &[u8]) -> Option<u8> {
+    (r[0] == 3 && r[11] >> 4 == 5).then_some(r[11] & 15)
+}
+
+/// A recording in which one block of the fitter's message is never heard and the chip says nothing: that
+/// message never comes whole.
+fn lost(bytes: &[u8], id: u8) -> Vec<u8> {
+    let records = bytes.chunks_exact(RECORD_LEN);
+    let kept = records.filter(|r| r[0] != 4 && block(r) != Some(id));
+    kept.flatten().copied().collect()
+}
+
+/// The fitter's half hour so.
+pub fn without_block(id: u8) -> Vec<u8> {
+    lost(&recording("fitter"), id)
+}
+
+/// The fitter's half hour in which two satellites are heard at first, one of them not in the fourth half
+/// minute, and the others from the ninth on, so that the message with the keys comes whole late. A
+/// verdict follows it.
+pub fn late_keys() -> Vec<u8> {
+    let bytes = recording("fitter");
+    let records = || bytes.chunks_exact(RECORD_LEN);
+    let first = records().find(|r| r[0] == 3).map(subframe_time).unwrap();
+    let heard = |r: &&[u8]| match (r[1], (subframe_time(r) - first) / 30) {
+        (_, 8..) | (14, _) => true,
+        (7, half_minute) => half_minute != 3,
+        _ => false,
+    };
+    let kept = records().filter(|r| r[0] == 1 || [2, 3].contains(&r[0]) && heard(r));
+    let kept: Vec<u8> = kept.flatten().copied().collect();
+    let held = Held::after_each(&kept);
+    let whole = held.iter().position(|held| held.message.is_some()).unwrap() + 1;
+    let (before, after) = kept.split_at(whole * RECORD_LEN);
+    let verdict = records().find(|r| r[0] == 4).unwrap();
+    [before, verdict, after].concat()
+}
+
+/// The fitter's half hour in which, from the sixth minute on, two satellites send four blocks of a public
+/// key, which has fourteen, and of other keys, which have eight. A third does so for four minutes, then sends
+/// blocks that are refused.
+pub fn few_new_keys() -> Vec<u8> {
+    let mut bytes = recording("fitter");
+    let first = bytes.chunks_exact(RECORD_LEN).find(|r| r[0] == 3);
+    let sixth = first.map(subframe_time).unwrap() + 300;
+    for r in bytes.chunks_exact_mut(RECORD_LEN) {
+        let (dsm_id, nb) = match r[1] {
+            4 => (13, 8),
+            11 => (6, 2),
+            27 => (7, 2),
+            _ => continue,
+        };
+        let refused = r[1] == 27 && subframe_time(r) >= sixth + 240;
+        if let (Some(block), true) = (block(r), subframe_time(r) >= sixth) {
+            let id = if refused { 9 } else { block & 3 };
+            r[11] = dsm_id << 4 | id;
+            (2..15).for_each(|byte| r[6 + 5 * byte] = id);
+            r[16] |= if id == 0 { nb << 4 } else { 0 };
+        }
+    }
+    bytes
+}
+
+/// The fitter's half hour in which one block is not heard from the third minute to the fifteenth: the message
+/// with the keys comes whole again late.
+pub fn late_again() -> Vec<u8> {
+    let bytes = recording("fitter");
+    let records = || bytes.chunks_exact(RECORD_LEN);
+    let first = records().find(|r| r[0] == 3).map(subframe_time).unwrap();
+    let lost = |r: &&[u8]| block(r) == Some(7) && (120..900).contains(&(subframe_time(r) - first));
+    let kept = records().filter(|r| !lost(r));
+    kept.flatten().copied().collect()
+}
+
+/// The keys are withdrawn, and so many sub-frames come after it; or all, and the chip says no.
+pub fn withdrawn(subframes: Option<usize>) -> Vec<u8> {
+    let mut bytes = recording("chain_revoked");
+    let records = || bytes.chunks_exact(RECORD_LEN);
+    let dropped = records().position(|r| r[0] == 4 && r[3] >> 6 == 3);
+    let after = dropped.unwrap() + 1;
+    let mut last = records().enumerate().skip(after).filter(|(_, r)| r[0] == 3);
+    let last = subframes.map(|n| last.nth(n - 1).unwrap().0);
+    for r in bytes.chunks_exact_mut(RECORD_LEN).skip(after) {
+        r[1] &= if r[0] == 4 { 0 } else { 255 };
+    }
+    bytes.truncate(last.map_or(bytes.len(), |last| (last + 1) * RECORD_LEN));
+    bytes
+}
+
+/// The fitter's half hour in which the chip says no whenever the message with the keys is whole.
+pub fn chip_says_no() -> Vec<u8> {
+    let bytes = recording("fitter");
+    let records = || bytes.chunks_exact(RECORD_LEN);
+    let mut no = records().find(|r| r[0] == 4).unwrap().to_vec();
+    no[1] = 0;
+    let (mut receiver, mut area) = (Receiver::new(), [0; RECORDS_LEN]);
+    let mut kept = Vec::new();
+    for r in records().filter(|r| r[0] != 4) {
+        kept.extend(r);
+        answer(&mut receiver, r.try_into().unwrap(), &mut area);
+        if receiver.waiting_message().is_some() {
+            kept.extend(&no);
+            answer(&mut receiver, no[..].try_into().unwrap(), &mut area);
+        }
+    }
+    kept
+}
+
 /// Them all, built once.
 pub fn recordings() -> &'static [(String, Vec<u8>)] {
     static ALL: OnceLock<Vec<(String, Vec<u8>)>> = OnceLock::new();
@@ -116,17 +236,23 @@ pub struct Line {
     pub first: u32,
     pub second: u32,
     pub tags: Vec<[u8; 12]>,
-    /// The sets that the second receiver holds after it.
+    /// What the second receiver holds after it.
     pub after: Arc<Held>,
 }
 
-/// By satellite.
+/// What a receiver holds.
 #[derive(Clone, Debug, Default)]
 pub struct Held {
-    /// What a read gives: IODnav and the time of the tag.
+    /// By satellite, what a read gives: IODnav and the time of the tag.
     pub sets: BTreeMap<u8, (u16, u32)>,
-    /// What no read gives.
+    /// By satellite, what no read gives.
     pub candidates: BTreeMap<u8, Candidate>,
+    /// By DSM ID.
+    pub progress: Vec<Progress>,
+    /// What waits for a verdict.
+    pub message: Option<WaitingMessage>,
+    /// Whether a chain is in force.
+    pub in_force: bool,
 }
 
 impl Held {
@@ -139,6 +265,9 @@ impl Held {
         Held {
             sets: (1..=36).filter_map(read).collect(),
             candidates: (1..=36).filter_map(candidate).collect(),
+            progress: receiver.progress().to_vec(),
+            message: receiver.waiting_message().cloned(),
+            in_force: receiver.chain().is_some(),
         }
     }
 
@@ -149,7 +278,7 @@ impl Held {
         let records = recording.chunks_exact(RECORD_LEN);
         let after = |record: &[u8]| {
             answer(&mut receiver, record.try_into().unwrap(), &mut area);
-            // A word leaves the sets as they are.
+            // A word leaves them as they are.
             if record[0] != 2 {
                 held = Arc::new(Held::of(&receiver));
             }

@@ -4,6 +4,7 @@
 mod back;
 #[path = "../common/mod.rs"]
 mod common;
+mod gathering;
 mod marks;
 
 use back::Heard;
@@ -16,7 +17,7 @@ use jobsheet::receiver::{Answer, Receiver};
 use jobsheet::recording::{Reader, Record, RECORD_LEN};
 use jobsheet::time::Clock;
 use jobsheet::{csv, html, phone, time};
-use osnma::{AuthenticSet, Gst, Marks, Outcome, Refusal, TagRecord, WaitingMessage};
+use osnma::{AuthenticSet, Gst, Marks, Outcome, Progress, Refusal, TagRecord, WaitingMessage};
 use second_receiver::navdata::SET_LEN;
 use std::collections::{BTreeMap, BTreeSet};
 use std::fmt::Write;
@@ -185,6 +186,10 @@ impl Reads for Given {
 
     fn four(&self, _: u32) -> bool {
         false
+    }
+
+    fn progress(&self) -> Vec<Progress> {
+        Vec::new()
     }
 }
 
@@ -724,6 +729,10 @@ impl Reads for Contrary<'_> {
 
     fn four(&self, limit: u32) -> bool {
         !self.0.four(limit)
+    }
+
+    fn progress(&self) -> Vec<Progress> {
+        self.0.progress().collect()
     }
 }
 

@@ -8,7 +8,7 @@
  * Annex A of the specification gives the sub-frames that bring a root, a section and its tags. Before
  * them, and where the answers of reads and questions are tried, the test writes what only sub-frames
  * bring into the core itself (`wait_for`, `tag_waits`, `hold_sets`, `agree_before`, `mark` and `unmark`,
- * `note`, `config[62]`).
+ * `note`, `hold_blocks`, `config[62]`).
  */
 #include <osnma.h>
 
@@ -596,24 +596,35 @@ static void want_block(unsigned prn, uint32_t time)
     want.present[id] = (uint16_t)(want.present[id] | 1u << k);
 }
 
-/* All blocks of a message, from satellite 1 on, at one time. Those before the last are held; the last
- * takes it out, and this is the answer of its half. Where it is 0, `message` then waits under key 0. */
-static void send_message(uint32_t time, unsigned header, unsigned id, const uint8_t *dsm,
-                         unsigned count, enum osnma_answer answer)
+/* Block k of a message of a DSM ID comes from a satellite and is held. */
+static void send_block(unsigned prn, uint32_t time, unsigned id, unsigned k, const uint8_t *dsm)
+{
+    make_block(0x82, id, k, dsm);
+    want_block(prn, time);
+    HALVES(prn, time, OSNMA_DONE, OSNMA_NOT_IN_FORCE, 0);
+}
+
+/* The last block of a message comes: the message is taken out, and this is the answer of the half. Where it
+ * is 0, `message` then waits under key 0. */
+static void send_last(unsigned prn, uint32_t time, unsigned id, unsigned k, const uint8_t *dsm,
+                      enum osnma_answer answer)
+{
+    make_block(0x82, id, k, dsm);
+    want_block(prn, time);
+    want.present[id] = 0;
+    if (answer == OSNMA_DONE)
+        want_offer(0);
+    HALVES(prn, time, answer, OSNMA_NOT_IN_FORCE, 0);
+}
+
+/* All blocks of a message, from satellite 1 on, at one time. */
+static void send_message(uint32_t time, unsigned id, const uint8_t *dsm, unsigned count,
+                         enum osnma_answer answer)
 {
     unsigned k;
-    for (k = 0; k < count; k++) {
-        make_block(header, id, k, dsm);
-        want_block(k + 1, time);
-        if (k + 1 < count) {
-            HALVES(k + 1, time, OSNMA_DONE, OSNMA_NOT_IN_FORCE, 0);
-        } else {
-            want.present[id] = 0;
-            if (answer == OSNMA_DONE)
-                want_offer(0);
-            HALVES(k + 1, time, answer, OSNMA_NOT_IN_FORCE, 0);
-        }
-    }
+    for (k = 0; k + 1 < count; k++)
+        send_block(k + 1, time, id, k, dsm);
+    send_last(count, time, id, k, dsm, answer);
 }
 
 static void test_blocks(void)
@@ -699,12 +710,9 @@ static const uint8_t annex_section[60] = {
     0x00, 0x00, 0x00, 0x00, 0x00, 0x00, 0x00, 0x00, 0x00, 0x00, 0x00, 0x00, 0x00, 0x00, 0x33,
     0x32, 0x83, 0xCE, 0x9B, 0x04, 0xE0, 0xFE, 0x6A, 0xA2, 0x16, 0xDB, 0x56, 0x4B, 0x19, 0x1E};
 
-/* The root of the annex comes, waits, and is vouched for. */
-static void put_annex_root_in_force(void)
+/* The annex's root message can be taken, and `message` and `signature` are what then waits. */
+static void start_for_annex(void)
 {
-    const uint32_t t = osnma_gst(947, 431760);
-    struct osnma_message got;
-    uint8_t dsm[9 * 13];
     settle();
     memset(settings.marks, 0, sizeof settings.marks);
     settings.marks[1] = settings.marks[2] = OSNMA_FLEXIBLE;
@@ -712,23 +720,32 @@ static void put_annex_root_in_force(void)
     settings.key_id = 0;
     want_fresh();
     ANSWERS(osnma_start(&core, &settings), OSNMA_DONE);
-    /* Under a key that is not held, with another MACLT, of one block too many. */
-    memset(dsm, 0, sizeof dsm);
-    memcpy(dsm, annex_dsm, sizeof annex_dsm);
-    dsm[0] = 0x21;
-    send_message(t - 90, 0x82, 5, dsm, 8, OSNMA_KEY_NOT_HELD);
-    dsm[0] = 0x20;
-    dsm[3] = 12;
-    send_message(t - 60, 0x82, 5, dsm, 8, OSNMA_PARAMETERS_UNFIT);
-    dsm[0] = 0x30;
-    dsm[3] = 11;
-    send_message(t - 30, 0x82, 5, dsm, 9, OSNMA_BLOCK_UNFIT);
     memset(message, 0, sizeof message);
     memset(signature, 0, sizeof signature);
     message[0] = 0x82;
     memcpy(message + 1, annex_dsm + 1, 28);
     memcpy(signature, annex_dsm + 29, 64);
-    send_message(t, 0x82, 0, annex_dsm, 8, OSNMA_DONE);
+}
+
+/* The root of the annex comes, waits, and is vouched for. */
+static void put_annex_root_in_force(void)
+{
+    const uint32_t t = osnma_gst(947, 431760);
+    struct osnma_message got;
+    uint8_t dsm[9 * 13];
+    start_for_annex();
+    /* Under a key that is not held, with another MACLT, of one block too many. */
+    memset(dsm, 0, sizeof dsm);
+    memcpy(dsm, annex_dsm, sizeof annex_dsm);
+    dsm[0] = 0x21;
+    send_message(t - 90, 5, dsm, 8, OSNMA_KEY_NOT_HELD);
+    dsm[0] = 0x20;
+    dsm[3] = 12;
+    send_message(t - 60, 5, dsm, 8, OSNMA_PARAMETERS_UNFIT);
+    dsm[0] = 0x30;
+    dsm[3] = 11;
+    send_message(t - 30, 5, dsm, 9, OSNMA_BLOCK_UNFIT);
+    send_message(t, 0, annex_dsm, 8, OSNMA_DONE);
     ANSWERS(osnma_read_message(&core, &got), OSNMA_DONE);
     CHECK(memcmp(got.message, message, sizeof message) == 0);
     CHECK(memcmp(got.signature, signature, sizeof signature) == 0);
@@ -956,15 +973,15 @@ static void test_key_messages(void)
         dsm[i] = (uint8_t)(i * 5 + 1);
     dsm[0] = 0x70;
     dsm[129] = 0x54;
-    send_message(t, 0x82, 12, dsm, 13, OSNMA_BLOCK_UNFIT);
+    send_message(t, 12, dsm, 13, OSNMA_BLOCK_UNFIT);
     dsm[129] = 0x34;
-    send_message(t + 30, 0x82, 13, dsm, 13, OSNMA_BLOCK_UNFIT);
+    send_message(t + 30, 13, dsm, 13, OSNMA_BLOCK_UNFIT);
     dsm[129] = 0x41;
-    send_message(t + 60, 0x82, 14, dsm, 13, OSNMA_BLOCK_UNFIT);
+    send_message(t + 60, 14, dsm, 13, OSNMA_BLOCK_UNFIT);
     dsm[129] = 0x14;
-    send_message(t + 90, 0x82, 15, dsm, 13, OSNMA_TREE_UNFIT);
+    send_message(t + 90, 15, dsm, 13, OSNMA_TREE_UNFIT);
     dsm[129] = 0x40;
-    send_message(t + 120, 0x82, 15, dsm, 13, OSNMA_TREE_UNFIT);
+    send_message(t + 120, 15, dsm, 13, OSNMA_TREE_UNFIT);
 }
 
 /* ---- four satellites */
@@ -1099,6 +1116,211 @@ static void test_four(void)
     FOUR(0xFFFFFFFFu, 0);
 }
 
+/* ---- how far along each message is */
+
+static struct osnma_dsm_progress want_progress[OSNMA_DSM_IDS];
+
+static void check_progress(int line)
+{
+    struct osnma_dsm_progress got[OSNMA_DSM_IDS];
+    unsigned id;
+    memset(got, 0x5A, sizeof got);
+    osnma_progress(&core, got);
+    calls++;
+    for (id = 0; id < OSNMA_DSM_IDS; id++) {
+        checks++;
+        if (got[id].held != want_progress[id].held || got[id].missing != want_progress[id].missing) {
+            fprintf(stderr, "calls.c:%d: DSM %u: %u held and %u missing, not %u and %u\n", line, id,
+                    got[id].held, got[id].missing, want_progress[id].held, want_progress[id].missing);
+            exit(1);
+        }
+    }
+    check_regions(line);
+}
+
+/* The question is answered `want_progress`, and the core stays. */
+#define PROGRESS() check_progress(__LINE__)
+
+/* The same, where this DSM ID has so many blocks held and missing. */
+#define PROGRESS_OF(id, of_held, of_missing)                                                       \
+    (want_progress[id].held = (uint8_t)(of_held), want_progress[id].missing = (uint8_t)(of_missing), \
+     check_progress(__LINE__))
+
+static void want_nothing_held(void)
+{
+    unsigned id;
+    for (id = 0; id < OSNMA_DSM_IDS; id++) {
+        want_progress[id].held = 0;
+        want_progress[id].missing = OSNMA_UNKNOWN_TOTAL;
+    }
+}
+
+/* By sub-frames: messages that are refused when they are complete, beside others, and one that is taken. */
+static void test_gathering(void)
+{
+    const uint32_t t = osnma_gst(947, 431760);
+    uint8_t dsm[16 * 13];
+    unsigned i;
+    for (i = 0; i < sizeof dsm; i++)
+        dsm[i] = (uint8_t)(i * 5 + 1);
+    fill(0xA5);
+    start();
+    want_nothing_held();
+    PROGRESS();
+    /* The neighbours of those below: one of 16 blocks, two of any number. */
+    dsm[0] = 0xA0;
+    send_block(20, t, 4, 0, dsm);
+    PROGRESS_OF(4, 1, 15);
+    send_block(21, t, 2, 15, dsm);
+    PROGRESS_OF(2, 1, OSNMA_UNKNOWN_TOTAL);
+    send_block(22, t, 14, 5, dsm);
+    send_block(23, t, 14, 9, dsm);
+    PROGRESS_OF(14, 2, OSNMA_UNKNOWN_TOTAL);
+    /* Block 0 last, of eight: the total was never known. */
+    for (i = 7; i > 0; i--) {
+        send_block(i, t, 3, i, annex_dsm);
+        PROGRESS_OF(3, 8 - i, OSNMA_UNKNOWN_TOTAL);
+    }
+    send_last(8, t, 3, 0, annex_dsm, OSNMA_KEY_NOT_HELD);
+    PROGRESS_OF(3, 0, OSNMA_UNKNOWN_TOTAL);
+    /* Block 0 last but one. */
+    for (i = 1; i < 7; i++) {
+        send_block(i, t + 30, 3, i, annex_dsm);
+        PROGRESS_OF(3, i, OSNMA_UNKNOWN_TOTAL);
+    }
+    send_block(8, t + 30, 3, 0, annex_dsm);
+    PROGRESS_OF(3, 7, 1);
+    send_last(7, t + 30, 3, 7, annex_dsm, OSNMA_KEY_NOT_HELD);
+    PROGRESS_OF(3, 0, OSNMA_UNKNOWN_TOTAL);
+    /* Block 0 first, of thirteen; the fifth comes twice. */
+    dsm[0] = 0x70;
+    for (i = 0; i < 12; i++) {
+        send_block(i + 1, t + 60, 15, i, dsm);
+        PROGRESS_OF(15, i + 1, 12 - i);
+        if (i == 4) {
+            send_block(30, t + 60, 15, i, dsm);
+            PROGRESS();
+        }
+    }
+    send_last(13, t + 60, 15, 12, dsm, OSNMA_BLOCK_UNFIT);
+    PROGRESS_OF(15, 0, OSNMA_UNKNOWN_TOTAL);
+    /* What is refused is not held: a reserved NB, a block ID too high, a lost field. */
+    dsm[0] = 0xB0;
+    make_block(0x82, 14, 0, dsm);
+    want_noted(1, t + 90);
+    HALVES(1, t + 90, OSNMA_BLOCK_UNFIT, OSNMA_NOT_IN_FORCE, 0);
+    PROGRESS();
+    send_block(2, t + 90, 3, 0, annex_dsm);
+    PROGRESS_OF(3, 1, 7);
+    make_block(0x82, 3, 8, dsm);
+    want_noted(3, t + 90);
+    HALVES(3, t + 90, OSNMA_BLOCK_UNFIT, OSNMA_NOT_IN_FORCE, 0);
+    PROGRESS();
+    make_block(0x82, 3, 1, annex_dsm);
+    with_marks = 1;
+    lose(14);
+    want_noted(4, t + 90);
+    HALVES(4, t + 90, OSNMA_FIELDS_MISSING, OSNMA_NOT_IN_FORCE, 0);
+    PROGRESS();
+    with_marks = 0;
+    marks = OSNMA_ALL_RECEIVED;
+    /* Another header drops the blocks before it. */
+    make_block(0x83, 14, 1, dsm);
+    want.present[14] = 0;
+    want_block(5, t + 90);
+    HALVES(5, t + 90, OSNMA_DONE, OSNMA_NOT_IN_FORCE, 0);
+    PROGRESS_OF(14, 1, OSNMA_UNKNOWN_TOTAL);
+    /* An hour and a half minute after its only block DSM 2 counts, until its next block comes. */
+    send_zeros(6, t + 3630);
+    PROGRESS();
+    want.present[2] = 0;
+    send_block(7, t + 3630, 2, 14, dsm);
+    PROGRESS();
+    send_block(8, t + 3630, 2, 13, dsm);
+    PROGRESS_OF(2, 2, OSNMA_UNKNOWN_TOTAL);
+    /* A stopped core answers too. */
+    core.config[62] = want.config[62] = 1;
+    PROGRESS();
+    start();
+    want_nothing_held();
+    PROGRESS();
+    /* A message that then waits is taken out too. */
+    start_for_annex();
+    for (i = 0; i < 7; i++) {
+        send_block(i + 1, t, 0, i, annex_dsm);
+        PROGRESS_OF(0, i + 1, 7 - i);
+    }
+    send_last(8, t, 0, 7, annex_dsm, OSNMA_DONE);
+    PROGRESS_OF(0, 0, OSNMA_UNKNOWN_TOTAL);
+}
+
+/* What only sub-frames do: these blocks of a DSM ID are held, and its block 0 has this NB. The first byte
+ * of block 0 has other bits too. */
+static void hold_blocks(unsigned id, unsigned present, unsigned nb)
+{
+    core.present[id] = want.present[id] = (uint16_t)present;
+    core.blocks[208 * id] = want.blocks[208 * id] = (uint8_t)(nb << 4 | (id + nb + 9) % 16);
+}
+
+/* What that is answered. No start leads to a reserved NB in block 0, or to as many blocks as the total. */
+static void want_of(unsigned id, unsigned present, unsigned nb)
+{
+    static const uint8_t totals[16] = {0, 7, 8, 9, 10, 11, 12, 13, 14, 15, 16, 0, 0, 0, 0, 0};
+    unsigned held = 0, k;
+    for (k = 0; k < 16; k++)
+        held += present >> k & 1u;
+    want_progress[id].held = (uint8_t)held;
+    want_progress[id].missing = OSNMA_UNKNOWN_TOTAL;
+    if ((present & 1u) != 0)
+        want_progress[id].missing = (uint8_t)(totals[nb] > held ? totals[nb] - held : 0);
+}
+
+/* By states: one block of one DSM ID, and every marks with every NB. */
+static void test_any_blocks(void)
+{
+    unsigned id, k, nb, other, high;
+    start();
+    for (k = 0; k < OSNMA_BLOCKS_COUNT; k++)
+        core.blocks[k] = want.blocks[k] = (uint8_t)(k * 29 + k / 13);
+    want_nothing_held();
+    for (id = 0; id < OSNMA_DSM_IDS; id++) {
+        for (k = 0; k < 16; k++)
+            for (nb = 0; nb < 16; nb++) {
+                /* The others, without a block, have other NB. */
+                for (other = 0; other < OSNMA_DSM_IDS; other++)
+                    hold_blocks(other, 0, nb + other + 1);
+                hold_blocks(id, 1u << k, nb);
+                want_of(id, 1u << k, nb);
+                PROGRESS();
+            }
+        hold_blocks(id, 0, 0);
+        PROGRESS_OF(id, 0, OSNMA_UNKNOWN_TOTAL);
+    }
+    /* DSM ID by DSM ID, other marks and another NB. */
+    for (high = 0; high < 0x1000; high++)
+        for (k = 0; k < 16; k++) {
+            for (id = 0; id < OSNMA_DSM_IDS; id++) {
+                hold_blocks(id, high << 4 | (id + k) % 16, (id + high) % 16);
+                want_of(id, high << 4 | (id + k) % 16, (id + high) % 16);
+            }
+            PROGRESS();
+        }
+    /* Bytes of no start: 8 marks of 16, with block 0 and NB 10; all marks with a reserved NB. */
+    fill(0xA5);
+    for (id = 0; id < OSNMA_DSM_IDS; id++)
+        want_progress[id].held = want_progress[id].missing = 8;
+    PROGRESS();
+    fill(0xFF);
+    for (id = 0; id < OSNMA_DSM_IDS; id++) {
+        want_progress[id].held = 16;
+        want_progress[id].missing = 0;
+    }
+    PROGRESS();
+    start();
+    want_nothing_held();
+    PROGRESS();
+}
+
 /* ---- counts that are wrong, by the calls over single regions */
 
 enum { REGIONS = 16 };
@@ -1114,7 +1336,8 @@ enum {
     VERDICT_REGIONS = 0xBF01, /* config, pubkeys, offer, chain, numbers, heldkey, waiting, arrivals */
     SET_REGIONS = 0xC000,     /* sets, arrivals */
     FOUR_REGIONS = 0x8002,    /* clocks, arrivals */
-    MESSAGE_REGIONS = 0x0300  /* pubkeys, offer */
+    MESSAGE_REGIONS = 0x0300, /* pubkeys, offer */
+    PROGRESS_REGIONS = 0x0050 /* blocks, present */
 };
 
 #define LENT(n)                                                                                    \
@@ -1202,6 +1425,30 @@ static enum osnma_answer counted_read_message(const size_t *n)
     return answer;
 }
 
+/* What is lent has one element more than is right. */
+static enum osnma_answer counted_progress(const size_t *n)
+{
+    static uint8_t blocks[OSNMA_BLOCKS_COUNT + 1], right_blocks[OSNMA_BLOCKS_COUNT + 1];
+    static uint16_t present[OSNMA_PRESENT_COUNT + 1], right_present[OSNMA_PRESENT_COUNT + 1];
+    uint8_t out[2 * OSNMA_DSM_IDS + 1], right[2 * OSNMA_DSM_IDS + 1];
+    enum osnma_answer answer;
+    unsigned i;
+    memcpy(blocks, core.blocks, sizeof core.blocks);
+    memcpy(present, core.present, sizeof core.present);
+    memcpy(right_blocks, blocks, sizeof blocks);
+    memcpy(right_present, present, sizeof present);
+    memset(out, 0x5A, sizeof out);
+    memset(right, 0x5A, sizeof right);
+    answer = (enum osnma_answer)osnma_regions_progress(blocks, n[4], present, n[6], out, n[16]);
+    if (answer == OSNMA_DONE)
+        for (i = 0; i < 2 * OSNMA_DSM_IDS; i++)
+            right[i] = i % 2 == 0 ? want_progress[i / 2].held : want_progress[i / 2].missing;
+    CHECK(memcmp(out, right, sizeof out) == 0);
+    CHECK(memcmp(blocks, right_blocks, sizeof blocks) == 0);
+    CHECK(memcmp(present, right_present, sizeof present) == 0);
+    return answer;
+}
+
 /* Each count that the call is lent is in turn 0, then one less than right; `others` are the counts of the
  * other byte strings. */
 static void short_counts(enum osnma_answer (*call)(const size_t *), unsigned regions,
@@ -1240,11 +1487,25 @@ static void test_counts(void)
 {
     static const size_t of_start[3] = {28, 32, 67}, of_word[1] = {16}, of_verdict[2] = {45, 132},
                         of_set[1] = {69}, of_subframe[2] = {75, 3240};
-    static const size_t of_message[3] = {45, 132, 67};
+    static const size_t of_message[3] = {45, 132, 67}, of_progress[1] = {32};
+    unsigned i;
     start();
     hold_sets();
     note(osnma_gst(947, 432000));
     short_counts(counted_four, FOUR_REGIONS, NULL, 0, OSNMA_DONE);
+    start();
+    for (i = 0; i < OSNMA_DSM_IDS; i++) {
+        hold_blocks(i, 0x0123u + i, i);
+        want_of(i, 0x0123u + i, i);
+    }
+    short_counts(counted_progress, PROGRESS_REGIONS, of_progress, 1, OSNMA_DONE);
+    for (i = 0; i < 3; i++) {
+        size_t n[REGIONS + 3];
+        memcpy(n, right_counts, sizeof n);
+        n[16] = of_progress[0];
+        n[i == 0 ? 4 : i == 1 ? 6 : 16]++;
+        ANSWERS(counted_progress(n), OSNMA_WRONG_LENGTH);
+    }
     start();
     make_message(1, 0, 0, 947, 120);
     wait_for(3);
@@ -1312,6 +1573,8 @@ int main(int argc, char **argv)
     with_marks = 0;
     test_missing();
     test_four();
+    test_gathering();
+    test_any_blocks();
     test_counts();
     printf("%lu calls, %lu checks\n", calls, checks);
     return 0;

@@ -14,6 +14,7 @@ int main(void)
     unsigned i;
     printf("version %s, layout %u\n", OSNMA_VERSION, (unsigned)OSNMA_LAYOUT);
     printf("authentic at %u bits\n", (unsigned)OSNMA_AUTHENTIC_BITS);
+    printf("%u DSM IDs, unknown total %u\n", (unsigned)OSNMA_DSM_IDS, (unsigned)OSNMA_UNKNOWN_TOTAL);
     for (i = 0; i < 20; i++)
         printf("answer %u: %s\n", i, osnma_answer_text(i));
     for (i = 0; i < 11; i++)

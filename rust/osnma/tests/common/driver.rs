@@ -3,6 +3,7 @@
 use super::draw;
 use super::loose::{parts, refused, regions_of, WRONG};
 use super::stamps;
+use super::stores::{self, Told};
 use super::twin::{Answer, Call, Kind, Twin};
 use second_receiver::sets::{AuthenticSet, Candidate};
 use second_receiver::Receiver;
@@ -17,7 +18,7 @@ use std::fmt;
 use std::rc::Rc;
 
 /// The numbers that each call can answer, those of a sub-frame's HKROOT half.
-const ANSWERS: [(Kind, &[u32]); 7] = [
+const ANSWERS: [(Kind, &[u32]); 8] = [
     (Kind::Start, &[0, 1, 2]),
     (Kind::Word, &[0, 1, 2, 3, 4]),
     (Kind::Subframe, &[0, 1, 2, 3, 4, 5, 6, 7, 8, 9, 10, 17]),
@@ -25,6 +26,7 @@ const ANSWERS: [(Kind, &[u32]); 7] = [
     (Kind::ReadSet, &[0, 1, 2, 16]),
     (Kind::ReadMessage, &[0, 1, 14]),
     (Kind::Four, &[0, 1]),
+    (Kind::Progress, &[0, 1]),
 ];
 
 /// The numbers that a sub-frame's MACK half can answer.
@@ -76,6 +78,8 @@ pub struct Tally {
     events: BTreeMap<&'static str, u64>,
     /// Whether four satellites have a recent set: no, yes.
     asked: [u64; 2],
+    /// How far along the messages are, DSM ID by DSM ID.
+    told: Told,
     pub calls: u64,
     /// Most tag records of a sub-frame.
     pub records: usize,
@@ -93,14 +97,18 @@ impl Tally {
         self.records = self.records.max(answer.tags.len());
         let [no, yes] = answer.asked;
         self.asked = [self.asked[0] + no, self.asked[1] + yes];
-        self.question(0, no + yes);
+        self.question(Kind::Four, 0, no + yes);
+        let told = answer.told.iter().sum::<u64>();
+        self.question(Kind::Progress, 0, told / 16);
+        let sums = self.told.iter_mut().zip(answer.told);
+        sums.for_each(|(sum, count)| *sum += count);
         self.calls += 1;
     }
 
-    /// Questions whether four satellites have a recent set; they are no calls of the sequence.
-    fn question(&mut self, number: u32, count: u64) {
+    /// Questions between the calls; they are no calls of the sequence.
+    fn question(&mut self, kind: Kind, number: u32, count: u64) {
         if count > 0 {
-            *self.answers.entry((Kind::Four, number)).or_default() += count;
+            *self.answers.entry((kind, number)).or_default() += count;
         }
     }
 
@@ -125,6 +133,8 @@ impl Tally {
         let never = |outcome: &u8| !self.outcomes.contains_key(outcome);
         missing.extend((1..=9).filter(never).map(|n| format!("outcome {n}")));
         let told = ["four: no", "four: yes"].into_iter().zip(self.asked);
+        // Of what calls leave.
+        let told = told.chain(stores::TOLD.into_iter().zip(self.told).take(3));
         let never = told.filter(|(_, count)| *count == 0);
         missing.extend(never.map(|(what, _)| what.to_string()));
         missing
@@ -158,6 +168,8 @@ impl fmt::Display for Tally {
         writeln!(f, "{:>13}:{outcomes}", "outcomes")?;
         let [no, yes] = self.asked;
         writeln!(f, "{:>13}:  no: {no}  yes: {yes}", "four")?;
+        let told = counts(stores::TOLD.into_iter().zip(self.told));
+        writeln!(f, "{:>13}:{told}", "progress")?;
         writeln!(f, "{:>13}  most records of a sub-frame", self.records)?;
         for (event, count) in &self.events {
             writeln!(f, "{count:>13}  {event}")?;
@@ -405,6 +417,8 @@ pub struct Driver {
     rng: Rng,
     /// For what is asked between the calls.
     asks: Rng,
+    /// For questions with a wrong length but those for four satellites.
+    other_asks: Rng,
     tree: Tree,
     functions: Functions,
     pages: Pages,
@@ -436,6 +450,7 @@ impl Driver {
             left: 0,
             queue: Vec::new(),
             asks: Rng::new(!seed),
+            other_asks: Rng::new(seed.reverse_bits() ^ 9),
             rng,
             tally: Tally::default(),
         })
@@ -590,13 +605,17 @@ impl Driver {
 }
 
 impl Driver {
-    /// Asks whether four satellites have a recent set, with one lent length wrong.
+    /// Asks each question with one lent length wrong.
     fn wrong_question(&mut self) -> Result<(), String> {
         let (asks, regions) = (&mut self.asks, self.state.twin.core.regions());
-        let call = Call::Four(stamps::limit(asks, stamps::least_limit_of(regions)));
-        let (what, wrong) = (asks.pick(regions_of(&call)), *asks.pick(&WRONG));
-        refused(regions, &call, what, wrong).map_err(|error| format!("{error}, at {call:?}"))?;
-        self.tally.question(1, 1);
+        let four = Call::Four(stamps::limit(asks, stamps::least_limit_of(regions)));
+        for (call, asks) in [(four, asks), (Call::Progress, &mut self.other_asks)] {
+            let lent = [regions_of(&call), parts(&call)].concat();
+            let (what, wrong) = (asks.pick(&lent), *asks.pick(&WRONG));
+            refused(regions, &call, what, wrong)
+                .map_err(|error| format!("{error}, at {call:?}"))?;
+            self.tally.question(call.kind(), 1, 1);
+        }
         Ok(())
     }
 }

@@ -90,6 +90,7 @@ pub fn regions_of(call: &Call) -> &'static [&'static str] {
         Call::ReadSet(_) => &["sets", "arrivals"],
         Call::ReadMessage => &["pubkeys", "offer"],
         Call::Four(_) => &["clocks", "arrivals"],
+        Call::Progress => &["blocks", "present"],
     }
 }
 
@@ -103,6 +104,7 @@ pub fn parts(call: &Call) -> &'static [&'static str] {
         Call::ReadSet(_) => &["the set"],
         Call::ReadMessage => &["the message", "the signature", "the public key"],
         Call::Four(_) => &[],
+        Call::Progress => &["the pairs"],
     }
 }
 
@@ -209,6 +211,11 @@ fn answer(lent: &mut Loose, call: &Call, what: &str, wrong: Wrong) -> Result<u32
                 0 => Ok(number),
                 _ => Err("the answer is not no"),
             }
+        }
+        Call::Progress => {
+            let mut pairs = cut(&[0x5A; 32], "the pairs");
+            let number = lent.view().progress(&mut pairs);
+            stayed(&[&pairs], number)
         }
     }
 }

@@ -5,6 +5,7 @@
 //! - `loose`: calls with one lent length wrong;
 //! - `draw`: calls drawn at random, valid ones and ones to be refused;
 //! - `stamps`: clocks and arrivals of any contents, asked whether four tags are recent;
+//! - `stores`: blocks and marks of any contents, asked how far along each message is;
 //! - `driver`: long sequences of them from many states, with a tally of the answers.
 
 #![allow(dead_code)]
@@ -14,4 +15,5 @@ pub mod driver;
 pub mod expected;
 pub mod loose;
 pub mod stamps;
+pub mod stores;
 pub mod twin;

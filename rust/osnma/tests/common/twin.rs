@@ -2,6 +2,7 @@
 
 use super::expected::{difference, write_candidates_that_stood, write_known, Block};
 use super::stamps::{least_limit_of, limit};
+use super::stores::{self, Told};
 use osnma::regions::Regions;
 use osnma::{Core, Gst, Marks, Records, Settings, TagRecord};
 use second_receiver::four::met;
@@ -35,6 +36,8 @@ pub enum Call {
     ReadMessage,
     /// Whether four satellites have an authentic set within this limit.
     Four(u32),
+    /// How far along each message is.
+    Progress,
 }
 
 #[derive(Clone, Copy, Debug, PartialEq, Eq, PartialOrd, Ord)]
@@ -46,6 +49,7 @@ pub enum Kind {
     ReadSet,
     ReadMessage,
     Four,
+    Progress,
 }
 
 impl Call {
@@ -58,6 +62,7 @@ impl Call {
             Call::ReadSet(_) => Kind::ReadSet,
             Call::ReadMessage => Kind::ReadMessage,
             Call::Four(_) => Kind::Four,
+            Call::Progress => Kind::Progress,
         }
     }
 
@@ -72,13 +77,14 @@ impl Call {
 
 /// What both answered: the number, for a sub-frame the HKROOT half's; the MACK half's, else 0; and of
 /// each tag judged the PRN authenticated and the outcome. Then how often it was asked after the call whether four
-/// satellites have a recent set, by no and yes.
+/// satellites have a recent set, by no and yes, and what was told then of how far along the messages are.
 #[derive(Clone, Debug, Default, PartialEq, Eq)]
 pub struct Answer {
     pub number: u32,
     pub mack: u32,
     pub tags: Vec<(u8, u8)>,
     pub asked: [u64; 2],
+    pub told: Told,
 }
 
 impl From<u32> for Answer {
@@ -170,6 +176,11 @@ impl Twin {
             self.read_message()?;
         }
         answer.asked = self.ask()?;
+        self.progress()?;
+        if self.receiver.is_started() {
+            stores::tell(self.core.regions(), &mut answer.told);
+            same("told of what no call leaves", &answer.told[3..], &[0; 3])?;
+        }
         self.compare()?;
         Ok(answer)
     }
@@ -220,6 +231,7 @@ impl Twin {
             Call::ReadSet(prn) => return self.read_set(*prn).map(Answer::from),
             Call::ReadMessage => return self.read_message().map(Answer::from),
             Call::Four(limit) => return self.four(*limit).map(|_| Answer::from(0)),
+            Call::Progress => return self.progress().map(|()| Answer::from(0)),
         };
         same("answer", &got, &u32::from(right))?;
         Ok(got.into())
@@ -360,6 +372,22 @@ impl Twin {
         Ok(right)
     }
 
+    /// How far along each message is, by `Core` and below it, where the answer is written over any bytes. Before a start it
+    /// is about what the regions hold.
+    fn progress(&self) -> Result<(), String> {
+        let mut got = [[0x5A; 2]; 16];
+        let number = self.core.regions().view().progress(got.as_flattened_mut());
+        let right = match self.receiver.is_started() {
+            true => self.receiver.progress(),
+            false => stores::progress_of(&self.want),
+        };
+        same("progress", &(number, got), &(0, stores::pairs(right)))?;
+        let core = self.core.progress();
+        let core: Vec<_> = core.map(|m| (m.dsm_id, m.held, m.missing)).collect();
+        let right = (0..).zip(right).map(|(id, m)| (id, m.held, m.missing));
+        same("Core::progress", &core, &right.collect())
+    }
+
     /// The question with drawn limits: how often the answer was no and yes.
     fn ask(&mut self) -> Result<[u64; 2], String> {
         let least = least_limit_of(&self.want);
@@ -401,7 +429,11 @@ fn bytes(tag: &TagRecord) -> [u8; 12] {
     bytes
 }
 
-fn same<T: PartialEq + std::fmt::Debug>(what: &str, got: &T, right: &T) -> Result<(), String> {
+fn same<T: PartialEq + std::fmt::Debug + ?Sized>(
+    what: &str,
+    got: &T,
+    right: &T,
+) -> Result<(), String> {
     if got == right {
         Ok(())
     } else {

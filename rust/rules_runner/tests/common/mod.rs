@@ -55,6 +55,17 @@ fn same_four(run: &Run, receiver: &Receiver, all: bool) -> Result<(), String> {
     }
 }
 
+/// Whether the definitions and the second receiver say the same of how far along each message is.
+fn same_progress(run: &Run, receiver: &Receiver) -> Result<(), String> {
+    let told = run.progress(&[0x5A; 32]);
+    let right = receiver.progress();
+    let pairs = right.map(|of_id| [of_id.held, of_id.missing.unwrap_or(255)]);
+    match (told.number, told.pairs == pairs.as_flattened()) {
+        (0, true) => Ok(()),
+        (number, _) => Err(format!("progress {number} {:?}, not {right:?}", told.pairs)),
+    }
+}
+
 /// The second receiver one record on.
 fn go_on(receiver: &mut Receiver, record: &[u8]) {
     if let Ok(record) = record.try_into() {
@@ -62,8 +73,9 @@ fn go_on(receiver: &mut Receiver, record: &[u8]) {
     }
 }
 
-/// Where the definitions and the second receiver part on an input: lines, reads after it, candidates, or whether four
-/// satellites have a recent authentic set, after each record that can change it and at the end.
+/// Where the definitions and the second receiver part on an input: lines, reads after it, candidates, whether four
+/// satellites have a recent authentic set, after each record that can change it and at the end, or how far along each
+/// message is, after each record.
 #[allow(dead_code)]
 pub fn beside_second(rules: &Rules, input: &[u8]) -> Option<String> {
     let (mut beside, mut asked, mut place) = (Receiver::new(), Ok(()), 0);
@@ -76,17 +88,22 @@ pub fn beside_second(rules: &Rules, input: &[u8]) -> Option<String> {
         if asked.is_ok() && place == input.len().div_ceil(256) {
             asked = same_four(run, &beside, true);
         }
+        if asked.is_ok() {
+            asked = same_progress(run, &beside).map_err(|e| format!("record {place}: {e}"));
+        }
     });
-    let [mut lines, mut reads, mut candidates, mut four] = [const { Vec::new() }; 4];
+    let [mut lines, mut reads, mut candidates, mut four, mut progress] = [const { Vec::new() }; 5];
     let receiver = second::replay(input, &mut lines).unwrap();
     second::write_reads(&receiver, &mut reads).unwrap();
     second::write_candidates(&receiver, &mut candidates).unwrap();
     second::write_four(&receiver, &mut four).unwrap();
+    second::write_progress(&receiver, &mut progress).unwrap();
     let pairs = [
         ("lines", got.lines, lines),
         ("reads", got.reads, reads),
         ("candidates", got.candidates, candidates),
         ("four", got.four, four),
+        ("progress", got.progress, progress),
     ];
     let difference = pairs.into_iter().find_map(|(what, got, want)| {
         let difference = first_difference(&got, &String::from_utf8(want).unwrap())?;

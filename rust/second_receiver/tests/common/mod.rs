@@ -59,6 +59,13 @@ pub fn hkroot(header: u8, dsm_id: u8, block_id: u8, block: &[u8]) -> Vec<u8> {
     [&[header, dsm_id << 4 | block_id], block].concat()
 }
 
+/// Block 0 of a DSM of `count` blocks.
+pub fn block_0(count: u8) -> [u8; 13] {
+    let mut block = [3; 13];
+    block[0] = (count - 6) << 4;
+    block
+}
+
 /// The five words of a satellite, made from a seed; types, IODnav and SVID as given.
 pub fn words(prn: u8, iodnav: u16, seed: u8) -> [[u8; 16]; 5] {
     let mut words = [[0; 16]; 5];

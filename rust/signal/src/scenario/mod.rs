@@ -10,6 +10,7 @@ mod four;
 mod gathering;
 mod lost;
 mod parameters;
+mod progress;
 mod random;
 mod realistic;
 mod refusals;
@@ -472,6 +473,31 @@ const ALL: &[Scenario] = &[
         "four_starts",
         "four sets, refused starts and accepted ones",
         four::starts,
+    ),
+    scenario(
+        "progress_cold_start",
+        "a root's blocks in any order, repeats, block 0 first and last; taken or refused when complete",
+        progress::cold_start,
+    ),
+    scenario(
+        "progress_ids",
+        "messages of all DSM IDs side by side, DSM-PKR among them",
+        progress::identities,
+    ),
+    scenario(
+        "progress_drops",
+        "blocks that go by header, other bytes, a lower count or age",
+        progress::drops,
+    ),
+    scenario(
+        "progress_refused",
+        "blocks with a reserved NB, too high or not whole, and sub-frames that are refused",
+        progress::refused,
+    ),
+    scenario(
+        "progress_stopped",
+        "half a message, an emergency message, refused starts and accepted ones",
+        progress::stopped,
     ),
 ];
 
