@@ -1,3 +1,5 @@
+#![tactic(auto)]
+
 // AES encryption (FIPS 197) for keys of 128, 192 and 256 bits. What each function gives is its definition in specs/Aes.antt.
 // Public calls:
 //   rounds_of    how many rounds a key of n bytes has

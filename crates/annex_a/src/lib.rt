@@ -1,3 +1,5 @@
+#![tactic(auto)]
+
 // Annex A of 000 at the rules: a function carries its vectors in its contract.
 ghost use Rattle.annex_a.specs.Vectors.{AnnexA};
 

@@ -1,3 +1,5 @@
+#![tactic(auto)]
+
 // The contracts of the exported calls are the rules, and demand 3 holds of every run of them: a function carries the claim in its contract.
 ghost use Rattle.assurance.specs.Run.{ExportedClaim};
 

@@ -1,3 +1,5 @@
+#![tactic(auto)]
+
 // The authentic set of each satellite and the candidate beside it (01, "MACK"; 02, P4, "Forty bits before a yes").
 // `sets` has 72 places of 69 bytes: the authentic sets, then the candidates. `arrivals` has for each place the stamp of its latest tag's arrival,
 // its time plus 1, or 0 where there is none, and then for each satellite the tag bits that agree on its candidate.

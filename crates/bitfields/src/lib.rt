@@ -1,3 +1,5 @@
+#![tactic(auto)]
+
 // Bit fields of byte strings (01: "high byte first; bit 0 is the most significant").
 // A field is read by whole bytes and then shifted and masked.
 // Public calls:

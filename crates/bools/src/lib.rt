@@ -1,3 +1,5 @@
+#![tactic(auto)]
+
 // Tests joined, and a test as a number.
 ghost use Rattle.std.specs.Prelude.{◌≡◌, cond, ◌&&◌, ◌||◌};
 

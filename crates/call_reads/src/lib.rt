@@ -1,3 +1,5 @@
+#![tactic(auto)]
+
 // The calls that only ask (01, "Verdicts", "MACK"; 02, P5, P9), over the lent regions that they read; they write none of them. The caller has seen that every
 // length is right, and hands in numbers that are 0: where a read is refused, the lent bytes and the numbers stay.
 //   read_set        a PRN's authentic set, its IODnav and its tag's GST_SF

@@ -1,3 +1,5 @@
+#![tactic(auto)]
+
 // A start of the core (01, "Start gives one MACLT number .."): what refuses it, and what an accepted one writes, in two calls over eight of the sixteen
 // lent regions each.
 //   start_refusal       the number that refuses a start: 1 for a length, 2 for a setting out of range, or 0

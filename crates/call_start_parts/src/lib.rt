@@ -1,3 +1,5 @@
+#![tactic(auto)]
+
 // The parts of a start (01, "Start gives one MACLT number .."), each over the regions that it reads or writes: what refuses its settings, and what it
 // writes.
 //   start_unfit      NS, key ID, key type or a mark out of range (row 2)

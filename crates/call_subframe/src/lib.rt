@@ -1,3 +1,5 @@
+#![tactic(auto)]
+
 // The call that lends the authentication fields of a sub-frame (01, "HKROOT", "MACK"; "Checks go 1, 2, 4, 3, 5"), past the check of lengths.
 //   take_subframe       the call: 2, 4, 3 or 5 for both halves, or the time is noted and both halves are done
 ghost use Rattle.std.specs.Prelude.{◌≡◌, true, List, ℕ, length};
@@ -9,7 +11,7 @@ ghost use Rattle.rules.specs.State.{numbers_length, heldkey_length, waiting_leng
 ghost use Rattle.regions.specs.Told.{subframe_told, subframe};
 
 // What the call gives: a number for each half, and how many tag records were written.
-#[derive(Drop)]
+#[derive(Clone, Copy)]
 pub struct Halves {
     pub hkroot: u32,
     pub mack: u32,

@@ -1,3 +1,5 @@
+#![tactic(auto)]
+
 // A verdict of the signature chip (01, "Verdicts"), over the lent regions that it reads or writes. The caller has seen that every length is right.
 //   judge_verdict    the call: any bytes and numbers
 //   judge_named      the same for a verdict in range, of a core that is not stopped

@@ -1,3 +1,5 @@
+#![tactic(auto)]
+
 // The tests of a verdict (01, "Verdicts", and rows 14, 15, 11 and 9 of its table). Each function gives what the definition of the same name
 // in rules/specs/Verdict.antt gives, for every state with the lent regions. `c` are the contents of a message (its bytes after the
 // NMA header).

@@ -1,3 +1,5 @@
+#![tactic(auto)]
+
 // An I/NAV word (01, "MACK"), over the lent regions that it reads or writes. The caller has seen that every length is right.
 //   take_word       the call: any bytes, PRN and time
 //   word_refusal    the number that refuses it: 2, 4, 3, or 0

@@ -1,3 +1,5 @@
+#![tactic(auto)]
+
 // The TESLA key chain (01, "Times and slots", "MACK"; 000, 5.4). What each function gives is its definition in rules/specs/Chain.antt.
 // A key is the first `width` bytes of 32; the bytes after them stay as they are. One proof serves every width.
 // Public calls:
@@ -20,7 +22,7 @@ ghost use Rattle.chain.specs.Sound.{Walks, ByCompress, Sponge, Framed, Met, OnWa
 use rules::Chain;
 
 // Keys that were met on the way down from the held one: `met`, of slot `near`, and `own`, of slot `low`. Which keys these are changes no answer.
-#[derive(Drop)]
+#[derive(Clone, Copy)]
 pub struct Way {
     pub near: u64,
     pub met: [u8; 32],
@@ -187,7 +189,7 @@ pub fn key_on_way(c: Chain, held: u64, way: Way, m: u64, key: &mut [u8; 32])
 // ---- the key of one slot checked against that of another
 
 // Whether a key fits, and a key that was met on the way between the two: `here`, of slot `stop`.
-#[derive(Drop)]
+#[derive(Clone, Copy)]
 pub struct Fit {
     pub fits: bool,
     pub stop: u64,

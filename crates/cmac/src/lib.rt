@@ -1,3 +1,5 @@
+#![tactic(auto)]
+
 // CMAC with AES (NIST SP 800-38B; RFC 4493 for a key of 128 bits), for messages of any length.
 // What each function gives is its definition in specs/Cmac.antt.
 // Public calls:

@@ -1,3 +1,5 @@
+#![tactic(auto)]
+
 // What becomes of the waiting tags that are due (01, "MACK": "A waiting tag is due once the held slot reaches its key's slot").
 // The keys of due tags are taken on one way down the chain, in falling slot order: each step of the chain is done at most once, however many
 // tags are due. The way begins at the held key, or below it at a key that was met while the held one was proved.

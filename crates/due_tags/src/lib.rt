@@ -1,3 +1,5 @@
+#![tactic(auto)]
+
 // The sweep of the waiting tags (01, "MACK": "Due tags are judged in arrival order before the section's own, and free their places").
 // A tag that is due gets its record, and where it agrees with its set, the satellite's sets follow (02, P4); the others close up, in order.
 // `judge_due` is the public call: keys, outcomes, records, sets and places.

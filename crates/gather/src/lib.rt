@@ -1,3 +1,5 @@
+#![tactic(auto)]
+
 // DSM blocks, gathered per DSM ID from all satellites (01, "HKROOT"), and the split of a sub-frame's 75 bytes that brings them.
 // The store is lent as four regions: 16 blocks of 13 bytes for each of 16 IDs, and for each ID the NMA header, the marks of the blocks
 // present and the time of the first. Each function gives what the definition of the same name in rules/specs/Gather.antt gives.
@@ -10,7 +12,7 @@ ghost use Rattle.rules.specs.State.{blocks_length, dsm_ids};
 ghost use Rattle.gather.specs.Store.{Lent, store, told, Sized};
 
 // What the coming of a block gives.
-#[derive(Drop)]
+#[derive(Clone, Copy)]
 pub enum Gathered {
     // The block is stored; its DSM is not complete.
     Stored,

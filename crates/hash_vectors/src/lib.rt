@@ -1,3 +1,5 @@
+#![tactic(auto)]
+
 // The definitions of SHA-256, SHA-3, HMAC, AES and CMAC at published examples of up to three blocks, computed by the prover: a function carries them in its
 // contract.
 ghost use Rattle.hash_vectors.specs.Aes.{AesExamples};

@@ -1,3 +1,5 @@
+#![tactic(auto)]
+
 // The HKROOT half of a sub-frame (01, "HKROOT", "Verdicts"): a block is gathered, and a complete DSM is judged.
 //   hkroot_received   the half, over the regions that it may write: 17 where a field is missing
 //   hkroot_half       the half of which every byte came
@@ -15,7 +17,7 @@ ghost use Rattle.hkroot_half.specs.Done.{done, gathering};
 use gather::Gathered;
 
 // What the half gives: its number, and whether a proved emergency message came.
-#[derive(Drop)]
+#[derive(Clone, Copy)]
 pub struct Half {
     pub code: u32,
     pub stops: bool,

@@ -1,3 +1,5 @@
+#![tactic(auto)]
+
 // HMAC with SHA-256 (FIPS 198-1), for keys of any length. What each function gives is its definition in specs/Hmac.antt.
 // Public calls:
 //   hmac        the code of a message under a key
@@ -7,7 +9,7 @@ ghost use Rattle.std.specs.Prelude.{◌≡◌, ◌≤◌, ◌<◌, ◌+◌, ◌^
 ghost use Rattle.hmac.specs.Hmac as Spec;
 
 // The hash values after a key's two pads: all that has to be known of a key to authenticate any message under it.
-#[derive(Drop)]
+#[derive(Clone, Copy)]
 pub struct HmacKey {
     pub inner: [u32; 8],
     pub outer: [u32; 8],

@@ -1,3 +1,5 @@
+#![tactic(auto)]
+
 // DSM-KROOT, the message that waits and the chain's parameters (01, "HKROOT" and "Verdicts"; 000, 3.3 and 5.1). Each function gives what
 // the definition of the same name in rules/specs/Kroot.antt or Verdict.antt gives.
 // Public calls:

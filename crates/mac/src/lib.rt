@@ -1,3 +1,5 @@
+#![tactic(auto)]
+
 // The code of a message under the function that a chain's MF names (000, table 11; 02, P1): CMAC-AES for 1, else HMAC-SHA-256. All tags and
 // MACSEQ go through here. What is kept of a key is lent: 273 bytes, whichever the function (specs/Kept.antt).
 // Public calls:

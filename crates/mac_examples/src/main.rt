@@ -1,3 +1,5 @@
+#![tactic(auto)]
+
 // The published examples of AES (FIPS 197, appendices B and C) and of CMAC (RFC 4493 for a key of 128 bits, NIST SP 800-38B for longer
 // ones). Each line names the example and gives the block or the code; the expected output is the documents'.
 use libc::STDOUT_FILENO;

@@ -1,3 +1,5 @@
+#![tactic(auto)]
+
 // A MACK section of 60 bytes, read by a cursor that counts used bits (01, "MACK"; 000, 4). Fields and keys are taken off in order, block by
 // block, through the reader of `mack_reader`. What is read is its definition in rules/specs/Mack.antt; one proof serves every width.
 // Public calls:
@@ -13,13 +15,13 @@ ghost use Rattle.mack.specs.Read.{field_taken, field_read, block_read};
 use rules::Chain;
 
 // Bits of the section that are used.
-#[derive(Drop)]
+#[derive(Clone, Copy)]
 pub struct Cursor {
     pub used: usize,
 }
 
 // A field: its tag, its PRN, ADKD and IOD, and the cursor at the next field.
-#[derive(Drop)]
+#[derive(Clone, Copy)]
 pub struct Field {
     pub tag: u64,
     pub info: u16,
@@ -27,7 +29,7 @@ pub struct Field {
 }
 
 // A block's key in the first bytes of 32, its spare bits as a number, and the cursor at the next block.
-#[derive(Drop)]
+#[derive(Clone, Copy)]
 pub struct Block {
     pub key: [u8; 32],
     pub spare: u64,

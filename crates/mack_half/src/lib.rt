@@ -1,3 +1,5 @@
+#![tactic(auto)]
+
 // The MACK half of a sub-frame (01, "MACK"; "section 11, then block by block 13, 12"; 02, P3: 17 before 11): the section is refused, or its keys
 // are proved and its tags judged: those that waited and are due, then its own.
 //   mack_half      the half, over the regions that it touches
@@ -76,7 +78,7 @@ fn prove_keys(
 // ---- tags
 
 // How many tags wait after a section, and how many records it wrote.
-#[derive(Drop)]
+#[derive(Clone, Copy)]
 pub struct Judged {
     pub kept: usize,
     pub records: usize,
@@ -140,7 +142,7 @@ fn judge_tags(
 // ---- the half
 
 // What the half gives: its number, and how many tag records were written.
-#[derive(Drop)]
+#[derive(Clone, Copy)]
 pub struct Mack {
     pub code: u32,
     pub count: usize,

@@ -1,3 +1,5 @@
+#![tactic(auto)]
+
 // The items of a MACK section of which fields may be missing (02, P3; 01, "MACK"): each with the answer whether every bit of it came.
 // Public calls:
 //   tag_item, info_item      a field's tag, and its PRN, ADKD and IOD

@@ -1,3 +1,5 @@
+#![tactic(auto)]
+
 // The keys of a MACK section (01, "MACK"; 000, 4 and 5.4), read block by block and checked. What is judged is its definition in
 // rules/specs/Mack.antt and, where fields are missing, in rules/specs/Received.antt. `keys_proved` is the public call: 13, 12 or 0 for the
 // whole section, and the highest key proved.
@@ -19,7 +21,7 @@ use mack::Cursor;
 use rules::Chain;
 
 // What the keys of the first blocks give: 0, 12 or 13, the slot of the highest key proved, and the keys that were kept on the way.
-#[derive(Drop)]
+#[derive(Clone, Copy)]
 pub struct Keys {
     pub code: u32,
     pub slot: u64,

@@ -1,3 +1,5 @@
+#![tactic(auto)]
+
 // A reader over a lent MACK section that counts used bits (01, "MACK"): a struct that holds the slice and the count, and thin functions
 // over it. Each takes it apart and calls a function on the slice and the numbers; each is proved by a walk of its MIR, by hand.
 // Public calls, on a plain slice and numbers, so that whoever calls them needs no such proof:
@@ -10,7 +12,7 @@ ghost use Rattle.rules.specs.Bits.{bits, bytes_at};
 ghost use Rattle.mack_reader.specs.Read.{after, taken, Left, key_taken, KeyLeft, field_taken, FieldLeft, block_taken, BlockLeft};
 
 // A field taken off: its tag, its PRN, ADKD and IOD, and how many bits are then used.
-#[derive(Drop)]
+#[derive(Clone, Copy)]
 pub struct Field {
     pub tag: u64,
     pub info: u64,
@@ -19,7 +21,7 @@ pub struct Field {
 
 // What follows the fields of a block, taken off: the key in the first bytes of 32, the spare bits as a number, and how many bits are then
 // used.
-#[derive(Drop)]
+#[derive(Clone, Copy)]
 pub struct Block {
     pub key: [u8; 32],
     pub spare: u64,
@@ -67,21 +69,21 @@ pub fn take_macseq(section: &[u8], ms: usize) -> u64
 // ---- the reader
 
 // The lent section, and how many of its bits are used.
-#[derive(Drop)]
+#[derive(Clone, Copy)]
 struct Reader<'a> {
     section: &'a [u8],
     used: usize,
 }
 
 // A number taken off, and the reader after it.
-#[derive(Drop)]
+#[derive(Clone, Copy)]
 struct Read<'a> {
     value: u64,
     next: Reader<'a>,
 }
 
 // A key taken off, in the first bytes of 32, and the reader after it.
-#[derive(Drop)]
+#[derive(Clone, Copy)]
 struct KeyRead<'a> {
     key: [u8; 32],
     next: Reader<'a>,

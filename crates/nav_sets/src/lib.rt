@@ -1,3 +1,5 @@
+#![tactic(auto)]
+
 // A navigation set's 69 bytes (01, "Authenticated are bits 6 to 125 of words 1, 2, 4, .."), gathered in one pass over its five words.
 // The words are read in order, eight bytes at a time, and the set is written in order, eight bytes at a time: each byte of the words is
 // read once and each byte of the set is written once. Eight bytes of the set are the end of one number that was read and the front of the next.

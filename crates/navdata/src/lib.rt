@@ -1,3 +1,5 @@
+#![tactic(auto)]
+
 // I/NAV words and navigation sets (01, "A word is 16 bytes, type in bits 0 to 5 ..").
 // `words` holds words 1 to 5 of 36 satellites, 16 bytes each; `stamps` holds the stamp of each word's sub-frame, its time plus 1, or 0
 // where no word is held.

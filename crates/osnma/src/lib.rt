@@ -1,3 +1,5 @@
+#![tactic(auto)]
+
 // The boundary to C and Rust: the calls over lent regions, as exported functions. A slice is two arguments, a pointer and a count of elements.
 // include/osnma.h and rust/osnma have the calls over one object. Nobody but these calls writes the regions between a start and the last call, and the
 // regions do not overlap.

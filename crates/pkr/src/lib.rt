@@ -1,3 +1,5 @@
+#![tactic(auto)]
+
 // DSM-PKR: the new public key, its place in the tree, and what a complete message changes (01, "HKROOT"; 000, 3.4, 5.2 and 5.3). Each
 // function gives what the definition of the same name in rules/specs/Pkr.antt gives.
 // Public call:
@@ -8,7 +10,7 @@ ghost use Rattle.rules.specs.Pkr as S;
 ghost use Rattle.rules.specs.State.{pubkeys_length};
 
 // What a complete DSM-PKR is answered: its number, and whether it stops the core (an emergency message that is proved).
-#[derive(Drop)]
+#[derive(Clone, Copy)]
 pub struct Renewal {
     pub code: u32,
     pub stops: bool,

@@ -1,3 +1,5 @@
+#![tactic(auto)]
+
 // The public keys held (01, "HKROOT" and "Verdicts"), in a region of 16 places of 68 bytes. Each function gives what the definition of
 // the same name in rules/specs/Keys.antt gives. A key ID is below 16; key types are 0 to 3.
 // Public calls:

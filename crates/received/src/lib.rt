@@ -1,3 +1,5 @@
+#![tactic(auto)]
+
 // Fields of a sub-frame that came, and items of a MACK section of which every bit came (02, P3). Each function gives what the definition of the
 // same name in rules/specs/Received.antt gives.
 // Public calls:
@@ -72,7 +74,7 @@ pub fn received(marks: u16, f: &[u8]) -> [u8; 75]
 // ---- the items of a MACK section
 
 // A number taken off a section, or that one of its bits is lost.
-#[derive(Drop)]
+#[derive(Clone, Copy)]
 pub enum Item {
     Came(u64),
     Lost,

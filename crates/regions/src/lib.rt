@@ -1,3 +1,5 @@
+#![tactic(auto)]
+
 // Accessors over the memory that the caller lends: sixteen regions (rules, State.antt), of which a call is lent what it touches; nobody else writes
 // them. Their lengths stand here alone. Each function gives what the definition of its name in State.antt gives.
 //   shaped, word_shaped, verdict_shaped, set_shaped, offer_shaped, four_shaped, progress_shaped    what a call is lent has its lengths (01, row 1)

@@ -1,3 +1,5 @@
+#![tactic(auto)]
+
 // The replay program (01, "The replay program"): records of 256 bytes on standard input, lines on standard output (A84). `replay_records` does the work
 // on the records; this program only reads and writes. It reads 16 records at a time and writes their lines at once, and stops where a write fails.
 ghost use Rattle.std.specs.Prelude.{◌≤◌, length};

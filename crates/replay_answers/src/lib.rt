@@ -1,3 +1,5 @@
+#![tactic(auto)]
+
 // The replay program's calls (01, "The replay program"): a record as a call of the core, and the numbers that the program gives itself.
 //   answer                 the answers to a record: a short one, one of kinds 1 to 4 or 6, or another
 //   start, word, subframe, verdict    a record of that kind: its parts are lent to the call, with the regions that the call reads or writes
@@ -15,7 +17,7 @@ use regions::{
 };
 
 // The two answers to a record, and the count of tag records at the front of the area.
-#[derive(Drop)]
+#[derive(Clone, Copy)]
 pub struct Answers {
     pub first: u32,
     pub second: u32,

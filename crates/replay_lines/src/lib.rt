@@ -1,3 +1,5 @@
+#![tactic(auto)]
+
 // The text that the replay program prints for a record (01, "The replay program"), written into a lent slice.
 //   put_lines       all lines of a record
 //   answer_line     its first: its place, its two answers, its tag record count

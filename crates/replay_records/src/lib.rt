@@ -1,3 +1,5 @@
+#![tactic(auto)]
+
 // The replay program's work on its records (01, "The replay program"): their answers, and their lines into a lent slice. The program `replay` only
 // reads and writes.
 //   replay_piece     a piece of the input: records one after the other, of which the last may be short

@@ -1,9 +1,11 @@
+#![tactic(auto)]
+
 // The types that the rules, the leaves and the calls share. The rules themselves are definitions in specs/; the functions do nothing, their
 // contracts carry what is proved of the rules beside the claim.
 ghost use Rattle.rules.specs.Known.{KnownPoints, TagTruncation};
 
 // The numbers of the chain in force, read once for a call (000, table 7).
-#[derive(Drop)]
+#[derive(Clone, Copy)]
 pub struct Chain {
     // satellites with keys of their own in a block
     pub ns: u64,
@@ -26,7 +28,7 @@ pub struct Chain {
 }
 
 // A tag with what its message needs beside the set.
-#[derive(Drop)]
+#[derive(Clone, Copy)]
 pub struct Tag {
     // the satellite that sent it, and the one whose set it authenticates
     pub sender: u8,
@@ -44,7 +46,7 @@ pub struct Tag {
 }
 
 // What a tag is found to be (01, "Tag outcomes"). The definition `outcome_number` of specs/Outcomes.antt gives its number.
-#[derive(Drop)]
+#[derive(Clone, Copy)]
 pub enum Outcome {
     // It agrees with its set: its record has outcome 1 or 9, by the tag bits that agree on that set (02, P4).
     Agrees,
@@ -59,7 +61,7 @@ pub enum Outcome {
 }
 
 // How far along the message of a DSM ID is (02, P9). The definition `pair_of` of specs/Progress.antt gives its two numbers.
-#[derive(Drop)]
+#[derive(Clone, Copy)]
 pub enum Progress {
     // Blocks held; block 0 is not among them, so that the total is unknown.
     Unknown(u8),

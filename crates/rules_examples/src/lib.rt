@@ -1,3 +1,5 @@
+#![tactic(auto)]
+
 // A worked run of the calls, and steps of a chain with SHA3, computed over the rules: functions carry them in their contracts. It is a crate of its own
 // so that a change of the rules is checked quickly.
 ghost use Rattle.rules_examples.specs.Sha3Steps.{Sha3Steps};

@@ -1,3 +1,5 @@
+#![tactic(auto)]
+
 // A section against the chain in force (01, row 11), before its keys are looked at.
 //   section_unfit    row 11: no chain, status 0 or 3, other CID, or before sub-frame 0
 //   chain_of         the numbers of the chain in force

@@ -1,3 +1,5 @@
+#![tactic(auto)]
+
 // Fields of a section that are lost (02, P3), by the marks of what came.
 //   macseq_came    MACSEQ and the MAC-Info of every flexible field came
 //   field_lost     a field has outcome 8 before any other

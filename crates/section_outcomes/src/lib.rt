@@ -1,3 +1,5 @@
+#![tactic(auto)]
+
 // Outcomes of a section's own tags (01, "Tag outcomes"), and the key that they are judged by.
 //   block_key, next_key   what is kept of the key of a block: all tags without delay of a block use one key, made once, from the nearest key that was
 //                         met while the section's keys were proved

@@ -1,3 +1,5 @@
+#![tactic(auto)]
+
 // The section's own tags (01, "MACK", "Tag outcomes"): field by field, each gets its outcome, its record, and where it agrees with its set, the
 // satellite's sets follow (02, P4); a tag whose key is still to come waits with a copy of its set. A field of which too much is lost has outcome 8
 // before any other (02, P3). `judge_own` is the public call.

@@ -1,3 +1,5 @@
+#![tactic(auto)]
+
 // SHA3-224 and SHA3-256 (FIPS 202). What each function gives is its definition in specs/Sha3.antt, which follows the standard's sections.
 // Public calls:
 //   sha3_224, sha3_256     the digest of a message

@@ -1,3 +1,5 @@
+#![tactic(auto)]
+
 // What refuses both halves of a sub-frame (01, "Checks go 1, 2, 4, 3, 5"), past the check of lengths.
 //   subframe_refusal    the number that refuses both halves, or 0
 //   out_of_order        row 3

@@ -1,3 +1,5 @@
+#![tactic(auto)]
+
 // Tag and MACSEQ messages and their codes (000, 5.5 and 5.6; 01, "MACK"), by the function that the chain's MF names. A key is given as what `mac`
 // keeps of it, made once for all tags of a slot. A code is compared by its first bits as a number; one proof serves every tag width.
 // Public calls:

@@ -1,3 +1,5 @@
+#![tactic(auto)]
+
 // Tag records, and what a tag does beside its record (01, "A tag record has 12 bytes"; 02, P4, "Forty bits before a yes"). Due tags and the
 // section's own tags alike end here.
 // Public calls:

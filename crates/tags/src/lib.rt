@@ -1,3 +1,5 @@
+#![tactic(auto)]
+
 // The tags of a MACK section, the marks that say which ADKD a field has, and outcomes (01, "MACK"; 000, 4). One proof serves every tag width.
 // Public calls:
 //   own_tag, lost_tag                    a field as a tag; what the record of a lost one says

@@ -1,3 +1,5 @@
+#![tactic(auto)]
+
 // SHA-256, SHA-3 and HMAC as exported functions. Each call lends everything and keeps nothing; a slice is a pointer and a count of elements.
 // Each answers 0, or 1 where a length is not as it must be, and then leaves everything as it was (specs/Calls.antt).
 // For the tests and the benchmark; it is no part of the receiver's own boundary.

@@ -1,3 +1,5 @@
+#![tactic(auto)]
+
 // Leaves as exported functions: those that Annex A's vectors and the benchmark run by themselves. It is no part of
 // the receiver's own boundary. A module `of_NAME` has the functions of the crate NAME. Each function asks what its leaf asks, gives
 // what its leaf gives, and calls it once; the walk down a key chain alone is total. A chain and a tag are given as numbers, those that the leaf

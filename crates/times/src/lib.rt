@@ -1,3 +1,5 @@
+#![tactic(auto)]
+
 // Galileo System Time, sub-frames and key slots as numbers (01, "Times and slots"): each function gives what the definition of the same
 // name in rules/specs/Times.antt gives.
 ghost use Rattle.std.specs.Prelude.{◌≡◌, ◌-◌, ◌%◌, ◌^◌, ◌≤◌, ◌<◌};

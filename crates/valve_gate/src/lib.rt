@@ -1,3 +1,5 @@
+#![tactic(auto)]
+
 // The valve gate (02, P14): "Per half minute it decides for each of 48 valves: closed, or free to follow the dose map." It sees what the core answers:
 // the numbers of its calls, which it is shown, and its two questions, whether four satellites have an authentic set no older than 20 sub-frames, and no
 // older than 10. Of the core's functions it uses that exported question alone, and knows its contract.

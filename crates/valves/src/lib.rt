@@ -1,3 +1,5 @@
+#![tactic(auto)]
+
 // The 48 valves (02, P14): one valve's decision, a decision of all, what the core's answers tell, over the gate's 49 bytes (`valve_rules`, Gate.antt).
 // Nothing of the core is lent here: what is known of it are the numbers that it answered.
 ghost use Rattle.std.specs.Prelude.{◌≡◌, ◌≤◌, length};

@@ -1,3 +1,5 @@
+#![tactic(auto)]
+
 // Tags that wait for their key (01, "MACK"): 256 places, an entry each, in arrival order. What an entry holds is `tag_entry`
 // of rules/specs/Tags.antt.
 // Public calls:

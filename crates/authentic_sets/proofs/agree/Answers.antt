@@ -1,0 +1,57 @@
+-- `authentic_sets::agree` meets its contract: which place has these bits, the tests say; what is written there is the definition's own.
+use mathlib.Core.Path.{◌≡◌, ap, sym, ◌∙◌}
+use Prim.Native.Nat.{ℕ, ◌+◌, ◌≤◌}
+use lib.ListN.{length}
+use Rattle.rules.specs.State.{sets_length, arrivals_length, copy_length}
+use Rattle.rules.specs.Times.{stamp_of}
+use Rattle.authentic_sets.proofs.Agreed.{on_set_law, on_candidate_lem, too_old, anew}
+use borrow.Author.Rules.{rules}
+use Rattle.authentic_sets.proofs.agree.Goals as goal
+use Rattle.authentic_sets.proofs.agree.Goals.{Start}
+
+-- what the contract asks for
+sets-long : (s : Start) → length s.args.sets.now ≡ sets_length
+sets-long s = search rules
+
+arrivals-long : (s : Start) → length s.args.arrivals.now ≡ arrivals_length
+arrivals-long s = search rules
+
+set_long : (s : Start) → length s.args.set.now ≡ copy_length
+set_long s = search rules
+
+named : (s : Start) → (1 ≤ s.args.t.prn) × (s.args.t.prn ≤ 36)
+named s = search rules
+
+pub returns-then-holds : goal.returns-then-holds
+unfolding stamp_of
+returns-then-holds c =
+    let g = c.args in
+    on_set_law g.sets.now g.arrivals.now g.t.prn g.set.now (sets-long (goal.at.returns-then-holds c).Start) (arrivals-long (goal.at.returns-then-holds c).Start) (set_long (goal.at.returns-then-holds c).Start) (named (goal.at.returns-then-holds c).Start).0 (named (goal.at.returns-then-holds c).Start).1
+    g.ms (g.t.time + 1) c.later_stamp.result (sym c.holds.ensures ∙ c.if-holds.true) c.later_stamp.ensures
+
+pub returns-then-holds-2 : goal.returns-then-holds-2
+unfolding stamp_of
+returns-then-holds-2 c =
+    let g = c.args in
+    on_candidate_lem g.sets.now g.arrivals.now g.t.prn g.set.now (sets-long (goal.at.returns-then-holds-2 c).Start) (arrivals-long (goal.at.returns-then-holds-2 c).Start) (set_long (goal.at.returns-then-holds-2 c).Start) (named (goal.at.returns-then-holds-2 c).Start).0 (named (goal.at.returns-then-holds-2 c).Start).1
+    g.ms (g.t.time + 1) (sym c.holds.ensures ∙ c.if-holds.false)
+    (c.wide.result + g.ms) c.later_stamp-then-holds-2.result c.sum.new.0 c.sum.new.1.0 c.sum.result
+    (sym c.holds-2.ensures ∙ c.if-holds-2.true) (ap (λ (x : ℕ). x + g.ms) c.wide.ensures.0) c.later_stamp-then-holds-2.ensures
+    c.sum.ensures
+
+pub returns-then-stamp-latest : goal.returns-then-stamp-latest
+unfolding stamp_of
+returns-then-stamp-latest c =
+    let g = c.args in
+    too_old g.sets.now g.arrivals.now g.t.prn g.set.now (sets-long (goal.at.returns-then-stamp-latest c).Start) (arrivals-long (goal.at.returns-then-stamp-latest c).Start) (set_long (goal.at.returns-then-stamp-latest c).Start) (named (goal.at.returns-then-stamp-latest c).Start).0 (named (goal.at.returns-then-stamp-latest c).Start).1
+    g.ms (g.t.time + 1) (sym c.holds.ensures ∙ c.if-holds.false)
+    (sym c.holds-2.ensures ∙ c.if-holds-2.false) c.if-stamp-latest.true
+
+pub returns : goal.returns
+unfolding stamp_of
+returns c =
+    let g = c.args in
+    anew g.sets.now g.arrivals.now g.t.prn g.set.now (sets-long (goal.at.returns c).Start) (arrivals-long (goal.at.returns c).Start) (set_long (goal.at.returns c).Start) (named (goal.at.returns c).Start).0 (named (goal.at.returns c).Start).1
+    g.ms (g.t.time + 1) (sym c.holds.ensures ∙ c.if-holds.false)
+    c.sum-2.new.0 c.sum-2.new.1.0 c.sum-2.result
+    (sym c.holds-2.ensures ∙ c.if-holds-2.false) c.if-stamp-latest.false c.sum-2.ensures

@@ -1,0 +1,36 @@
+-- `buffer::copy_block` meets its contract: after each turn the first i bytes of `src` are spliced in.
+use mathlib.Core.Path.{◌≡◌, ap, ◌∙◌}
+use Prim.Native.Nat.{◌-◌}
+use native.Mathlib.Omega.{arith}
+use lib.ListN.{length, length-take}
+use Rattle.laws.proofs.Splice.{length_splice, splice_none, splice_all}
+use Rattle.buffer.proofs.Parts.{length_lent, splice-take_more}
+use Rattle.buffer.proofs.copy_block.Goals as goal
+use Rattle.buffer.proofs.copy_block.Goals.{At-loop-i}
+
+-- the slice is as long as it was
+long : (c : At-loop-i) → length c.loop-i.dst ≡ length c.args.dst.now
+long c = ap length c.loop-i.invariant.1 ∙ length_splice _ _ _ (simp length-take (omega arith))
+
+pub loop-i-init : goal.loop-i-init
+loop-i-init c = ((omega arith, omega arith), splice_none _ _ c.args.src.now)
+
+pub copy_four-requires : goal.copy_four-requires
+copy_four-requires c = (omega (arith, long (goal.at.copy_four-requires c).At-loop-i), length_lent _ c.loop-i.i 4 (omega arith))
+
+pub loop-i-preserved : goal.loop-i-preserved
+loop-i-preserved c =
+    let l = c.loop-i in
+    let g = c.args in (
+      (omega arith, omega arith),
+      c.copy_four.ensures ∙ rw l.invariant.1 (splice-take_more g.dst.now g.src.now g.at l.i 4 (omega arith) (omega arith)),
+    )
+
+pub shape_of-dst : goal.shape_of-dst
+shape_of-dst c = long (goal.at.shape_of-dst c).At-loop-i
+
+pub returns : goal.returns
+returns c =
+    let g = c.args in
+    let l = c.loop-i in
+    l.invariant.1 ∙ splice_all g.dst.now g.at g.src.now l.i (omega arith)

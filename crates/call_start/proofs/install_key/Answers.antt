@@ -1,0 +1,42 @@
+-- `call_start::install_key` meets its contract: the parts are those of the inner functions.
+use Rattle.call_start.proofs.install_key.Goals as goal
+
+pub hold_key-requires : goal.hold_key-requires
+hold_key-requires c = ((c.requires.0.0, c.requires.1.1.1.0), c.requires.1.1.1.1)
+
+pub clear_message-requires : goal.clear_message-requires
+clear_message-requires c = c.requires.0.1
+
+pub clear_tags-requires : goal.clear_tags-requires
+clear_tags-requires c = c.requires.1.0
+
+pub clear_sets-requires : goal.clear_sets-requires
+clear_sets-requires c = c.requires.1.1.0
+
+pub returns : goal.returns
+returns c =
+    ((c.hold_key.ensures, c.clear_message.ensures), (c.clear_tags.ensures, c.clear_sets.ensures))
+
+pub shape_of-pubkeys : goal.shape_of-pubkeys
+shape_of-pubkeys c = c.hold_key.auto.0
+
+pub shape_of-offer : goal.shape_of-offer
+shape_of-offer c = c.clear_message.auto.0
+
+pub shape_of-chain : goal.shape_of-chain
+shape_of-chain c = c.clear_message.auto.1.0
+
+pub shape_of-numbers : goal.shape_of-numbers
+shape_of-numbers c = c.clear_tags.auto.0
+
+pub shape_of-heldkey : goal.shape_of-heldkey
+shape_of-heldkey c = c.clear_tags.auto.1.0
+
+pub shape_of-waiting : goal.shape_of-waiting
+shape_of-waiting c = c.clear_tags.auto.1.1.0
+
+pub shape_of-sets : goal.shape_of-sets
+shape_of-sets c = c.clear_sets.auto.0
+
+pub shape_of-arrivals : goal.shape_of-arrivals
+shape_of-arrivals c = c.clear_sets.auto.1.0

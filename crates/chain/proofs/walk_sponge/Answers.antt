@@ -1,0 +1,39 @@
+-- `chain::walk_sponge` meets its contract: each turn is a step of the chain.
+use mathlib.Core.Path.{◌≡◌, sym}
+use native.Mathlib.Omega.{arith}
+use borrow.Author.Rules.{rules}
+use lib.ListN.{length}
+use Rattle.chain.proofs.Steps.{begins, goes_on, ends, framed_length, length-sponge-tail}
+use Rattle.chain.proofs.walk_sponge.Goals as goal
+use Rattle.chain.proofs.walk_sponge.Goals.{After-b-2-1, Start}
+
+length-alpha : (c : Start) → length c.args.c.alpha ≡ 6
+length-alpha c = search rules
+
+pub loop-left-init : goal.loop-left-init
+loop-left-init c = (omega arith, begins _ _ _ _ _ _ c.sponge_framed-b.ensures)
+
+pub sponge_step-requires : goal.sponge_step-requires
+sponge_step-requires c =
+    (c.requires.0, (omega arith, c.loop-left.invariant.1.framed))
+
+pub loop-left-preserved : goal.loop-left-preserved
+loop-left-preserved c =
+    let l = c.loop-left in
+    (omega arith, goes_on _ _ _ _ _ _ _ l.left (search rules) l.invariant.1 c.sponge_step.ensures)
+
+-- the block after the loop
+block : (c : After-b-2-1) → length c.loop-left.b ≡ 64
+block c =
+    framed_length c.args.c _ c.loop-left.b (length-sponge-tail c.args.c.width (search rules)) (search rules) (length-alpha c) c.loop-left.invariant.1.framed
+
+pub returns : goal.returns
+returns c =
+    let l = c.loop-left in
+    ends _ _ _ _ _ _ _ l.left (search rules) l.invariant.1 c.copy_part.ensures
+
+pub slice_bounds-copy_part-end-2 : goal.slice_bounds-copy_part-end-2
+slice_bounds-copy_part-end-2 c = sym (block (goal.at.slice_bounds-copy_part-end-2 c).After-b-2-1)
+
+pub copy_part-requires : goal.copy_part-requires
+copy_part-requires c = (search rules, omega (arith, block (goal.at.copy_part-requires c).After-b-2-1))

@@ -1,0 +1,10 @@
+-- `kroot::root_hour` meets its contract: a whole byte.
+use mathlib.Core.Path.{sym}
+use native.Mathlib.Omega.{arith}
+use Rattle.bitfields.proofs.Fields.{bits_byte}
+use Rattle.rules.specs.Kroot as S
+use Rattle.kroot.proofs.root_hour.Goals as goal
+
+pub returns : goal.returns
+unfolding S.root_hour_of
+returns c = sym (bits_byte c.args.c.now 5 (omega (arith, c.shared-slice-known.given 5)))

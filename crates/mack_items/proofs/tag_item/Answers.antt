@@ -1,0 +1,17 @@
+-- `mack_items::tag_item` meets its contract: the tag ends inside the section, with the field.
+use Prim.Native.Nat.{◌+◌, ◌≤◌}
+use native.Mathlib.Omega.{arith}
+use borrow.Author.Rules.{rules}
+use Rattle.mack.proofs.Places.{field_inside}
+use Rattle.mack_items.proofs.tag_item.Goals as goal
+use Rattle.mack_items.proofs.tag_item.Goals.{After-field_place}
+
+inside : (c : After-field_place) → c.field_place.result + (c.args.c.ms + 16) ≤ 480
+inside c =
+    rw c.field_place.ensures (field_inside c.args.c c.requires.0 c.args.j c.requires.1.0)
+
+pub item_at-requires : goal.item_at-requires
+item_at-requires c = (search rules, (omega (arith, inside (goal.at.item_at-requires c).After-field_place), omega (arith, c.requires.0.ms_high)))
+
+pub returns : goal.returns
+returns c = rw (← c.field_place.ensures) c.item_at.ensures

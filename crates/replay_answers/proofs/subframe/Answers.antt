@@ -1,0 +1,48 @@
+-- `replay_answers::subframe` meets its contract: 11 twice before a start, or the call at the record's parts.
+use Rattle.laws.specs.Lists.{part}
+use Rattle.rules.specs.Replay.{subframe_of}
+use Rattle.rules.specs.State.{State, state}
+use Rattle.rules.proofs.Lengths.{Sized, all-shaped}
+use Rattle.replay_answers.proofs.Answered.{part_long, subframe-answered, subframe_unstarted}
+use Rattle.replay_answers.proofs.subframe.Goals as goal
+use Rattle.replay_answers.proofs.subframe.Goals.{After-take_subframe-arg-17-1, Start}
+
+-- the state of the sixteen regions
+abbrev whole : Start → State
+whole c =
+    state c.args.config.now c.args.clocks.now c.args.words.now c.args.stamps.now c.args.blocks.now c.args.headers.now c.args.present.now c.args.since.now c.args.pubkeys.now c.args.offer.now c.args.chain.now c.args.numbers.now c.args.heldkey.now c.args.waiting.now c.args.sets.now c.args.arrivals.now
+
+-- each region has its length
+long : (c : After-take_subframe-arg-17-1) → Sized (whole c)
+long c =
+    record {
+      config = c.take-subframe-arg.given.0.1;
+      clocks = c.take-subframe-arg2.given.0.1;
+      words = c.take-subframe-arg3.given.0;
+      stamps = c.take-subframe-arg4.given.0;
+      blocks = c.take-subframe-arg5.given.0.1;
+      headers = c.take-subframe-arg6.given.0.1;
+      present = c.take-subframe-arg7.given.0.1;
+      since = c.take-subframe-arg8.given.0.1;
+      pubkeys = c.take-subframe-arg9.given.0.1;
+      offer = c.take-subframe-arg10.given.0.1;
+      chain = c.take-subframe-arg11.given.0;
+      numbers = c.take-subframe-arg12.given.0.1;
+      heldkey = c.take-subframe-arg13.given.0.1;
+      waiting = c.take-subframe-arg14.given.0.1;
+      sets = c.take-subframe-arg15.given.0.1;
+      arrivals = c.take-subframe-arg16.given.0.1;
+    }
+
+pub returns-then-started-eq0 : goal.returns-then-started-eq0
+returns-then-started-eq0 c = subframe_unstarted _ _ _ _ c.if-started-eq0.true
+
+pub take_subframe-r-requires : goal.take_subframe-r-requires
+take_subframe-r-requires c =
+    (all-shaped (whole (goal.at.take_subframe-r-requires c).Start) (long (goal.at.take_subframe-r-requires c).After-take_subframe-arg-17-1), (c.take-subframe-arg17.given.0.1, part_long c.args.input.now 6 75 c.requires tt))
+
+pub returns : goal.returns
+unfolding subframe_of part
+returns c =
+    subframe-answered _ _ _ _ _ _ _ _ _ c.if-started-eq0.false
+    (rw (← c.get_u32-time.ensures, ← c.marks_of-marks.ensures) c.take_subframe-r.ensures)

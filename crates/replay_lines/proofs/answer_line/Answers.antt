@@ -1,0 +1,11 @@
+-- `replay_lines::answer_line` meets its contract: four numbers, each with the character that ends it.
+use mathlib.Core.Path.{◌∙◌}
+use native.Mathlib.Nat.{zero-add}
+use Rattle.replay_lines.proofs.Joined.{line_put}
+use Rattle.replay_lines.proofs.answer_line.Goals as goal
+
+pub returns : goal.returns
+returns c =
+    rw (← c.low.ensures.0, ← c.low-2.ensures.0, ← c.low-3.ensures.0)
+    (let p = line_put _ _ _ _ _ _ _ _ _ _ _ _ _ c.put_ended-a.ensures c.put_ended-b.ensures c.put_ended-c.ensures c.put_ended.ensures c.requires in
+    (p.is, (p.past ∙ zero-add _, p.few)))

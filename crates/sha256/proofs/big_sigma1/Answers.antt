@@ -1,0 +1,12 @@
+-- `sha256::big_sigma1` meets its contract: each rotation is what `rotr` ensures, and the three stand one inside the other.
+use Rattle.std.proofs.Common.{◌^◌, ◌<◌, arith, rules}
+use Rattle.sha256.specs.Sha256 as S
+use Rattle.sha256.proofs.Rotations.{three_nested}
+use Rattle.sha256.proofs.big_sigma1.Goals as goal
+
+pub returns : goal.returns
+unfolding S.Σ1
+returns c =
+    let x = c.args.x in
+    let h : x < 2 ^ 32 = search rules in
+    three_nested 6 5 14 x (omega arith) h c.rotr.ensures c.rotr-2.ensures c.rotr-3.ensures

@@ -1,0 +1,6 @@
+-- `sha3::masked` meets its contract: the other lanes have 0 added.
+use Rattle.sha3.proofs.Inverted.{masked_is}
+use Rattle.sha3.proofs.masked.Goals as goal
+
+pub returns : goal.returns
+returns c = masked_is _

@@ -1,0 +1,56 @@
+-- `tag_codes::macseq_message` meets its contract: after j turns the front is the message of the first j fields.
+use mathlib.Core.Path.{◌≡◌, sym, ap, ◌∙◌}
+use Prim.Native.Nat.{ℕ, ◌+◌, ◌-◌, ◌*◌, ◌≤◌}
+use native.Mathlib.Omega.{arith}
+use lib.ListN.{length}
+use Rattle.rules.specs.Tags.{macseq_message}
+use Rattle.mack.specs.declared.Field.{Field}
+use Rattle.mack.proofs.Places.{first_field}
+use Rattle.tags.specs.Layout.{section}
+use Rattle.tag_codes.proofs.Messages.{sender_in, info_in}
+use Rattle.tag_codes.proofs.macseq_message.Goals as goal
+
+pub overflow_mul-count : goal.overflow_mul-count
+overflow_mul-count c = omega (arith, c.requires.0.few)
+
+pub loop-j-init : goal.loop-j-init
+loop-j-init c =
+    let g = c.args in (
+      omega arith,
+      (
+        sym (first_field g.c),
+        (
+          omega arith,
+          sender_in g.config.now g.c g.prn g.time g.mack.now g.out.now c.copy_at.new.0 (omega arith) c.copy_at.ensures,
+        ),
+      ),
+    )
+
+pub next_field-f-requires : goal.next_field-f-requires
+next_field-f-requires c =
+    (c.requires.0.fit, (c.loop-j.invariant.1.0, (omega arith, c.requires.1.0.1)))
+
+pub put_info-n-requires : goal.put_info-n-requires
+put_info-n-requires c =
+    (c.requires.1.0.0, (omega (arith, c.requires.0.few), omega (arith, c.requires.0.few)))
+
+pub loop-j-preserved : goal.loop-j-preserved
+loop-j-preserved c =
+    let g = c.args in
+    let l = c.loop-j in
+    let f = c.next_field-f.ensures in
+    let p = c.put_info-n in
+    let h : l.n + 2 ≤ length l.out = omega (arith, c.requires.0.few) in
+    let i = ap (λ (x : Field). x.info) f in
+    let m = info_in g.config.now g.c g.prn g.time g.mack.now l.j l.n p.result _ l.out p.new.1.1.1.1.0 h l.invariant.1.1.1.1 i p.ensures.0 p.ensures.1 in
+    (omega arith, (ap (λ (x : Field). x.next.used) f, (omega arith, (m.0 ∙ l.invariant.1.1.1.0, m.1.1))))
+
+pub shape_of-out : goal.shape_of-out
+shape_of-out c = omega (arith, c.loop-j.invariant.1.1.1.0, c.requires)
+
+pub returns : goal.returns
+returns c =
+    let g = c.args in
+    let l = c.loop-j in
+    let h : l.j ≡ g.c.nmack * g.c.fields = omega arith in
+    (l.invariant.1.1.1.1 ∙ ap (λ (i : ℕ). macseq_message g.config.now g.c (section g.prn g.time 0 g.mack.now) i) h, omega (arith, c.requires.0.few))
