@@ -1,6 +1,5 @@
 -- `buffer::copy_at` meets its contract: after each turn the first i bytes of `src` are spliced in.
 use mathlib.Core.Path.{◌≡◌, refl, ap, ◌∙◌}
-use Prim.Native.Nat.{◌-◌}
 use lib.ListN.{length, length-take}
 use Rattle.laws.proofs.Splice.{length_splice, splice_none, splice_more, splice_all}
 use Rattle.buffer.proofs.Parts.{length_lent, splice-take_more}

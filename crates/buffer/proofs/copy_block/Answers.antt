@@ -1,6 +1,5 @@
 -- `buffer::copy_block` meets its contract: after each turn the first i bytes of `src` are spliced in.
 use mathlib.Core.Path.{◌≡◌, ap, ◌∙◌}
-use Prim.Native.Nat.{◌-◌}
 use native.Mathlib.Omega.{arith}
 use lib.ListN.{length, length-take}
 use Rattle.laws.proofs.Splice.{length_splice, splice_none, splice_all}

@@ -5,7 +5,6 @@ use mathlib.Core.List.{List}
 use native.Mathlib.Numerals.{add-one}
 use lib.ListN.{length, take, drop, get_or}
 use lib.Seq.{take-suc, take_all}
-use borrow.Author.Tests.{not-true, not-false}
 use Rattle.laws.proofs.Same.{same_true, same_false, same_equal, same_differ}
 use Rattle.buffer.proofs.Parts.{length_lent, take_more}
 use native.Mathlib.Omega.{arith}
@@ -25,13 +24,13 @@ equal_block-requires c =
 pub returns-then-not-equal_block : goal.returns-then-not-equal_block
 returns-then-not-equal_block c =
     let i = c.loop-i.i in
-    let d = sym c.equal_block.ensures ∙ not-true _ c.if-not-equal_block.true in
+    let d = sym c.equal_block.ensures ∙ c.if-not-equal_block.true in
     sym (same_differ _ _ (λ e. same_false _ _ d (ap (λ (l : List ℕ). take (i + 16 - i) (drop i l)) e)))
 
 pub loop-i-preserved-then-a-i-ge16 : goal.loop-i-preserved-then-a-i-ge16
 loop-i-preserved-then-a-i-ge16 c =
     let l = c.loop-i in
-    let e = same_true _ _ (sym c.equal_block.ensures ∙ not-false _ c.if-not-equal_block.false) in
+    let e = same_true _ _ (sym c.equal_block.ensures ∙ c.if-not-equal_block.false) in
     (omega arith, (l.invariant.1.0, take_more _ _ l.i 16 l.invariant.1.1 e))
 
 pub returns-then-a-i : goal.returns-then-a-i

@@ -1,6 +1,5 @@
 -- `buffer::fill` meets its contract: after i turns the first i of the n bytes are spliced in.
 use mathlib.Core.Path.{◌≡◌, sym, ap, ◌∙◌}
-use Prim.Native.Nat.{◌-◌}
 use lib.ListN.{length, replicate, length-take, length-replicate, get_or-replicate}
 use Rattle.laws.proofs.Splice.{length_splice, splice_none, splice_more, splice_all}
 use native.Mathlib.Omega.{arith}

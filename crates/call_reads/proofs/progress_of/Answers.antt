@@ -16,7 +16,7 @@ overflow_cast-held c =
     omega (arith, ones-le 16 (get_or g.present.now g.id 0) (omega (arith, c.shared-slice-known3.given g.id)))
 
 pub returns-then-not-marked : goal.returns-then-not-marked
-returns-then-not-marked c = λ s. unknown _ _ (sym c.marked.ensures ∙ not-true _ c.if-not-marked.true)
+returns-then-not-marked c = λ s. unknown _ _ (sym c.marked.ensures ∙ c.if-not-marked.true)
 
 total : (c : After-total_of-total) → c.total_of-total.result ≤ 16
 total c = rw c.total_of-total.ensures (total_bound _)
@@ -26,4 +26,4 @@ overflow_cast-total c = omega (arith, total (goal.at.overflow_cast-total c).Afte
 
 pub returns : goal.returns
 returns c =
-    λ s. counted _ _ _ _ (sym c.marked.ensures ∙ not-false _ c.if-not-marked.false) c.total_of-total.ensures c.missing_of.ensures
+    λ s. counted _ _ _ _ (sym c.marked.ensures ∙ c.if-not-marked.false) c.total_of-total.ensures c.missing_of.ensures

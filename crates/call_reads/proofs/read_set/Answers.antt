@@ -11,14 +11,14 @@ use Rattle.call_reads.proofs.read_set.Goals.{After-index-satellite, Else-not-prn
 
 -- the PRN is heard
 heard : (c : Else-not-prn_valid) → prn_valid c.args.prn ≡ true
-heard c = sym c.prn_valid.ensures.0 ∙ not-false _ c.if-not-prn_valid.false
+heard c = sym c.prn_valid.ensures.0 ∙ c.if-not-prn_valid.false
 
 in-range : (c : After-index-satellite) → (1 ≤ c.index-satellite.result) × (c.index-satellite.result ≤ 36)
-in-range c = rw c.index-satellite.ensures.0 (c.prn_valid.ensures.1 (not-false _ c.if-not-prn_valid.false))
+in-range c = rw c.index-satellite.ensures.0 (c.prn_valid.ensures.1 (c.if-not-prn_valid.false))
 
 pub returns-then-not-prn_valid : goal.returns-then-not-prn_valid
 returns-then-not-prn_valid c =
-    λ s. rw (c.requires.1.0, c.requires.1.1) (set_unheard s c.args.sets.now c.args.arrivals.now c.args.out.now c.args.prn c.requires.0 (sym c.prn_valid.ensures.0 ∙ not-true _ c.if-not-prn_valid.true))
+    λ s. rw (c.requires.1.0, c.requires.1.1) (set_unheard s c.args.sets.now c.args.arrivals.now c.args.out.now c.args.prn c.requires.0 (sym c.prn_valid.ensures.0 ∙ c.if-not-prn_valid.true))
 
 pub stamp_of-stamp-requires : goal.stamp_of-stamp-requires
 stamp_of-stamp-requires c = let k = in-range (goal.at.stamp_of-stamp-requires c).After-index-satellite in search (rules, k.0, k.1)

@@ -9,7 +9,7 @@ unfolding start_checks
 returns-then-not-fits c = (λ s m root key e. rw (e, not-true c.args.fits c.if-not-fits.true), λ z. absurd (omega (arith, z)))
 
 pub start_unfit-requires : goal.start_unfit-requires
-start_unfit-requires c = c.requires (not-false _ c.if-not-fits.false)
+start_unfit-requires c = c.requires (c.if-not-fits.false)
 
 pub returns-then-start_unfit : goal.returns-then-start_unfit
 unfolding start_checks
@@ -22,5 +22,5 @@ pub returns : goal.returns
 unfolding start_checks
 returns c = (
   λ s m root key e. rw (e, not-false c.args.fits c.if-not-fits.false, ← (c.start_unfit.ensures.0 m root key), c.if-start_unfit.false),
-  λ _. (not-false _ c.if-not-fits.false, c.start_unfit.ensures.1 c.if-start_unfit.false),
+  λ _. (c.if-not-fits.false, c.start_unfit.ensures.1 c.if-start_unfit.false),
 )

@@ -20,10 +20,10 @@ names-is c s o = rw o (sym (c.names_offer.ensures c.args.good))
 
 named : (c : Else-not-names_offer) (s : State) → s.offer ≡ c.args.offer.now
     → S.names_offer s.offer (verdict c) ≡ true
-named c s o = names-is c s o ∙ not-false _ c.if-not-names_offer.false
+named c s o = names-is c s o ∙ c.if-not-names_offer.false
 
 pub returns-then-not-names_offer : goal.returns-then-not-names_offer
-returns-then-not-names_offer c = λ s m e o. not_waiting s (verdict (goal.at.returns-then-not-names_offer c).Start) (names-is (goal.at.returns-then-not-names_offer c).After-names_offer s o ∙ not-true _ c.if-not-names_offer.true)
+returns-then-not-names_offer c = λ s m e o. not_waiting s (verdict (goal.at.returns-then-not-names_offer c).Start) (names-is (goal.at.returns-then-not-names_offer c).After-names_offer s o ∙ c.if-not-names_offer.true)
 
 pub returns-then-good-ne1 : goal.returns-then-good-ne1
 returns-then-good-ne1 c = λ s m e o. verdict_bad s (verdict (goal.at.returns-then-good-ne1 c).Start) (named (goal.at.returns-then-good-ne1 c).Else-not-names_offer s o) c.if-good-ne1.true

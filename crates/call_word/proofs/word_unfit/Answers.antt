@@ -14,26 +14,26 @@ use Rattle.call_word.proofs.word_unfit.Goals.{Else-not-prn_valid, Else-not-time_
 
 -- a PRN that is heard, and a time that is valid
 prn-is : (c : Else-not-prn_valid) → prn_valid c.args.prn ≡ true
-prn-is c = sym c.prn_valid.ensures.0 ∙ not-false _ c.if-not-prn_valid.false
+prn-is c = sym c.prn_valid.ensures.0 ∙ c.if-not-prn_valid.false
 
 time-is : (c : Else-not-time_valid) → time_valid c.args.time ≡ true
-time-is c = sym c.time_valid.ensures ∙ not-false _ c.if-not-time_valid.false
+time-is c = sym c.time_valid.ensures ∙ c.if-not-time_valid.false
 
 -- both are in range
 ranges : (c : Else-not-time_valid) → ((1 ≤ c.args.prn) × (c.args.prn ≤ 36)) × (c.args.time < 4294967295)
 ranges c =
-    (c.prn_valid.ensures.1 (not-false _ c.if-not-prn_valid.false), time_small c.args.time (search rules) (time-is c))
+    (c.prn_valid.ensures.1 (c.if-not-prn_valid.false), time_small c.args.time (search rules) (time-is c))
 
 pub returns-then-not-prn_valid : goal.returns-then-not-prn_valid
 unfolding word_unfit
 returns-then-not-prn_valid c =
-    let e : prn_valid c.args.prn ≡ false = sym c.prn_valid.ensures.0 ∙ not-true _ c.if-not-prn_valid.true in
+    let e : prn_valid c.args.prn ≡ false = sym c.prn_valid.ensures.0 ∙ c.if-not-prn_valid.true in
     (rw e, true_false)
 
 pub returns-then-not-time_valid : goal.returns-then-not-time_valid
 unfolding word_unfit
 returns-then-not-time_valid c =
-    let e : time_valid c.args.time ≡ false = sym c.time_valid.ensures ∙ not-true _ c.if-not-time_valid.true in
+    let e : time_valid c.args.time ≡ false = sym c.time_valid.ensures ∙ c.if-not-time_valid.true in
     (rw (prn-is (goal.at.returns-then-not-time_valid c).Else-not-prn_valid, e), true_false)
 
 pub returns-then-word_type-ne4 : goal.returns-then-word_type-ne4

@@ -17,18 +17,18 @@ total c = rw c.total_of-total.ensures (total_bound _)
 
 least : (c : Else-m-total) → 7 ≤ c.total_of-total.result
 least c =
-    let m = marked_counts _ (sym c.marked.ensures ∙ not-false _ c.if-not-marked.false) in
+    let m = marked_counts _ (sym c.marked.ensures ∙ c.if-not-marked.false) in
     let h : 1 ≤ c.total_of-total.result = rw c.if-m-total.false at m in
     rw c.total_of-total.ensures (total_least _ (rw c.total_of-total.ensures at h))
 
 pub returns-then-not-marked : goal.returns-then-not-marked
-returns-then-not-marked c = ((λ h t. without_first _ _ (sym c.marked.ensures ∙ not-true _ c.if-not-marked.true)), tt)
+returns-then-not-marked c = ((λ h t. without_first _ _ (sym c.marked.ensures ∙ c.if-not-marked.true)), tt)
 
 pub overflow_cast-m : goal.overflow_cast-m
 overflow_cast-m c = omega (arith, ones-le 16 (get_or c.args.present.now c.args.id 0) (omega (arith, c.slice-known2.given c.args.id)))
 
 pub returns-then-m-total : goal.returns-then-m-total
-returns-then-m-total c = ((λ h t. not-counted _ _ _ (sym c.marked.ensures ∙ not-false _ c.if-not-marked.false) c.total_of-total.ensures c.if-m-total.true), tt)
+returns-then-m-total c = ((λ h t. not-counted _ _ _ (sym c.marked.ensures ∙ c.if-not-marked.false) c.total_of-total.ensures c.if-m-total.true), tt)
 
 pub overflow_mul-result : goal.overflow_mul-result
 overflow_mul-result c = omega (arith, total (goal.at.overflow_mul-result c).After-total_of-total)
@@ -36,4 +36,4 @@ overflow_mul-result c = omega (arith, total (goal.at.overflow_mul-result c).Afte
 pub returns : goal.returns
 unfolding Rule.once_taken_out
 returns c =
-    ((λ h t. counted _ _ _ (sym c.marked.ensures ∙ not-false _ c.if-not-marked.false) c.total_of-total.ensures c.if-m-total.false), (omega (arith, least (goal.at.returns c).Else-m-total), omega (arith, total (goal.at.returns c).After-total_of-total)))
+    ((λ h t. counted _ _ _ (sym c.marked.ensures ∙ c.if-not-marked.false) c.total_of-total.ensures c.if-m-total.false), (omega (arith, least (goal.at.returns c).Else-m-total), omega (arith, total (goal.at.returns c).After-total_of-total)))

@@ -19,7 +19,7 @@ held-is : (c : After-key_held) → key_held c.args.pubkeys.now (S.pkid_of c.args
 held-is c = rw (← c.pkid-id.ensures) (sym c.key_held.ensures)
 
 held : (c : Else-not-key_held) → key_held c.args.pubkeys.now (S.pkid_of c.args.d.now) ≡ true
-held c = held-is c ∙ not-false _ c.if-not-key_held.false
+held c = held-is c ∙ c.if-not-key_held.false
 
 bad-is : (c : After-parameters_bad)
     → S.parameters_bad c.args.config.now (S.contents_of c.args.d.now) ≡ c.parameters_bad.result
@@ -55,7 +55,7 @@ pub key_held-requires : goal.key_held-requires
 key_held-requires c = (search rules, omega (arith, id-small (goal.at.key_held-requires c).After-pkid-id))
 
 pub returns-then-not-key_held : goal.returns-then-not-key_held
-returns-then-not-key_held c = no_key _ _ _ _ _ (held-is (goal.at.returns-then-not-key_held c).After-key_held ∙ not-true _ c.if-not-key_held.true)
+returns-then-not-key_held c = no_key _ _ _ _ _ (held-is (goal.at.returns-then-not-key_held c).After-key_held ∙ c.if-not-key_held.true)
 
 pub returns-then-parameters_bad : goal.returns-then-parameters_bad
 returns-then-parameters_bad c = bad_parameters _ _ _ _ _ (held (goal.at.returns-then-parameters_bad c).Else-not-key_held) (bad-is (goal.at.returns-then-parameters_bad c).After-parameters_bad ∙ c.if-parameters_bad.true)

@@ -15,9 +15,9 @@ returns-then-offer-id c = λ good. sym (names_other _ _ c.if-offer-ne1.false c.i
 pub returns-then-not-equal : goal.returns-then-not-equal
 unfolding S.offer_message part
 returns-then-not-equal c =
-    λ good. sym (names_message _ _ c.if-offer-ne1.false c.if-offer-id.false (sym c.equal.ensures ∙ not-true _ c.if-not-equal.true))
+    λ good. sym (names_message _ _ c.if-offer-ne1.false c.if-offer-id.false (sym c.equal.ensures ∙ c.if-not-equal.true))
 
 pub returns : goal.returns
 unfolding S.offer_message S.offer_signature part
 returns c =
-    λ good. c.equal-2.ensures ∙ names_all _ _ c.if-offer-ne1.false c.if-offer-id.false (sym c.equal.ensures ∙ not-false _ c.if-not-equal.false)
+    λ good. c.equal-2.ensures ∙ names_all _ _ c.if-offer-ne1.false c.if-offer-id.false (sym c.equal.ensures ∙ c.if-not-equal.false)

@@ -15,13 +15,13 @@ returns-then-not-field_came c =
     let g = c.args in (
       λ s ec en eh et ea.
           rw (unjudged s (tesla g.numbers.now g.heldkey.now g.waiting.now) (auth g.sets.now g.arrivals.now) et ea)
-          (missing s g.prn g.time g.marks g.header g.mack.now g.area.now (sym c.field_came.ensures ∙ not-true _ c.if-not-field_came.true)),
+          (missing s g.prn g.time g.marks g.header g.mack.now g.area.now (sym c.field_came.ensures ∙ c.if-not-field_came.true)),
       omega arith,
     )
 
 -- the first field came
 came : (c : Else-not-field_came) → field_came c.args.marks 0 ≡ true
-came c = sym c.field_came.ensures ∙ not-false _ c.if-not-field_came.false
+came c = sym c.field_came.ensures ∙ c.if-not-field_came.false
 
 pub returns-then-section_unfit : goal.returns-then-section_unfit
 returns-then-section_unfit c =

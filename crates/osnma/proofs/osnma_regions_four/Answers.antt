@@ -15,14 +15,14 @@ lent c s = four_lent s c.args.clocks.now c.args.arrivals.now
 
 pub returns-then-not-four_shaped : goal.returns-then-not-four_shaped
 returns-then-not-four_shaped c =
-    λ s. four_misfit (lent (goal.at.returns-then-not-four_shaped c).Start s) c.args.limit (sym (c.four_shaped.ensures s) ∙ not-true _ c.if-not-four_shaped.true)
+    λ s. four_misfit (lent (goal.at.returns-then-not-four_shaped c).Start s) c.args.limit (sym (c.four_shaped.ensures s) ∙ c.if-not-four_shaped.true)
 
 pub four_met-requires : goal.four_met-requires
 four_met-requires c =
-    four_sized (lent (goal.at.four_met-requires c).Start blank_core) (sym (c.four_shaped.ensures blank_core) ∙ not-false _ c.if-not-four_shaped.false)
+    four_sized (lent (goal.at.four_met-requires c).Start blank_core) (sym (c.four_shaped.ensures blank_core) ∙ c.if-not-four_shaped.false)
 
 right : (c : After-four_met) (s : State) → four_shaped (lent c s) ≡ true
-right c s = sym (c.four_shaped.ensures s) ∙ not-false _ c.if-not-four_shaped.false
+right c s = sym (c.four_shaped.ensures s) ∙ c.if-not-four_shaped.false
 
 pub returns-then-four_met : goal.returns-then-four_met
 returns-then-four_met c =

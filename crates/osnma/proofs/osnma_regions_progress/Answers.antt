@@ -20,11 +20,11 @@ shaped-is c s = sym (c.progress_shaped-shaped.ensures s)
 
 -- every lent length is right
 fits : (c : Else-not-shaped-out) (s : State) → (progress_shaped (lent c s) && eqb (length c.args.out.now) 32) ≡ true
-fits c s = rw (shaped-is c s) (not-false _ c.if-not-shaped-out.false)
+fits c s = rw (shaped-is c s) (c.if-not-shaped-out.false)
 
 pub returns-then-not-shaped-out : goal.returns-then-not-shaped-out
 returns-then-not-shaped-out c =
-    λ s. progress_misfit (lent (goal.at.returns-then-not-shaped-out c).Start s) c.args.out.now (rw (shaped-is (goal.at.returns-then-not-shaped-out c).After-progress_shaped-shaped s) (not-true _ c.if-not-shaped-out.true))
+    λ s. progress_misfit (lent (goal.at.returns-then-not-shaped-out c).Start s) c.args.out.now (rw (shaped-is (goal.at.returns-then-not-shaped-out c).After-progress_shaped-shaped s) (c.if-not-shaped-out.true))
 
 pub read_progress-requires : goal.read_progress-requires
 read_progress-requires c =

@@ -20,11 +20,11 @@ shaped-is c s = sym (c.offer_shaped_lem.ensures s)
 
 -- every lent length is right
 fits : (c : Else-not-shaped-message) (s : State) → (offer_shaped (lent c s) && (eqb (length c.args.message.now) 45 && (eqb (length c.args.signature.now) 132 && eqb (length c.args.pubkey.now) 67))) ≡ true
-fits c s = rw (shaped-is c s) (not-false _ c.if-not-shaped-message.false)
+fits c s = rw (shaped-is c s) (c.if-not-shaped-message.false)
 
 pub returns-then-not-shaped-message : goal.returns-then-not-shaped-message
 returns-then-not-shaped-message c =
-    λ s. message_misfit (lent (goal.at.returns-then-not-shaped-message c).Start s) c.args.message.now c.args.signature.now c.args.pubkey.now (rw (shaped-is (goal.at.returns-then-not-shaped-message c).After-offer_shaped-shaped s) (not-true _ c.if-not-shaped-message.true))
+    λ s. message_misfit (lent (goal.at.returns-then-not-shaped-message c).Start s) c.args.message.now c.args.signature.now c.args.pubkey.now (rw (shaped-is (goal.at.returns-then-not-shaped-message c).After-offer_shaped-shaped s) (c.if-not-shaped-message.true))
 
 pub read_message-requires : goal.read_message-requires
 read_message-requires c =

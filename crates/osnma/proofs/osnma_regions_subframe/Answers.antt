@@ -28,11 +28,11 @@ tested c = joined _ _ _ _ _ c.both.ensures c.shaped-shaped.ensures c.both-lent.e
 
 pub returns-then-not-both : goal.returns-then-not-both
 returns-then-not-both c =
-    unshaped (before (goal.at.returns-then-not-both c).Start) c.args.area.now (brought (goal.at.returns-then-not-both c).Start) (sym (tested (goal.at.returns-then-not-both c).After-both) ∙ not-true _ c.if-not-both.true)
+    unshaped (before (goal.at.returns-then-not-both c).Start) c.args.area.now (brought (goal.at.returns-then-not-both c).Start) (sym (tested (goal.at.returns-then-not-both c).After-both) ∙ c.if-not-both.true)
 
 pub take_subframe-r-requires : goal.take_subframe-r-requires
 take_subframe-r-requires c =
-    let t = sym (tested (goal.at.take_subframe-r-requires c).After-both) ∙ not-false _ c.if-not-both.false in
+    let t = sym (tested (goal.at.take_subframe-r-requires c).After-both) ∙ c.if-not-both.false in
     let l = and_right (shaped (before (goal.at.take_subframe-r-requires c).Start)) (eqb (length c.args.area.now) area_length && eqb (length c.args.bytes.now) 75) t in (
       and_left (shaped (before (goal.at.take_subframe-r-requires c).Start)) (eqb (length c.args.area.now) area_length && eqb (length c.args.bytes.now) 75) t,
       (

@@ -27,11 +27,11 @@ shaped-is c s = sym (c.verdict_shaped_lem.ensures s)
 
 -- every lent length is right
 fits : (c : Else-not-shaped-message) (s : State) → (verdict_shaped (lent c s) && (eqb (length c.args.message.now) 45 && eqb (length c.args.signature.now) 132)) ≡ true
-fits c s = rw (shaped-is c s) (not-false _ c.if-not-shaped-message.false)
+fits c s = rw (shaped-is c s) (c.if-not-shaped-message.false)
 
 pub returns-then-not-shaped-message : goal.returns-then-not-shaped-message
 returns-then-not-shaped-message c =
-    λ s. verdict_misfit (lent (goal.at.returns-then-not-shaped-message c).Start s) (verdict (goal.at.returns-then-not-shaped-message c).Start) (rw (shaped-is (goal.at.returns-then-not-shaped-message c).After-verdict_shaped-shaped s) (not-true _ c.if-not-shaped-message.true))
+    λ s. verdict_misfit (lent (goal.at.returns-then-not-shaped-message c).Start s) (verdict (goal.at.returns-then-not-shaped-message c).Start) (rw (shaped-is (goal.at.returns-then-not-shaped-message c).After-verdict_shaped-shaped s) (c.if-not-shaped-message.true))
 
 pub judge_verdict-requires : goal.judge_verdict-requires
 judge_verdict-requires c =

@@ -25,11 +25,11 @@ shaped-is c s = sym (c.word_shaped-shaped.ensures s)
 
 -- every lent length is right
 fits : (c : Else-not-shaped-bytes) (s : State) → (word_shaped (lent c s) && eqb (length c.args.bytes.now) 16) ≡ true
-fits c s = rw (shaped-is c s) (not-false _ c.if-not-shaped-bytes.false)
+fits c s = rw (shaped-is c s) (c.if-not-shaped-bytes.false)
 
 pub returns-then-not-shaped-bytes : goal.returns-then-not-shaped-bytes
 returns-then-not-shaped-bytes c =
-    λ s. word_misfit (lent (goal.at.returns-then-not-shaped-bytes c).Start s) (word (goal.at.returns-then-not-shaped-bytes c).Start) (rw (shaped-is (goal.at.returns-then-not-shaped-bytes c).After-word_shaped-shaped s) (not-true _ c.if-not-shaped-bytes.true))
+    λ s. word_misfit (lent (goal.at.returns-then-not-shaped-bytes c).Start s) (word (goal.at.returns-then-not-shaped-bytes c).Start) (rw (shaped-is (goal.at.returns-then-not-shaped-bytes c).After-word_shaped-shaped s) (c.if-not-shaped-bytes.true))
 
 pub take_word-requires : goal.take_word-requires
 take_word-requires c =

@@ -13,7 +13,7 @@ fits c = sym c.size_bad.ensures ∙ c.if-size_bad.false
 
 proved : (c : Else-not-tree_proved)
     → S.tree_proved c.args.root.now c.args.d.now ≡ true
-proved c = sym c.tree_proved.ensures ∙ not-false _ c.if-not-tree_proved.false
+proved c = sym c.tree_proved.ensures ∙ c.if-not-tree_proved.false
 
 pub returns-then-size_bad : goal.returns-then-size_bad
 returns-then-size_bad c = size_refused _ _ _ (sym c.size_bad.ensures ∙ c.if-size_bad.true)
@@ -22,7 +22,7 @@ pub tree_proved-requires : goal.tree_proved-requires
 tree_proved-requires c = (fits (goal.at.tree_proved-requires c).Else-size_bad, search rules)
 
 pub returns-then-not-tree_proved : goal.returns-then-not-tree_proved
-returns-then-not-tree_proved c = tree_refused _ _ _ (fits (goal.at.returns-then-not-tree_proved c).Else-size_bad) (sym c.tree_proved.ensures ∙ not-true _ c.if-not-tree_proved.true)
+returns-then-not-tree_proved c = tree_refused _ _ _ (fits (goal.at.returns-then-not-tree_proved c).Else-size_bad) (sym c.tree_proved.ensures ∙ c.if-not-tree_proved.true)
 
 pub returns-then-new_type-eq4 : goal.returns-then-new_type-eq4
 returns-then-new_type-eq4 c =

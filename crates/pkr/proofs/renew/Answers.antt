@@ -50,7 +50,7 @@ above_all-requires c =
 
 pub returns-then-not-above_all : goal.returns-then-not-above_all
 returns-then-not-above_all c =
-    not_above _ _ (same-is (goal.at.returns-then-not-above_all c).After-same_key ∙ c.if-same_key.false) (above-is (goal.at.returns-then-not-above_all c).After-above_all ∙ not-true _ c.if-not-above_all.true)
+    not_above _ _ (same-is (goal.at.returns-then-not-above_all c).After-same_key ∙ c.if-same_key.false) (above-is (goal.at.returns-then-not-above_all c).After-above_all ∙ c.if-not-above_all.true)
 
 pub slice_bounds-add_key-end : goal.slice_bounds-add_key-end
 slice_bounds-add_key-end c = omega (arith, facts (goal.at.slice_bounds-add_key-end c).After-key_length-end)
@@ -63,5 +63,5 @@ pub returns : goal.returns
 unfolding S.new_key_of
 returns c =
     let d = c.args.d.now in
-    added _ _ (same-is (goal.at.returns c).After-same_key ∙ c.if-same_key.false) (above-is (goal.at.returns c).After-above_all ∙ not-false _ c.if-not-above_all.false) _
+    added _ _ (same-is (goal.at.returns c).After-same_key ∙ c.if-same_key.false) (above-is (goal.at.returns c).After-above_all ∙ c.if-not-above_all.false) _
     (c.add_key.ensures ∙ rw (range_part d 130 c.key_length-end.result, c.key_length-end.ensures, c.new_type-kind.ensures, c.new_id-id.ensures))

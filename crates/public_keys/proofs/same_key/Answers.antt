@@ -9,11 +9,11 @@ use Rattle.public_keys.proofs.same_key.Goals as goal
 
 pub returns-then-not-key_held : goal.returns-then-not-key_held
 returns-then-not-key_held c =
-    sym (same-key-not _ _ _ _ (sym c.key_held.ensures ∙ not-true _ c.if-not-key_held.true))
+    sym (same-key-not _ _ _ _ (sym c.key_held.ensures ∙ c.if-not-key_held.true))
 
 pub returns-then-key_type-kind : goal.returns-then-key_type-kind
 returns-then-key_type-kind c =
-    sym (same-key_other _ _ _ _ (sym c.key_held.ensures ∙ not-false _ c.if-not-key_held.false) (λ e. c.if-key_type-kind.true (c.key_type.ensures ∙ e)))
+    sym (same-key_other _ _ _ _ (sym c.key_held.ensures ∙ c.if-not-key_held.false) (λ e. c.if-key_type-kind.true (c.key_type.ensures ∙ e)))
 
 pub returns : goal.returns
 unfolding S.key_bytes
@@ -21,4 +21,4 @@ returns c =
     let g = c.args in
     c.equal.ensures
     ∙ rw (range_part g.pubkeys.now (g.id * 68 + 1) 67, c.filled_key-whole.ensures)
-    (same-key-bytes g.pubkeys.now g.id g.kind g.key.now (sym c.key_held.ensures ∙ not-false _ c.if-not-key_held.false) (sym c.key_type.ensures ∙ c.if-key_type-kind.false))
+    (same-key-bytes g.pubkeys.now g.id g.kind g.key.now (sym c.key_held.ensures ∙ c.if-not-key_held.false) (sym c.key_type.ensures ∙ c.if-key_type-kind.false))

@@ -21,22 +21,22 @@ brought c lent = let g = c.args in subframe g.prn g.time g.marks lent
 
 -- the PRN is in range
 heard : (c : Else-not-prn_valid) → prn_valid c.args.prn ≡ true
-heard c = sym c.prn_valid.ensures.0 ∙ not-false _ c.if-not-prn_valid.false
+heard c = sym c.prn_valid.ensures.0 ∙ c.if-not-prn_valid.false
 
 timed : (c : Else-not-time_valid) → time_valid c.args.time ≡ true
-timed c = sym c.time_valid.ensures ∙ not-false _ c.if-not-time_valid.false
+timed c = sym c.time_valid.ensures ∙ c.if-not-time_valid.false
 
 -- and so is the time, with room for its stamp
 ranges : (c : Else-not-time_valid) → ((1 ≤ c.args.prn) × (c.args.prn ≤ 36)) × (c.args.time < 4294967295)
 ranges c =
-    (c.prn_valid.ensures.1 (not-false _ c.if-not-prn_valid.false), time_small c.args.time (search rules) (timed c))
+    (c.prn_valid.ensures.1 (c.if-not-prn_valid.false), time_small c.args.time (search rules) (timed c))
 
 pub returns-then-not-prn_valid : goal.returns-then-not-prn_valid
-returns-then-not-prn_valid c = (λ s area lent ec ek ef e. no_prn s area (brought (goal.at.returns-then-not-prn_valid c).After-prn_valid lent) e (sym c.prn_valid.ensures.0 ∙ not-true _ c.if-not-prn_valid.true), (λ z. absurd (omega (arith, z)), λ z. absurd (omega (arith, z))))
+returns-then-not-prn_valid c = (λ s area lent ec ek ef e. no_prn s area (brought (goal.at.returns-then-not-prn_valid c).After-prn_valid lent) e (sym c.prn_valid.ensures.0 ∙ c.if-not-prn_valid.true), (λ z. absurd (omega (arith, z)), λ z. absurd (omega (arith, z))))
 
 pub returns-then-not-time_valid : goal.returns-then-not-time_valid
 returns-then-not-time_valid c =
-    (λ s area lent ec ek ef e. no_time s area (brought (goal.at.returns-then-not-time_valid c).After-prn_valid lent) e (heard (goal.at.returns-then-not-time_valid c).Else-not-prn_valid) (sym c.time_valid.ensures ∙ not-true _ c.if-not-time_valid.true), (λ z. absurd (omega (arith, z)), λ z. absurd (omega (arith, z))))
+    (λ s area lent ec ek ef e. no_time s area (brought (goal.at.returns-then-not-time_valid c).After-prn_valid lent) e (heard (goal.at.returns-then-not-time_valid c).Else-not-prn_valid) (sym c.time_valid.ensures ∙ c.if-not-time_valid.true), (λ z. absurd (omega (arith, z)), λ z. absurd (omega (arith, z))))
 
 pub returns-then-stopped : goal.returns-then-stopped
 returns-then-stopped c = (

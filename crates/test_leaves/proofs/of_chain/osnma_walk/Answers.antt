@@ -13,10 +13,10 @@ use Rattle.test_leaves.proofs.of_chain.osnma_walk.Goals.{After-longest_key-longe
 
 -- a check that was passed
 ns-fits : (c : Else-not-in_range) → within 1 36 c.args.ns ≡ true
-ns-fits c = sym c.in_range.ensures ∙ not-false _ c.if-not-in_range.false
+ns-fits c = sym c.in_range.ensures ∙ c.if-not-in_range.false
 
 nmack-fits : (c : Else-not-in_range-2) → within 1 3 c.args.nmack ≡ true
-nmack-fits c = sym c.in_range-2.ensures ∙ not-false _ c.if-not-in_range-2.false
+nmack-fits c = sym c.in_range-2.ensures ∙ c.if-not-in_range-2.false
 
 -- the longest key
 longest : (c : After-longest_key-longest) → within 12 (longest_key c.args.hf) c.args.width ≡ within 12 c.longest_key-longest.result c.args.width
@@ -24,28 +24,28 @@ longest c = ap (λ (h : ℕ). within 12 h c.args.width) (sym c.longest_key-longe
 
 width_fits : (c : Else-not-in_range-3)
     → within 12 (longest_key c.args.hf) c.args.width ≡ true
-width_fits c = longest c ∙ sym c.in_range-3.ensures ∙ not-false _ c.if-not-in_range-3.false
+width_fits c = longest c ∙ sym c.in_range-3.ensures ∙ c.if-not-in_range-3.false
 
 slots-fit : (c : Else-not-slots_fit) → leb (c.args.m + c.args.n) (2 ^ 34) ≡ true
-slots-fit c = sym c.slots_fit.ensures ∙ not-false _ c.if-not-slots_fit.false
+slots-fit c = sym c.slots_fit.ensures ∙ c.if-not-slots_fit.false
 
 pub returns-then-not-in_range : goal.returns-then-not-in_range
 returns-then-not-in_range c =
     let g = c.args in
     refused (chain_of g.ns g.nmack g.root g.alpha.now g.hf g.width) g.n g.m g.key.now
-    (bad_ns g.hf g.ns g.nmack g.root g.width g.n g.m (sym c.in_range.ensures ∙ not-true _ c.if-not-in_range.true))
+    (bad_ns g.hf g.ns g.nmack g.root g.width g.n g.m (sym c.in_range.ensures ∙ c.if-not-in_range.true))
 
 pub returns-then-not-in_range-2 : goal.returns-then-not-in_range-2
 returns-then-not-in_range-2 c =
     let g = c.args in
     refused (chain_of g.ns g.nmack g.root g.alpha.now g.hf g.width) g.n g.m g.key.now
-    (bad_nmack g.hf g.ns g.nmack g.root g.width g.n g.m (ns-fits (goal.at.returns-then-not-in_range-2 c).Else-not-in_range) (sym c.in_range-2.ensures ∙ not-true _ c.if-not-in_range-2.true))
+    (bad_nmack g.hf g.ns g.nmack g.root g.width g.n g.m (ns-fits (goal.at.returns-then-not-in_range-2 c).Else-not-in_range) (sym c.in_range-2.ensures ∙ c.if-not-in_range-2.true))
 
 pub returns-then-not-in_range-3 : goal.returns-then-not-in_range-3
 returns-then-not-in_range-3 c =
     let g = c.args in
     refused (chain_of g.ns g.nmack g.root g.alpha.now g.hf g.width) g.n g.m g.key.now
-    (bad_width g.hf g.ns g.nmack g.root g.width g.n g.m (ns-fits (goal.at.returns-then-not-in_range-3 c).Else-not-in_range) (nmack-fits (goal.at.returns-then-not-in_range-3 c).Else-not-in_range-2) (longest (goal.at.returns-then-not-in_range-3 c).After-longest_key-longest ∙ sym c.in_range-3.ensures ∙ not-true _ c.if-not-in_range-3.true))
+    (bad_width g.hf g.ns g.nmack g.root g.width g.n g.m (ns-fits (goal.at.returns-then-not-in_range-3 c).Else-not-in_range) (nmack-fits (goal.at.returns-then-not-in_range-3 c).Else-not-in_range-2) (longest (goal.at.returns-then-not-in_range-3 c).After-longest_key-longest ∙ sym c.in_range-3.ensures ∙ c.if-not-in_range-3.true))
 
 pub returns-then-root-ge8589934592 : goal.returns-then-root-ge8589934592
 returns-then-root-ge8589934592 c =
@@ -58,7 +58,7 @@ returns-then-not-slots_fit c =
     let g = c.args in
     refused (chain_of g.ns g.nmack g.root g.alpha.now g.hf g.width) g.n g.m g.key.now
     (bad_slots g.hf g.ns g.nmack g.root g.width g.n g.m (ns-fits (goal.at.returns-then-not-slots_fit c).Else-not-in_range) (nmack-fits (goal.at.returns-then-not-slots_fit c).Else-not-in_range-2) (width_fits (goal.at.returns-then-not-slots_fit c).Else-not-in_range-3) c.if-root-ge8589934592.false
-    (sym c.slots_fit.ensures ∙ not-true _ c.if-not-slots_fit.true))
+    (sym c.slots_fit.ensures ∙ c.if-not-slots_fit.true))
 
 pub walk-requires : goal.walk-requires
 walk-requires c =
