@@ -43,7 +43,7 @@ fn bytes(list: &List) -> Option<Vec<u8>> {
         .collect()
 }
 
-/// The bytes of an AES key that count (crates/aes/specs/Aes.antt, keyBytes): the first 16, 24 or 32, and zeros after a
+/// The bytes of an AES key that count (crates/aes/specs/Aes.antt, key_bytes): the first 16, 24 or 32, and zeros after a
 /// key that is shorter than all.
 fn aes_key(mut key: Vec<u8>) -> Vec<u8> {
     let len = match key.len() {
@@ -436,11 +436,12 @@ impl<'p> Machine<'p> {
             Not => Value::Bool(!self.truth(at(0), base)),
             Ones => Value::Number(self.number(at(0), base).count_ones().into()),
             Length => Value::Number(self.list(at(0), base).len() as u64),
-            GetD => {
+            GetOr | SliceIndex => {
                 let list = self.list(at(0), base);
                 let place = size(self.number(at(1), base));
                 match list.get(place) {
                     Some(value) => value,
+                    None if primitive == SliceIndex => Value::Number(0),
                     None => self.eval(at(2), base),
                 }
             }

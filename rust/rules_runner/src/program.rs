@@ -32,7 +32,8 @@ pub enum Primitive {
     Append,
     Map,
     Length,
-    GetD,
+    GetOr,
+    SliceIndex,
     Take,
     Drop,
     Set,
@@ -142,42 +143,46 @@ fn library(module: &str, name: &str) -> Option<Meaning> {
     use Primitive::*;
     let primitive = |p, arity| Some(Meaning::Primitive(p, arity));
     match (module, name) {
-        ("Prim.Native.Nat", "ℕ")
-        | ("mathlib.Core.Bool", "Bool")
-        | ("mathlib.Core.List", "List")
-        | ("Prim.Native.Nat", "_<_")
-        | ("mathlib.Core.Path", "_≡_") => Some(Meaning::Type),
-        ("Prim.Native.Nat", "zero") => Some(Meaning::Number(0)),
-        ("Prim.Native.Nat", "suc") => primitive(Suc, 1),
-        ("Prim.Native.Nat", "_+_") => primitive(Add, 2),
-        ("Prim.Native.Nat", "_-_") => primitive(Subtract, 2),
-        ("Prim.Native.Nat", "_*_") => primitive(Multiply, 2),
-        ("Prim.Native.Nat", "_/_") => primitive(Divide, 2),
-        ("Prim.Native.Nat", "_%_") => primitive(Remainder, 2),
-        ("Prim.Native.Nat", "_^_") => primitive(Power, 2),
-        ("mathlib.Core.Bool", "true") => Some(Meaning::Bool(true)),
-        ("mathlib.Core.Bool", "false") => Some(Meaning::Bool(false)),
-        ("mathlib.Core.Bool", "cond") => Some(Meaning::Cond),
-        ("mathlib.Core.Bool", "not") => primitive(Not, 1),
-        ("mathlib.Core.Bool", "_&&_") => Some(Meaning::And),
-        ("mathlib.Core.Bool", "_||_") => Some(Meaning::Or),
-        ("mathlib.Core.List", "[]") => Some(Meaning::Nil),
-        ("mathlib.Core.List", "_∷_") => Some(Meaning::Cons),
-        ("mathlib.Core.List", "_++_") => primitive(Append, 2),
-        ("mathlib.Core.List", "map") => primitive(Map, 2),
-        ("lib.Dec", "leb") => primitive(Leb, 2),
-        ("lib.Dec", "ltb") => primitive(Ltb, 2),
-        ("lib.Dec", "eqb") => primitive(Eqb, 2),
-        ("lib.Bits", "bitAnd") => primitive(BitAnd, 2),
-        ("lib.Bits", "bitOr") => primitive(BitOr, 2),
-        ("lib.Bits", "bitXor") => primitive(BitXor, 2),
-        ("lib.Count", "ones") => primitive(Ones, 1),
-        ("lib.ListN", "length") => primitive(Length, 1),
-        ("lib.ListN", "getD") => primitive(GetD, 3),
-        ("lib.ListN", "take") => primitive(Take, 2),
-        ("lib.ListN", "drop") => primitive(Drop, 2),
-        ("lib.ListN", "set") => primitive(Set, 3),
-        ("lib.ListN", "replicate") => primitive(Replicate, 2),
+        ("Rattle.std.specs.Prelude", _) => {}
+        ("Rattle.std.specs.Int.Bits", "bit_and" | "bit_or" | "bit_xor") => {}
+        ("Rattle.std.specs.Int.Count", "ones") => return primitive(Ones, 1),
+        ("lib.Dec", "leb" | "ltb" | "eqb") => {}
+        _ => return None,
+    }
+    match name {
+        "ℕ" | "Bool" | "List" | "◌<◌" | "◌≡◌" => Some(Meaning::Type),
+        "zero" => Some(Meaning::Number(0)),
+        "suc" => primitive(Suc, 1),
+        "◌+◌" => primitive(Add, 2),
+        "◌-◌" => primitive(Subtract, 2),
+        "◌*◌" => primitive(Multiply, 2),
+        "◌/◌" => primitive(Divide, 2),
+        "◌%◌" => primitive(Remainder, 2),
+        "◌^◌" => primitive(Power, 2),
+        "true" => Some(Meaning::Bool(true)),
+        "false" => Some(Meaning::Bool(false)),
+        "cond" => Some(Meaning::Cond),
+        "not" => primitive(Not, 1),
+        "◌&&◌" => Some(Meaning::And),
+        "◌||◌" => Some(Meaning::Or),
+        "[]" => Some(Meaning::Nil),
+        "◌∷◌" => Some(Meaning::Cons),
+        "◌++◌" => primitive(Append, 2),
+        "map" => primitive(Map, 2),
+        "leb" => primitive(Leb, 2),
+        "ltb" => primitive(Ltb, 2),
+        "eqb" => primitive(Eqb, 2),
+        "bit_and" => primitive(BitAnd, 2),
+        "bit_or" => primitive(BitOr, 2),
+        "bit_xor" => primitive(BitXor, 2),
+        "count_ones" => primitive(Ones, 1),
+        "length" => primitive(Length, 1),
+        "get_or" | "slice_index_or" => primitive(GetOr, 3),
+        "slice_index" => primitive(SliceIndex, 2),
+        "take" => primitive(Take, 2),
+        "drop" => primitive(Drop, 2),
+        "set" => primitive(Set, 3),
+        "replicate" => primitive(Replicate, 2),
         _ => None,
     }
 }
@@ -191,17 +196,14 @@ enum Source {
 }
 
 fn source(path: &[String]) -> Option<Source> {
-    let Some(krate) = path[0].strip_prefix("Rattle·") else {
-        return Some(Source::Library(path.join(".")));
-    };
-    let krate = krate.strip_suffix("·specs").unwrap_or(krate).to_string();
-    match path[1..].iter().map(String::as_str).collect::<Vec<_>>()[..] {
-        ["specs", "declared", _] => Some(Source::Type),
-        ["specs", "declared", owner, "the-variants"] => Some(Source::Variants {
+    match path.iter().map(String::as_str).collect::<Vec<_>>()[..] {
+        ["Rattle", "std", ..] | ["lib", ..] => Some(Source::Library(path.join("."))),
+        ["Rattle", _, "specs", "declared", _] => Some(Source::Type),
+        ["Rattle", krate, "specs", "declared", owner, "TheVariants"] => Some(Source::Variants {
             owner: format!("{krate}.{owner}"),
         }),
-        ["specs", file] => Some(Source::File {
-            krate,
+        ["Rattle", krate, "specs", file] => Some(Source::File {
+            krate: krate.into(),
             file: file.into(),
         }),
         _ => None,
@@ -648,8 +650,8 @@ impl Program {
         for function in &mut loader.functions {
             function.native = match (hashes, function.name.as_str()) {
                 (Hashes::Portable, "sha256.Sha256.sha256") => Some(Native::Sha256),
-                (Hashes::Portable, "sha3.Sha3.sha3-224") => Some(Native::Sha3_224),
-                (Hashes::Portable, "sha3.Sha3.sha3-256") => Some(Native::Sha3_256),
+                (Hashes::Portable, "sha3.Sha3.sha3_224") => Some(Native::Sha3_224),
+                (Hashes::Portable, "sha3.Sha3.sha3_256") => Some(Native::Sha3_256),
                 (Hashes::Portable, "hmac.Hmac.hmac") => Some(Native::Hmac),
                 (Hashes::Portable, "cmac.Cmac.cmac") => Some(Native::Cmac),
                 _ => None,

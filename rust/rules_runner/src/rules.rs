@@ -19,22 +19,22 @@ pub type Regions = [Vec<u64>; 16];
 
 /// The definitions of crates/rules/specs/State.antt that name the regions' lengths.
 const LENGTHS: [&str; 16] = [
-    "configLength",
-    "clocksLength",
-    "wordsLength",
-    "stampsLength",
-    "blocksLength",
-    "dsmIds",
-    "dsmIds",
-    "dsmIds",
-    "pubkeysLength",
-    "offerLength",
-    "chainLength",
-    "numbersLength",
-    "heldkeyLength",
-    "waitingLength",
-    "setsLength",
-    "arrivalsLength",
+    "config_length",
+    "clocks_length",
+    "words_length",
+    "stamps_length",
+    "blocks_length",
+    "dsm_ids",
+    "dsm_ids",
+    "dsm_ids",
+    "pubkeys_length",
+    "offer_length",
+    "chain_length",
+    "numbers_length",
+    "heldkey_length",
+    "waiting_length",
+    "sets_length",
+    "arrivals_length",
 ];
 
 pub struct Rules {
@@ -213,7 +213,7 @@ impl Rules {
 
     /// The bytes of a public key of a type (01, "a key of 29, 33, 49 or 67 bytes").
     pub fn key_len(&self, key_type: u64) -> usize {
-        self.size("rules.PublicKeys.keyLength", vec![Value::Number(key_type)])
+        self.size("rules.PublicKeys.key_length", vec![Value::Number(key_type)])
     }
 
     /// SHA-256, SHA3 and HMAC-SHA-256 as they are defined.
@@ -222,11 +222,11 @@ impl Rules {
     }
 
     pub fn sha3_224(&self, message: &[u8]) -> Vec<u8> {
-        bytes(&self.call("sha3.Sha3.sha3-224", vec![list(message)]))
+        bytes(&self.call("sha3.Sha3.sha3_224", vec![list(message)]))
     }
 
     pub fn sha3_256(&self, message: &[u8]) -> Vec<u8> {
-        bytes(&self.call("sha3.Sha3.sha3-256", vec![list(message)]))
+        bytes(&self.call("sha3.Sha3.sha3_256", vec![list(message)]))
     }
 
     pub fn hmac(&self, key: &[u8], message: &[u8]) -> Vec<u8> {
@@ -343,7 +343,7 @@ impl Run<'_> {
         key: &[u8],
     ) -> u64 {
         self.told(
-            "rules.Calls.startCall",
+            "rules.Calls.start_call",
             vec![
                 ("ns", number(ns)),
                 ("id", number(id)),
@@ -358,7 +358,7 @@ impl Run<'_> {
 
     pub fn word(&mut self, prn: u8, time: u32, word: &[u8]) -> u64 {
         self.told(
-            "rules.Calls.wordCall",
+            "rules.Calls.word_call",
             vec![
                 ("prn", number(prn)),
                 ("time", Value::Number(time.into())),
@@ -369,7 +369,7 @@ impl Run<'_> {
 
     pub fn verdict(&mut self, good: u8, id: u8, message: &[u8], signature: &[u8]) -> u64 {
         self.told(
-            "rules.Calls.verdictCall",
+            "rules.Calls.verdict_call",
             vec![
                 ("good", number(good)),
                 ("id", number(id)),
@@ -388,7 +388,7 @@ impl Run<'_> {
             ("bytes", list(fields)),
         ]);
         let arguments = vec![self.state.clone(), self.area.clone(), input];
-        let told = self.rules.call("rules.Calls.subframeCall", arguments);
+        let told = self.rules.call("rules.Calls.subframe_call", arguments);
         self.state = self.rules.field(&told, "state");
         self.area = self.rules.field(&told, "area");
         SubframeAnswer {
@@ -410,7 +410,7 @@ impl Run<'_> {
 
     pub fn read_set(&self, prn: u8) -> SetAnswer {
         let arguments = vec![self.state.clone(), number(prn), zeros(69)];
-        let read = self.rules.call("rules.Calls.setRead", arguments);
+        let read = self.rules.call("rules.Calls.set_read", arguments);
         SetAnswer {
             number: self.rules.number(&read, "code"),
             set: self.rules.bytes(&read, "out"),
@@ -424,10 +424,12 @@ impl Run<'_> {
         let auth = self.rules.field(&self.state, "auth");
         let arguments = ["sets", "arrivals"].map(|name| self.rules.field(&auth, name));
         let arguments = [&arguments[..], &[number(prn)]].concat();
-        let pair = self.rules.call("rules.Candidates.pairAt", arguments);
+        let pair = self.rules.call("rules.Candidates.pair_at", arguments);
         let set = self.rules.field(&pair, "candidate");
         let time = self.rules.number(&pair, "latest").checked_sub(1)?;
-        let issue = self.rules.call("rules.Navdata.setIssue", vec![set.clone()]);
+        let issue = self
+            .rules
+            .call("rules.Navdata.set_issue", vec![set.clone()]);
         let Value::Number(iodnav) = issue else {
             panic!("{issue:?} is no number");
         };
@@ -441,7 +443,7 @@ impl Run<'_> {
 
     pub fn read_offer(&self) -> OfferAnswer {
         let arguments = vec![self.state.clone(), zeros(45), zeros(132), zeros(67)];
-        let read = self.rules.call("rules.Calls.offerRead", arguments);
+        let read = self.rules.call("rules.Calls.offer_read", arguments);
         OfferAnswer {
             number: self.rules.number(&read, "code"),
             message: self.rules.bytes(&read, "message"),
@@ -454,7 +456,7 @@ impl Run<'_> {
 
     pub fn four(&self, limit: u32) -> FourAnswer {
         let arguments = vec![self.state.clone(), Value::Number(limit.into())];
-        let read = self.rules.call("rules.Calls.fourRead", arguments);
+        let read = self.rules.call("rules.Calls.four_read", arguments);
         FourAnswer {
             number: self.rules.number(&read, "code"),
             yes: self.rules.number(&read, "yes"),
@@ -463,7 +465,7 @@ impl Run<'_> {
 
     pub fn progress(&self, lent: &[u8]) -> ProgressAnswer {
         let arguments = vec![self.state.clone(), list(lent)];
-        let read = self.rules.call("rules.Calls.progressRead", arguments);
+        let read = self.rules.call("rules.Calls.progress_read", arguments);
         ProgressAnswer {
             number: self.rules.number(&read, "code"),
             pairs: self.rules.bytes(&read, "out"),

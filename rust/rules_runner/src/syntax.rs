@@ -31,12 +31,13 @@ pub struct Term {
 
 #[derive(Debug)]
 pub enum Kind {
-    /// A name, with its module's path where it is written out or a projection where it is tight (`r.field`).
+    /// A name, with its module's path where it is written out or its fields (`r.field`).
     Name(Vec<String>),
     Number(u64),
     Apply(Box<Term>, Vec<Term>),
-    /// An infix operator, by its full name (`_+_`).
+    /// An infix operator, by its full name (`◌+◌`).
     Infix(String, Box<Term>, Box<Term>),
+    /// A field of what stands in brackets (`(g x).field`).
     Project(Box<Term>, String),
     Let(String, Box<Term>, Box<Term>),
     Lambda(Vec<String>, Box<Term>),
@@ -92,7 +93,7 @@ struct Token {
     spaced: bool,
 }
 
-/// Infix operators: how tightly they bind, and whether to the right (mathlib.Core, Prim.Native.Nat).
+/// Infix operators: how tightly they bind, and whether to the right.
 const OPERATORS: [(&str, u32, bool); 10] = [
     ("||", 30, false),
     ("&&", 35, false),
@@ -398,7 +399,7 @@ impl<'t> Parser<'t> {
             let line = self.line();
             self.at += 1;
             let right = self.infix(if to_right { tight } else { tight + 1 })?;
-            let kind = Kind::Infix(format!("_{word}_"), Box::new(left), Box::new(right));
+            let kind = Kind::Infix(format!("◌{word}◌"), Box::new(left), Box::new(right));
             left = Term { line, kind };
         }
         Ok(left)
@@ -421,19 +422,13 @@ impl<'t> Parser<'t> {
         if self.opens_block() {
             return self.term();
         }
-        let mut head = self.atom()?;
+        let head = self.atom()?;
         let mut arguments = Vec::new();
         loop {
-            let line = head.line;
             if self.opens_atom() {
                 arguments.push(self.atom()?);
             } else if self.opens_block() {
                 arguments.push(self.term()?);
-            } else if self.sign('.') && self.peek().is_some_and(|dot| dot.spaced) {
-                self.at += 1;
-                head = applied(head, std::mem::take(&mut arguments));
-                let kind = Kind::Project(Box::new(head), self.name()?);
-                head = Term { line, kind };
             } else {
                 return Ok(applied(head, arguments));
             }
@@ -444,8 +439,12 @@ impl<'t> Parser<'t> {
         let line = self.line();
         if self.sign('(') {
             self.at += 1;
-            let term = self.term()?;
+            let mut term = self.term()?;
             self.expect_sign(')')?;
+            while let Some(label) = self.field()? {
+                let kind = Kind::Project(Box::new(term), label);
+                term = Term { line, kind };
+            }
             return Ok(term);
         }
         match self.word() {
@@ -475,14 +474,8 @@ impl<'t> Parser<'t> {
             }
             Some(_) if self.opens_atom() => {
                 let mut path = vec![self.name()?];
-                while self.sign('.') && !self.tokens[self.at].spaced {
-                    match self.tokens.get(self.at + 1) {
-                        Some(next) if !next.spaced => {
-                            self.at += 1;
-                            path.push(self.name()?);
-                        }
-                        _ => break,
-                    }
+                while let Some(part) = self.field()? {
+                    path.push(part);
                 }
                 let kind = Kind::Name(path);
                 Ok(Term { line, kind })
@@ -490,6 +483,20 @@ impl<'t> Parser<'t> {
             Some(word) => self.fail(format!("'{word}' is not read here")),
             None => self.fail("a term is expected"),
         }
+    }
+
+    /// What stands behind a point, with a space neither before it nor after.
+    fn field(&mut self) -> Result<Option<String>> {
+        let tight = |at| {
+            self.tokens
+                .get(at)
+                .is_some_and(|token: &Token| !token.spaced)
+        };
+        if !self.sign('.') || !tight(self.at) || !tight(self.at + 1) {
+            return Ok(None);
+        }
+        self.at += 1;
+        self.name().map(Some)
     }
 
     fn path(&mut self) -> Result<Vec<String>> {

@@ -96,7 +96,7 @@ impl GateRules {
     /// Whether the limit of the valve at this place, from 0, was met, by the history; the newest decision first.
     pub fn mets_of(&self, place: u64, events: &[Event]) -> Vec<bool> {
         let arguments = vec![Value::Number(place), self.events(events)];
-        match self.rules.call("valve_rules.Claim.metsOf", arguments) {
+        match self.rules.call("valve_rules.Claim.mets_of", arguments) {
             Value::List(mets) => mets.values().iter().map(is_yes).collect(),
             value => panic!("{value:?} is no list"),
         }
@@ -105,15 +105,15 @@ impl GateRules {
     /// Whether the valve at this place is free.
     pub fn is_free(&self, gate: &[u8], place: u64) -> bool {
         let arguments = vec![list(gate), Value::Number(place)];
-        let valve = self.rules.call("valve_rules.Gate.valveAt", arguments);
-        is_yes(&self.rules.call("valve_rules.Valve.isFree", vec![valve]))
+        let valve = self.rules.call("valve_rules.Gate.valve_at", arguments);
+        is_yes(&self.rules.call("valve_rules.Valve.is_free", vec![valve]))
     }
 
     /// The free valves as binary digits, valve 1 in the lowest.
     pub fn free_valves(&self, gate: &[u8]) -> u64 {
         match self
             .rules
-            .call("valve_rules.Gate.freeValves", vec![list(gate)])
+            .call("valve_rules.Gate.free_valves", vec![list(gate)])
         {
             Value::Number(free) => free,
             value => panic!("{value:?} is no number"),
@@ -128,9 +128,9 @@ impl GateRules {
     /// The call that an answer of the core is shown by.
     pub fn shown(&self, gate: &[u8], event: Event) -> Given {
         let (name, numbers) = match event {
-            Event::Started(n) => ("startShown", vec![n]),
-            Event::Answered(n) => ("answerShown", vec![n]),
-            Event::Subframe(hkroot, mack) => ("subframeShown", vec![hkroot, mack]),
+            Event::Started(n) => ("start_shown", vec![n]),
+            Event::Answered(n) => ("answer_shown", vec![n]),
+            Event::Subframe(hkroot, mack) => ("subframe_shown", vec![hkroot, mack]),
             Event::Decide(..) => panic!("a decision is no answer of the core"),
         };
         let mut arguments = vec![list(gate)];
@@ -141,7 +141,7 @@ impl GateRules {
 
     fn if_lent(&self, gate: &[u8], made: Value) -> Given {
         let arguments = vec![list(gate), made];
-        let shown = self.rules.call("valve_rules.Gate.ifLent", arguments);
+        let shown = self.rules.call("valve_rules.Gate.if_lent", arguments);
         Given {
             number: self.rules.number(&shown, "code"),
             gate: self.rules.bytes(&shown, "gate"),
@@ -153,7 +153,7 @@ impl GateRules {
     pub fn decide(&self, gate: &[u8], met20: u8, met10: u8) -> Given {
         let answers = [met20, met10].map(|answer| number(answer.into()));
         let arguments = [vec![list(gate)], answers.to_vec()].concat();
-        self.decided(self.rules.call("valve_rules.Gate.decideCall", arguments))
+        self.decided(self.rules.call("valve_rules.Gate.decide_call", arguments))
     }
 
     /// The call that asks the core, lent these two regions of any lengths.
@@ -164,10 +164,10 @@ impl GateRules {
         let state = self.rules.state(&regions);
         let four = |limit| {
             let arguments = vec![state.clone(), number(limit)];
-            self.rules.call("rules.Calls.fourRead", arguments)
+            self.rules.call("rules.Calls.four_read", arguments)
         };
         let arguments = vec![list(gate), four(20), four(10)];
-        self.decided(self.rules.call("valve_gate.Asked.decideAsked", arguments))
+        self.decided(self.rules.call("valve_gate.Asked.decide_asked", arguments))
     }
 
     fn decided(&self, decided: Value) -> Given {

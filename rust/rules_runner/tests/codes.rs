@@ -83,9 +83,9 @@ fn codes() {
                 let want = cmac(&key, &message).unwrap();
                 let case = format!("{key_len} and {len} bytes");
                 assert_eq!(definitions.cmac(&key, &message), want, "{case}");
-                let kept = definitions.bytes("cmac.Cmac.keptOf", &[&key]);
+                let kept = definitions.bytes("cmac.Cmac.kept_of", &[&key]);
                 assert_eq!(kept.len(), 273);
-                let with = definitions.bytes("cmac.Cmac.cmacWith", &[&kept, &message]);
+                let with = definitions.bytes("cmac.Cmac.cmac_with", &[&kept, &message]);
                 assert_eq!(with, want, "{case}");
             }
         }

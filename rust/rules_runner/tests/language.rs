@@ -6,20 +6,25 @@ use rules_runner::syntax::Error;
 use rules_runner::value::{List, Value};
 use std::fs;
 use std::path::PathBuf;
+use std::sync::atomic::{AtomicUsize, Ordering};
 
-const HEAD: &str = "use Prim.Native.Nat.{ℕ, zero, suc, _+_, _-_, _*_, _/_, _%_, _^_}
-use mathlib.Core.Bool.{Bool, true, false, cond, not, _&&_, _||_}
-use mathlib.Core.List.{List, [], _∷_, _++_, map}
-use lib.Dec.{leb, ltb, eqb}
-use lib.ListN.{length, getD, take, drop, set, replicate}
+const HEAD: &str = "use Rattle.std.specs.Prelude.{ℕ, zero, suc, ◌+◌, ◌-◌, ◌*◌, ◌/◌, ◌%◌, ◌^◌}
+use Rattle.std.specs.Prelude.{Bool, true, false, cond, not, ◌&&◌, ◌||◌}
+use Rattle.std.specs.Prelude.{List, [], ◌∷◌, ◌++◌, map}
+use Rattle.std.specs.Prelude.{leb, ltb, eqb}
+use Rattle.std.specs.Prelude.{length, get_or, take, drop, set, replicate}
 ";
+
+/// How many folders were made: tests run side by side, and two may take the same name.
+static FOLDERS: AtomicUsize = AtomicUsize::new(0);
 
 /// A folder of crates with one file, `test/specs/File.antt`; it goes with the value.
 struct Folder(PathBuf);
 
 impl Folder {
     fn new(name: &str, text: &str) -> Folder {
-        let root = std::env::temp_dir().join(format!("rules_runner_{}_{name}", std::process::id()));
+        let (process, at) = (std::process::id(), FOLDERS.fetch_add(1, Ordering::Relaxed));
+        let root = std::env::temp_dir().join(format!("rules_runner_{process}_{at}_{name}"));
         fs::create_dir_all(root.join("test/specs")).unwrap();
         fs::write(root.join("test/specs/File.antt"), format!("{HEAD}{text}")).unwrap();
         Folder(root)
@@ -87,7 +92,7 @@ fn operators() {
         term("g", "Bool", "not (leb 3 2) && (ltb 2 3 && eqb 4 4)"),
         "true"
     );
-    // division by 0 (mathlib.Core.Nat)
+    // division by 0
     assert_eq!(term("h", "ℕ", "7 / 0 * 10 + 7 % 0"), "7");
 }
 
@@ -100,7 +105,11 @@ fn lists() {
         "2 3"
     );
     assert_eq!(
-        term("d", "ℕ", "getD (1 ∷ 2 ∷ []) 2 9 + length (take 5 (1 ∷ []))"),
+        term(
+            "d",
+            "ℕ",
+            "get_or (1 ∷ 2 ∷ []) 2 9 + length (take 5 (1 ∷ []))"
+        ),
         "10"
     );
     assert_eq!(
@@ -173,8 +182,8 @@ sum (x ∷ xs) = x + sum xs
 
 abbrev pub both : ℕ → ℕ → ℕ
 both n zero = sum (1 ∷ 2 ∷ [])
-both n (suc (suc m)) = (pair n m) .low * 10 + (pair n m) .high
-both n (suc zero) = let p = pair n n in p .low + p.high
+both n (suc (suc m)) = (pair n m).low * 10 + (pair n m).high
+both n (suc zero) = let p = pair n n in p.low + p.high
 ";
     assert_eq!(value("both", text, vec![4, 0]), "3");
     assert_eq!(value("both", text, vec![4, 1]), "8");
@@ -184,8 +193,8 @@ both n (suc zero) = let p = pair n n in p .low + p.high
 // Constructors of a type that a crate's code declares, with arguments and without; patterns look into the arguments.
 #[test]
 fn constructors() {
-    let text = "use Rattle·test·specs.specs.declared.Shape.{Shape}
-use Rattle·test·specs.specs.declared.Shape.the-variants.{Dot, Line, Pair}
+    let text = "use Rattle.test.specs.declared.Shape.{Shape}
+use Rattle.test.specs.declared.Shape.TheVariants.{Dot, Line, Pair}
 
 shape : ℕ → Shape
 shape zero = Dot
@@ -242,7 +251,7 @@ run n = area (both (box n (λ x. x + 1)) dot)
 #[test]
 #[should_panic(expected = "is matched against Constructor")]
 fn constructors_of_another_arity() {
-    let text = "use Rattle·test·specs.specs.declared.Shape.the-variants.{Line}
+    let text = "use Rattle.test.specs.declared.Shape.TheVariants.{Line}
 
 one : Shape → ℕ
 one (Line a b) = a
@@ -268,7 +277,7 @@ lazy : ℕ → ℕ
 lazy n =
     let huge = 2 ^ (200 + n) in
     let r = record { one = 5; other = huge } in
-    cond (eqb n 1) (unless n huge (r .one)) huge
+    cond (eqb n 1) (unless n huge r.one) huge
 ";
     assert_eq!(value("lazy", text, vec![1]), "5");
 }
@@ -347,7 +356,11 @@ fn refused() {
             "clauses of different length",
             "f : ℕ → ℕ → ℕ\nf zero n = n\nf (suc m) = m\n",
         ),
-        (0, "'lib.Dec.min' is not known", "use lib.Dec.{min}\n"),
+        (
+            0,
+            "'Rattle.std.specs.Prelude.min' is not known",
+            "use Rattle.std.specs.Prelude.{min}\n",
+        ),
         (1, "this pattern is not read", "f : ℕ → ℕ\nf (n + 1) = n\n"),
         (1, "is a type", "f : ℕ\nf = ℕ\n"),
         (2, "a term is expected", "f : ℕ\nf =\n    (1 +\n"),
