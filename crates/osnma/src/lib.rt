@@ -1,6 +1,6 @@
 #![tactic(auto)]
 
-// The boundary to C and Rust: the calls over lent regions, as exported functions. A slice is two arguments, a pointer and a count of elements.
+// The boundary to C and Rust: the calls over lent regions. Crate osnma_c exports them; there a slice is two arguments, a pointer and a count of elements.
 // include/osnma.h and rust/osnma have the calls over one object. Nobody but these calls writes the regions between a start and the last call, and the
 // regions do not overlap.
 // No function asks anything of its caller: any lengths, bytes, numbers and times. A call is lent the regions that it reads or writes: start and
@@ -14,16 +14,14 @@ ghost use Rattle.rules.specs.Calls.{start_call, word_call, subframe_call, verdic
 ghost use Rattle.rules.specs.State.{State, state, word_lent, verdict_lent, set_lent, offer_lent, four_lent, progress_lent};
 
 // The number of the layout of regions and exported parameters, in the name too: a caller that was written for another one does not link.
-#[unsafe(no_mangle)]
-pub extern "C" fn osnma_layout_2() -> u32
+pub fn osnma_layout_2() -> u32
     ensures { result ≡ 2 }
 {
     2
 }
 
 // Begins: installs the settings and the first public key, and clears all else (01, start).
-#[unsafe(no_mangle)]
-pub extern "C" fn osnma_regions_start(
+pub fn osnma_regions_start(
     config: &mut [u8],
     clocks: &mut [u32],
     words: &mut [u8],
@@ -79,8 +77,7 @@ pub extern "C" fn osnma_regions_start(
 }
 
 // Lends an I/NAV word with the GST_SF of its sub-frame (01, word).
-#[unsafe(no_mangle)]
-pub extern "C" fn osnma_regions_word(
+pub fn osnma_regions_word(
     config: &[u8],
     clocks: &mut [u32],
     words: &mut [u8],
@@ -104,8 +101,7 @@ pub extern "C" fn osnma_regions_word(
 // Lends the authentication fields of a sub-frame, 15 of five bytes, with its GST_SF (01, sub-frame). `marks` say which of them came (02, P3), field 0
 // in the first of sixteen bits; the last bit is not read, nor is what is lent for a field that did not come. The two halves' numbers go to `hkroot`
 // and `mack`; it returns how many tag records of 12 bytes now stand at the front of `area`.
-#[unsafe(no_mangle)]
-pub extern "C" fn osnma_regions_subframe(
+pub fn osnma_regions_subframe(
     config: &mut [u8],
     clocks: &mut [u32],
     words: &[u8],
@@ -163,8 +159,7 @@ pub extern "C" fn osnma_regions_subframe(
 }
 
 // Tells what the signature chip says of the waiting message: good 1, bad 0 (01, verdict).
-#[unsafe(no_mangle)]
-pub extern "C" fn osnma_regions_verdict(
+pub fn osnma_regions_verdict(
     config: &[u8],
     pubkeys: &mut [u8],
     offer: &mut [u8],
@@ -198,8 +193,7 @@ pub extern "C" fn osnma_regions_verdict(
 }
 
 // Reads a satellite's authentic set, its IODnav and the GST_SF of its tag (01, read).
-#[unsafe(no_mangle)]
-pub extern "C" fn osnma_regions_read_set(
+pub fn osnma_regions_read_set(
     sets: &[u8],
     arrivals: &[u32],
     prn: u8,
@@ -221,8 +215,7 @@ pub extern "C" fn osnma_regions_read_set(
 }
 
 // Reads the message that waits for a verdict, with its key (01, read).
-#[unsafe(no_mangle)]
-pub extern "C" fn osnma_regions_read_message(
+pub fn osnma_regions_read_message(
     pubkeys: &[u8],
     offer: &[u8],
     message: &mut [u8],
@@ -245,13 +238,7 @@ pub extern "C" fn osnma_regions_read_message(
 }
 
 // Asks whether at least four satellites have an authentic set whose tag came within `limit` sub-frames of the last one noted (02, P5): 1 in `yes`, or 0.
-#[unsafe(no_mangle)]
-pub extern "C" fn osnma_regions_four(
-    clocks: &[u32],
-    arrivals: &[u32],
-    limit: u32,
-    yes: &mut u8,
-) -> u32
+pub fn osnma_regions_four(clocks: &[u32], arrivals: &[u32], limit: u32, yes: &mut u8) -> u32
     ensures { (s : State) →
         four_told result yes.new ≡ four_read (four_lent s clocks.now arrivals.now) limit }
 {
@@ -266,8 +253,7 @@ pub extern "C" fn osnma_regions_four(
 }
 
 // Asks how far along each message is (02, P9): of each of the sixteen DSM IDs the blocks held and the blocks missing, 255 where the total is unknown.
-#[unsafe(no_mangle)]
-pub extern "C" fn osnma_regions_progress(blocks: &[u8], present: &[u16], out: &mut [u8]) -> u32
+pub fn osnma_regions_progress(blocks: &[u8], present: &[u16], out: &mut [u8]) -> u32
     ensures { (s : State) →
         progress_told result out.new ≡ progress_read (progress_lent s blocks.now present.now) out.old }
 {

@@ -23,16 +23,14 @@ pub const CENTRE_LIMIT: u32 = 20;
 pub const OUTER_LIMIT: u32 = 10;
 
 // The number of the layout of the state and of exported parameters, in the name too: a caller that was written for another one does not link.
-#[unsafe(no_mangle)]
-pub extern "C" fn valve_gate_layout_1() -> u32
+pub fn valve_gate_layout_1() -> u32
     ensures { result ≡ 1 }
 {
     1
 }
 
 // All valves closed, and no stop seen.
-#[unsafe(no_mangle)]
-pub extern "C" fn valve_gate_state_begin(gate: &mut [u8]) -> u32
+pub fn valve_gate_state_begin(gate: &mut [u8]) -> u32
     ensures { S.shown result gate.new ≡ S.if_lent gate.old S.begun }
 {
     if gate.len() != GATE_LENGTH {
@@ -43,8 +41,7 @@ pub extern "C" fn valve_gate_state_begin(gate: &mut [u8]) -> u32
 }
 
 // What the core answered to a start.
-#[unsafe(no_mangle)]
-pub extern "C" fn valve_gate_state_started(gate: &mut [u8], number: u32) -> u32
+pub fn valve_gate_state_started(gate: &mut [u8], number: u32) -> u32
     ensures { S.shown result gate.new ≡ S.if_lent gate.old (S.start_shown gate.old number) }
 {
     if gate.len() != GATE_LENGTH {
@@ -55,8 +52,7 @@ pub extern "C" fn valve_gate_state_started(gate: &mut [u8], number: u32) -> u32
 }
 
 // What the core answered to a word or a verdict.
-#[unsafe(no_mangle)]
-pub extern "C" fn valve_gate_state_answered(gate: &mut [u8], number: u32) -> u32
+pub fn valve_gate_state_answered(gate: &mut [u8], number: u32) -> u32
     ensures { S.shown result gate.new ≡ S.if_lent gate.old (S.answer_shown gate.old number) }
 {
     if gate.len() != GATE_LENGTH {
@@ -67,8 +63,7 @@ pub extern "C" fn valve_gate_state_answered(gate: &mut [u8], number: u32) -> u32
 }
 
 // What the core answered to a sub-frame: the numbers of its two halves.
-#[unsafe(no_mangle)]
-pub extern "C" fn valve_gate_state_subframe(gate: &mut [u8], hkroot: u32, mack: u32) -> u32
+pub fn valve_gate_state_subframe(gate: &mut [u8], hkroot: u32, mack: u32) -> u32
     ensures { S.shown result gate.new ≡ S.if_lent gate.old (S.subframe_shown gate.old hkroot mack) }
 {
     if gate.len() != GATE_LENGTH {
@@ -80,13 +75,7 @@ pub extern "C" fn valve_gate_state_subframe(gate: &mut [u8], hkroot: u32, mack: 
 
 // A decision, by what the core answered for an age of 20 and for one of 10: 1 says yes, any other number no. `free` has valve 1 in its lowest binary digit,
 // valve 48 in digit 47, 1 for free.
-#[unsafe(no_mangle)]
-pub extern "C" fn valve_gate_state_decide(
-    gate: &mut [u8],
-    met20: u8,
-    met10: u8,
-    free: &mut u64,
-) -> u32
+pub fn valve_gate_state_decide(gate: &mut [u8], met20: u8, met10: u8, free: &mut u64) -> u32
     ensures { S.decision result gate.new free.new ≡ S.decide_call gate.old met20 met10 }
 {
     *free = 0;
@@ -99,8 +88,7 @@ pub extern "C" fn valve_gate_state_decide(
 }
 
 // A decision that asks the core itself, lent the two regions that its question is lent. Where their lengths are wrong, 1 too.
-#[unsafe(no_mangle)]
-pub extern "C" fn valve_gate_core_decide(
+pub fn valve_gate_core_decide(
     gate: &mut [u8],
     clocks: &[u32],
     arrivals: &[u32],

@@ -14,7 +14,7 @@ use Rattle.call_subframe.proofs.both_halves.Goals as goal
 use Rattle.call_subframe.proofs.both_halves.Goals.{After-mack_of-mack}
 
 pub hkroot_received-a-requires : goal.hkroot_received-a-requires
-hkroot_received-a-requires c = c.pre.0
+hkroot_received-a-requires c = c.requires.lent
 
 pub returns-then-a : goal.returns-then-a
 returns-then-a c =
@@ -29,10 +29,11 @@ sixty c = search rules
 
 pub mack_half-m-requires : goal.mack_half-m-requires
 mack_half-m-requires c =
-    let q = c.pre in (
-      ((c.hkroot_received-a.kept.0 ∙ q.0.1.0, q.1.0.0.0), (q.1.0.0.1, sixty (goal.at.mack_half-m-requires c).After-mack_of-mack)),
-      (q.1.1.0, (q.1.0.1.0, q.1.0.1.1)),
-    )
+    record {
+      config_len = ((c.hkroot_received-a.kept.0 ∙ c.requires.lent.1.0, c.requires.words_len.0.0), (c.requires.words_len.0.1, sixty (goal.at.mack_half-m-requires c).After-mack_of-mack));
+      sets_len = c.requires.sets_len;
+      chain_len = (c.requires.words_len.1.0, c.requires.words_len.1.1);
+    }
 
 pub overflow_cast-result : goal.overflow_cast-result
 overflow_cast-result c = omega (arith, c.mack_half_lem.ensures.1)

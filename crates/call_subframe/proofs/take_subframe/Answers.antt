@@ -52,13 +52,13 @@ note_subframe-requires-2 c =
 
 pub both_halves-requires : goal.both_halves-requires
 both_halves-requires c =
-    let l = long (goal.at.both_halves-requires c).Start in (
-      (record { blocks_long = l.blocks; headers_long = l.headers; marks_long = l.present; times_long = l.since }, (l.config, (l.pubkeys, l.offer))),
-      (
-        ((l.words, l.stamps), (l.chain, (l.numbers, l.heldkey))),
-        (((l.sets, l.arrivals), (l.waiting, c.pre.1.0)), long-fields (goal.at.both_halves-requires c).After-received-fields),
-      ),
-    )
+    let l = long (goal.at.both_halves-requires c).Start in
+    record {
+      lent = (record { blocks_long = l.blocks; headers_long = l.headers; marks_long = l.present; times_long = l.since }, (l.config, (l.pubkeys, l.offer)));
+      words_len = ((l.words, l.stamps), (l.chain, (l.numbers, l.heldkey)));
+      sets_len = ((l.sets, l.arrivals), (l.waiting, c.requires.1.0));
+      fields_len = long-fields (goal.at.both_halves-requires c).After-received-fields;
+    }
 
 pub returns : goal.returns
 returns c =

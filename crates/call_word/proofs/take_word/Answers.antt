@@ -26,7 +26,7 @@ word c = record { prn = c.args.prn; time = c.args.time; bytes = c.args.bytes.now
 -- the number is that of the rule's checks
 number_is : (c : After-word_refusal-code) (s : State) → c.word_refusal-code.result ≡ first_refusal (word_checks (lent c s) (word c))
 number_is c s =
-    c.word_refusal-code.ensures.0 (lent c s) refl refl (fits s c.args.config.now c.args.clocks.now c.args.words.now c.args.stamps.now c.args.bytes.now c.pre)
+    c.word_refusal-code.ensures.0 (lent c s) refl refl (fits s c.args.config.now c.args.clocks.now c.args.words.now c.args.stamps.now c.args.bytes.now c.requires)
 
 pub returns-then-code-ne0 : goal.returns-then-code-ne0
 returns-then-code-ne0 c = λ s. refused (lent (goal.at.returns-then-code-ne0 c).Start s) (word (goal.at.returns-then-code-ne0 c).Start) _ c.if-code-ne0.true (number_is (goal.at.returns-then-code-ne0 c).After-word_refusal-code s)

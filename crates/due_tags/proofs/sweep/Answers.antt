@@ -18,7 +18,10 @@ bounds-outcomes-k c = search rules
 pub sweep_one-kept-requires : goal.sweep_one-kept-requires
 sweep_one-kept-requires c =
     let few = c.loop-k.invariant.1.1.few in
-    (search rules, ((few, search rules), search rules))
+    record {
+      sets_len = search rules;
+      kept_le_k = ((few, search rules), search rules);
+    }
 
 pub loop-k-preserved : goal.loop-k-preserved
 loop-k-preserved c =

@@ -15,7 +15,10 @@ use Rattle.mack_half.proofs.judge_tags.Goals.{After-judge_due-stay}
 
 pub judge_due-stay-requires : goal.judge_due-stay-requires
 judge_due-stay-requires c =
-    (c.requires.1.0, ((c.requires.1.1.0.0.0, c.requires.1.1.0.1), c.requires.1.1.1.near_is))
+    record {
+      sets_len = c.requires.1.0;
+      sound = ((c.requires.1.1.0.0.0, c.requires.1.1.0.1), c.requires.1.1.1.near_is);
+    }
 
 few : (d : After-judge_due-stay) → d.judge_due-stay.result ≤ d.args.n
 few d = d.judge_due-stay.ensures.1.few
@@ -24,17 +27,20 @@ pub overflow_sub-told : goal.overflow_sub-told
 overflow_sub-told c = omega (arith, few (goal.at.overflow_sub-told c).After-judge_due-stay)
 
 pub overflow_mul-fields : goal.overflow_mul-fields
-overflow_mul-fields c = omega (arith, c.pre.1.1.0.0.1.few)
+overflow_mul-fields c = omega (arith, c.requires.sound.0.0.1.few)
 
 pub judge_own-kept-requires : goal.judge_own-kept-requires
 judge_own-kept-requires c =
-    let q = c.pre in
-    let l = q.1.1.0.0.1.few in
-    (q.0, (search rules, ((q.1.1.0.0.0.walks, (q.1.1.0.0.1, keys_fit c.args.c q.1.1.0.0.0)), ((q.1.1.0.1.0, q.1.1.1), (omega (arith, few (goal.at.judge_own-kept-requires c).After-judge_due-stay), omega (arith, few (goal.at.judge_own-kept-requires c).After-judge_due-stay, l))))))
+    let l = c.requires.sound.0.0.1.few in
+    record {
+      config_len = c.requires.config_len;
+      sets_len = search rules;
+      walks = ((c.requires.sound.0.0.0.walks, (c.requires.sound.0.0.1, keys_fit c.args.c c.requires.sound.0.0.0)), ((c.requires.sound.0.1.0, c.requires.sound.1), (omega (arith, few (goal.at.judge_own-kept-requires c).After-judge_due-stay), omega (arith, few (goal.at.judge_own-kept-requires c).After-judge_due-stay, l))));
+    }
 
 pub overflow_add-result : goal.overflow_add-result
 overflow_add-result c =
-    omega (arith, few (goal.at.overflow_add-result c).After-judge_due-stay, c.pre.1.1.0.0.1.few, c.pre.1.1.0.1.1)
+    omega (arith, few (goal.at.overflow_add-result c).After-judge_due-stay, c.requires.sound.0.0.1.few, c.requires.sound.0.1.1)
 
 pub returns : goal.returns
 returns c =
@@ -45,6 +51,6 @@ returns c =
     g.waiting.now g.area.now
     c.judge_due-stay.last.1.1.1.1.1.0 c.judge_due-stay.last.1.1.1.1.1.1.1.0 c.judge_due-stay.last.1.1.1.1.1.1.1.1.0 c.judge_due-stay.last.1.1.1.1.1.1.1.1.1.0
     _ _ _ _ g.marks g.n (g.c.nmack * g.c.fields) c.judge_due-stay.result c.judge_own-kept.result w
-    c.pre.1.0.1.0 c.pre.1.0.1.1 (omega (arith, few (goal.at.returns c).After-judge_due-stay, c.pre.1.1.0.0.1.few))
+    c.requires.sets_len.1.0 c.requires.sets_len.1.1 (omega (arith, few (goal.at.returns c).After-judge_due-stay, c.requires.sound.0.0.1.few))
     c.judge_due-stay.ensures.0 c.judge_due-stay.ensures.1 c.judge_own-kept.ensures.0 c.judge_own-kept.ensures.1 in
-    (r.0, (r.1.1, omega (arith, few (goal.at.returns c).After-judge_due-stay, c.pre.1.1.0.0.1.few, c.pre.1.1.0.1.1)))
+    (r.0, (r.1.1, omega (arith, few (goal.at.returns c).After-judge_due-stay, c.requires.sound.0.0.1.few, c.requires.sound.0.1.1)))

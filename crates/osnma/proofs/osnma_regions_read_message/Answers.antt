@@ -30,7 +30,11 @@ pub read_message-requires : goal.read_message-requires
 read_message-requires c =
     let s = lent (goal.at.read_message-requires c).Start blank_core in
     let l = long_three (offer_shaped s) c.args.message.now c.args.signature.now c.args.pubkey.now 45 132 67 (fits (goal.at.read_message-requires c).Else-not-shaped-message blank_core) in
-    (message_sized s l.0, (l.1, (refl, refl)))
+    record {
+      pubkeys_len = message_sized s l.0;
+      message_len = l.1;
+      id_value = (refl, refl);
+    }
 
 pub returns : goal.returns
 returns c = c.read_message.ensures

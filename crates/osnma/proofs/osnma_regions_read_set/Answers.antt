@@ -30,7 +30,10 @@ pub read_set-requires : goal.read_set-requires
 read_set-requires c =
     let s = lent (goal.at.read_set-requires c).Start blank_core in
     let l = long_one (set_shaped s) c.args.out.now 69 (fits (goal.at.read_set-requires c).Else-not-shaped-out blank_core) in
-    ((set_sized s l.0, l.1), (refl, refl))
+    record {
+      sets_len = (set_sized s l.0, l.1);
+      issue_value = (refl, refl);
+    }
 
 pub returns : goal.returns
 returns c = c.read_set.ensures

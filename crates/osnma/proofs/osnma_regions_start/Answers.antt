@@ -43,12 +43,21 @@ start_refusal-code-requires c =
 pub install_settings-requires : goal.install_settings-requires
 install_settings-requires c =
     let l = long (goal.at.install_settings-requires c).Else-code-ne0 in
-    (((l.0.config, l.0.clocks), (l.0.words, l.0.stamps)), (((l.0.blocks, l.0.headers), (l.0.present, l.0.since)), (l.1.0, l.1.1.0)))
+    record {
+      config_len = ((l.0.config, l.0.clocks), (l.0.words, l.0.stamps));
+      blocks_len = ((l.0.blocks, l.0.headers), (l.0.present, l.0.since));
+      marks_len = (l.1.0, l.1.1.0);
+    }
 
 pub install_key-requires : goal.install_key-requires
 install_key-requires c =
     let l = long (goal.at.install_key-requires c).Else-code-ne0 in
-    ((l.0.pubkeys, (l.0.offer, l.0.chain)), ((l.0.numbers, (l.0.heldkey, l.0.waiting)), ((l.0.sets, l.0.arrivals), (l.1.1.1, (c.start-refusal.ensures.1 c.if1.false).1))))
+    record {
+      pubkeys_len = (l.0.pubkeys, (l.0.offer, l.0.chain));
+      numbers_len = (l.0.numbers, (l.0.heldkey, l.0.waiting));
+      sets_len = (l.0.sets, l.0.arrivals);
+      pubkey_len = (l.1.1.1, (c.start-refusal.ensures.1 c.if1.false).1);
+    }
 
 pub returns : goal.returns
 returns c =

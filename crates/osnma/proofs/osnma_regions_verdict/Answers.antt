@@ -38,7 +38,10 @@ judge_verdict-requires c =
     let s = lent (goal.at.judge_verdict-requires c).Start blank_core in
     let l = long_two (verdict_shaped s) c.args.message.now c.args.signature.now 45 132 (fits (goal.at.judge_verdict-requires c).Else-not-shaped-message blank_core) in
     let z = verdict_sized s l.0 in
-    ((((z.config, z.pubkeys), (z.offer, z.chain)), ((z.numbers, z.heldkey), (z.waiting, l.1))), z.arrivals)
+    record {
+      config_len = (((z.config, z.pubkeys), (z.offer, z.chain)), ((z.numbers, z.heldkey), (z.waiting, l.1)));
+      arrivals_len = z.arrivals;
+    }
 
 pub returns : goal.returns
 returns c = c.judge_verdict.ensures

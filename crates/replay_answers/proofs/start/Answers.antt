@@ -28,7 +28,7 @@ upto c i h = to_record c.args.input.now i c.requires h
 number_is : (c : After-start_refusal-code) → c.start_refusal-code.result ≡ first_refusal (start_checks (whole c) (start_of c.args.input.now))
 unfolding start_of part
 number_is c =
-    c.start_refusal-code.ensures.0 (whole c) _ _ _ (start_lent (whole c) c.args.input.now c.pre ∙ sym c.shaped-fits.ensures)
+    c.start_refusal-code.ensures.0 (whole c) _ _ _ (start_lent (whole c) c.args.input.now c.requires ∙ sym c.shaped-fits.ensures)
 
 pub start_refusal-code-requires : goal.start_refusal-code-requires
 start_refusal-code-requires c = λ _. part_long c.args.input.now 5 28 c.requires tt
@@ -38,11 +38,20 @@ returns-then-code-ne0 c = λ area. start_refused _ area _ _ _ (number_is (goal.a
 
 pub install_settings-requires : goal.install_settings-requires
 install_settings-requires c =
-    (((c.install-settings-arg.given.0.1, c.install-settings-arg2.given.0.1), (c.install-settings-arg3.given.0.1, c.install-settings-arg4.given.0.1)), (((c.install-settings-arg5.given.0.1, c.install-settings-arg6.given.0.1), (c.install-settings-arg7.given.0.1, c.install-settings-arg8.given.0.1)), (part_long c.args.input.now 5 28 c.requires tt, part_long c.args.input.now 33 32 c.requires tt)))
+    record {
+      config_len = ((c.install-settings-arg.given.0.1, c.install-settings-arg2.given.0.1), (c.install-settings-arg3.given.0.1, c.install-settings-arg4.given.0.1));
+      blocks_len = ((c.install-settings-arg5.given.0.1, c.install-settings-arg6.given.0.1), (c.install-settings-arg7.given.0.1, c.install-settings-arg8.given.0.1));
+      marks_len = (part_long c.args.input.now 5 28 c.requires tt, part_long c.args.input.now 33 32 c.requires tt);
+    }
 
 pub install_key-requires : goal.install_key-requires
 install_key-requires c =
-    ((c.install-key-arg.given.0.1, (c.install-key-arg2.given.0.1, c.install-key-arg3.given.0.1)), ((c.install-key-arg4.given.0.1, (c.install-key-arg5.given.0.1, c.install-key-arg6.given.0.1)), ((c.install-key-arg7.given.0.1, c.install-key-arg8.given.0.1), (part_long c.args.input.now 65 67 c.pre tt, (c.start-refusal.ensures.1 c.if1.false).1))))
+    record {
+      pubkeys_len = (c.install-key-arg.given.0.1, (c.install-key-arg2.given.0.1, c.install-key-arg3.given.0.1));
+      numbers_len = (c.install-key-arg4.given.0.1, (c.install-key-arg5.given.0.1, c.install-key-arg6.given.0.1));
+      sets_len = (c.install-key-arg7.given.0.1, c.install-key-arg8.given.0.1);
+      pubkey_len = (part_long c.args.input.now 65 67 c.requires tt, (c.start-refusal.ensures.1 c.if1.false).1);
+    }
 
 pub returns : goal.returns
 unfolding start_of part

@@ -10,7 +10,10 @@ use Rattle.section_tags.proofs.field_one.Goals as goal
 
 pub settle-requires : goal.settle-requires
 settle-requires c =
-    (c.pre.1.0, (((search rules, c.pre.1.1.1.1), (c.pre.1.1.1.0, λ e. absurd (omega (arith, e, c.outcome_number-outcome.ensures)))), c.pre.1.1.0.0.0.fit.ms_high))
+    record {
+      sets_len = c.requires.sets_len;
+      set_len = (((search rules, c.requires.laid.1.1), (c.requires.laid.1.0, λ e. absurd (omega (arith, e, c.outcome_number-outcome.ensures)))), c.requires.laid.0.0.0.fit.ms_high);
+    }
 
 pub returns-then-field_lost : goal.returns-then-field_lost
 returns-then-field_lost c h k f m =

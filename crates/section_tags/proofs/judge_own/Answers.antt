@@ -45,7 +45,10 @@ loop-j-init c =
 pub next_key-requires : goal.next_key-requires
 next_key-requires c =
     let q = c.requires.1.1 in
-    (((q.0.0, (q.1.0.0, (q.0.1.0.fields_low, omega (arith, q.0.1.0.few, c.loop-j-test.true)))), q.1.0.1), c.loop-j.invariant.1.0)
+    record {
+      walks = ((q.0.0, (q.1.0.0, (q.0.1.0.fields_low, omega (arith, q.0.1.0.few, c.loop-j-test.true)))), q.1.0.1);
+      kept_value = c.loop-j.invariant.1.0;
+    }
 
 pub overflow_add-at : goal.overflow_add-at
 overflow_add-at c =
@@ -55,13 +58,12 @@ overflow_add-at c =
 pub field_one-r-requires : goal.field_one-r-requires
 field_one-r-requires c =
     let v = c.loop-j.invariant in
-    let q = c.requires in (
-      q.0,
-      (
-        ((v.0.1.1.0, v.0.1.1.1.0), (v.0.1.0, v.0.1.1.1.1)),
-        ((q.1.1.0.1, c.loop-j-test.true), (v.1.1.1.places, omega (arith, q.1.1.1.1.1, c.loop-j-test.true))),
-      ),
-    )
+    let q = c.requires in
+    record {
+      config_len = q.0;
+      sets_len = ((v.0.1.1.0, v.0.1.1.1.0), (v.0.1.0, v.0.1.1.1.1));
+      laid = ((q.1.1.0.1, c.loop-j-test.true), (v.1.1.1.places, omega (arith, q.1.1.1.1.1, c.loop-j-test.true)));
+    }
 
 pub overflow_add-j : goal.overflow_add-j
 overflow_add-j c =

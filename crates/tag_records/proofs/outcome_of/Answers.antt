@@ -16,7 +16,10 @@ returns-then-not-names_satellite c =
 
 pub agree-requires : goal.agree-requires
 agree-requires c =
-    ((c.requires.0, c.requires.1.0), (c.names_satellite.ensures.1 (not-false c.names_satellite.result c.if-not-names_satellite.false), c.requires.1.1))
+    record {
+      sets_len = (c.requires.0, c.requires.1.0);
+      le_prn = (c.names_satellite.ensures.1 (not-false c.names_satellite.result c.if-not-names_satellite.false), c.requires.1.1);
+    }
 
 pub returns : goal.returns
 returns c =
