@@ -63,7 +63,7 @@ both_halves-requires c =
 pub returns : goal.returns
 returns c =
     accepted (before (goal.at.returns c).Start) c.args.area.now (brought (goal.at.returns c).Start) _ _ (sym c.if-code-ne0.false ∙ c.subframe_refusal-code.ensures.0 (before (goal.at.returns c).Start) c.args.area.now c.args.bytes.now refl refl c.received-fields.ensures (fit (goal.at.returns c).Start)) c.note_subframe-2.ensures
-    (c.both_halves.ensures c.note_subframe-2.new.0 c.args.bytes.now c.received-fields.ensures)
+    (c.both_halves.ensures c.note_subframe-2.new.clocks c.args.bytes.now c.received-fields.ensures)
 
 pub received-fields-requires : goal.received-fields-requires
 received-fields-requires c = c.requires.1.1
