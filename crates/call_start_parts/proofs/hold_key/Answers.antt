@@ -14,7 +14,7 @@ slice_bounds-add_key-end c =
 pub add_key-requires : goal.add_key-requires
 add_key-requires c =
     let n = c.key_length-n in
-    ((c.fill.auto.0 ∙ c.requires.0.0, omega arith), (omega arith, simp length-take (omega (arith, n.ensures, key-length_bound c.args.kind))))
+    ((c.fill.auto.dst ∙ c.requires.0.0, omega arith), (omega arith, simp length-take (omega (arith, n.ensures, key-length_bound c.args.kind))))
 
 pub returns : goal.returns
 returns c =
