@@ -1,8 +1,7 @@
 -- `section_lost::macseq_came` meets its contract: after k turns r says it of the first k fields.
 use mathlib.Core.Path.{◌≡◌, sym, ◌∙◌}
-use Prim.Native.Nat.{◌-◌, ◌*◌}
+use Prim.Native.Nat.{◌*◌}
 use native.Mathlib.Omega.{arith}
-use Rattle.rules.specs.Received.{flexible_came}
 use Rattle.received.proofs.Cases.{item_came, item_lost}
 use Rattle.section_lost.proofs.Lost.{none_flexible, next_flexible, macseq_lost, macseq_whole}
 use Rattle.section_lost.proofs.macseq_came.Goals as goal
@@ -15,7 +14,7 @@ macseq_item-requires c =
 pub returns-in_default : goal.returns-in_default
 returns-in_default c =
     let g = c.args in
-    sym (macseq_lost g.config.now g.c g.time g.marks (item_lost g.mack.now g.marks g.c.ms 12 (sym c.enum-told2.given.1 ∙ c.macseq_item.ensures)))
+    sym (macseq_lost g.config.now g.c g.time g.marks (item_lost g.mack.now g.marks g.c.ms 12 (sym c.in_default.is ∙ c.macseq_item.ensures)))
 
 pub overflow_mul-n : goal.overflow_mul-n
 overflow_mul-n c = omega (arith, c.requires.0.few)
@@ -50,4 +49,4 @@ returns c =
     let h : c.loop-k.k ≡ g.c.nmack * g.c.fields = omega (arith, c.loop-k-test.false, c.loop-k.invariant.0) in
     c.loop-k.invariant.1
     ∙ rw h
-    (sym (macseq_whole g.config.now g.c g.time g.marks (item_came g.mack.now g.marks g.c.ms 12 _ (sym c.enum_told.given.1 ∙ c.macseq_item.ensures))))
+    (sym (macseq_whole g.config.now g.c g.time g.marks (item_came g.mack.now g.marks g.c.ms 12 _ (sym c.in-Came.is ∙ c.macseq_item.ensures))))

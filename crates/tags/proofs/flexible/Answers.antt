@@ -1,6 +1,5 @@
 -- `tags::flexible` meets its contract: the test is the definition's own.
 use Rattle.rules.specs.Tags as rules
-use borrow.Author.Rules.{rules}
 use Rattle.tags.proofs.flexible.Goals as goal
 
 pub returns : goal.returns

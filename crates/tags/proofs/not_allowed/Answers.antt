@@ -1,5 +1,4 @@
 -- `tags::not_allowed` meets its contract: each test is the definition's own.
-use borrow.Author.Rules.{rules}
 use Rattle.rules.specs.State.{prn_valid}
 use Rattle.rules.specs.Tags as rules
 use Rattle.laws.proofs.Tests.{or_false}

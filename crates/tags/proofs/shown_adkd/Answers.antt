@@ -9,15 +9,15 @@ use Rattle.tags.proofs.shown_adkd.Goals as goal
 pub returns-in_default : goal.returns-in_default
 returns-in_default c =
     let g = c.args in
-    shown_lost g.mack.now g.marks (field_at g.c g.j + g.c.ms + 8) 4 (sym c.enum_told.given.1 ∙ c.adkd_item.ensures)
+    shown_lost g.mack.now g.marks (field_at g.c g.j + g.c.ms + 8) 4 (sym c.in_default.is ∙ c.adkd_item.ensures)
 
 pub overflow_cast-result : goal.overflow_cast-result
 overflow_cast-result c =
     let g = c.args in
-    let e = shown_came g.mack.now g.marks (field_at g.c g.j + g.c.ms + 8) 4 _ (sym c.adkd.given.1 ∙ c.adkd_item.ensures) in
+    let e = shown_came g.mack.now g.marks (field_at g.c g.j + g.c.ms + 8) 4 _ (sym c.in-Came.is ∙ c.adkd_item.ensures) in
     omega (arith, e, shown_lt g.mack.now g.marks (field_at g.c g.j + g.c.ms + 8) 4)
 
 pub returns : goal.returns
 returns c =
     let g = c.args in
-    shown_came g.mack.now g.marks (field_at g.c g.j + g.c.ms + 8) 4 _ (sym c.adkd.given.1 ∙ c.adkd_item.ensures)
+    shown_came g.mack.now g.marks (field_at g.c g.j + g.c.ms + 8) 4 _ (sym c.in-Came.is ∙ c.adkd_item.ensures)
