@@ -7,7 +7,7 @@
 
 PREFIX ?= /usr/local
 VERSION := $(shell sed -n 's/^version = "\(.*\)"/\1/p' rust/Cargo.toml)
-PROVED := crates.txt $(shell find crates -type f)
+PROVED := crates.txt $(shell find crates -name out -prune -o -type f -print)
 TO = $(DESTDIR)$(PREFIX)
 
 LIBRARIES := osnma valve_gate
@@ -16,13 +16,13 @@ ARCHIVES := $(LIBRARIES:%=target/staticlib/lib%.a)
 
 all: $(ARCHIVES) target/bin/replay rust/target/release/jobsheet
 
-# No two rt may work in one tree: the libraries are made one after the other.
+# Only one rt works in a crate at a time: the libraries are made one after the other.
 .NOTPARALLEL:
 $(ARCHIVES): target/staticlib/lib%.a: $(PROVED)
-	rt staticlib $*
+	tools/build $*
 
 target/bin/replay: $(PROVED)
-	rt check replay
+	tools/build replay
 
 # cargo knows itself what is new.
 rust/target/release/jobsheet: $(ARCHIVES) FORCE

@@ -1,4 +1,4 @@
-//! For build scripts: links archives that `rt staticlib` writes at the top of the repository, or those in the folder that
+//! For build scripts: links archives that `tools/build` writes at the top of the repository, or those in the folder that
 //! `OSNMA_STATICLIB` names. Checking and documenting need none: where one is missing, only a warning says so here, and the
 //! link fails.
 
@@ -17,7 +17,7 @@ pub fn link_archives(what: &str, libraries: &[&str]) {
         println!("cargo:rerun-if-changed={}", archive.display());
         if !archive.exists() {
             println!(
-                "cargo:warning={what}: {} is missing; `rt staticlib {library}` at the top of the repository makes it",
+                "cargo:warning={what}: {} is missing; `tools/build {library}` at the top of the repository makes it",
                 archive.display()
             );
         }

@@ -15,7 +15,7 @@
 //! **The specification** is the one for signal-in-space testing, v1.1, of 2018, not the later
 //! operational interface control document, whose messages differ.
 //!
-//! **The archive**: the build links `libosnma.a`, x86-64 ELF, which `rt staticlib osnma` writes to
+//! **The archive**: the build links `libosnma.a`, x86-64 ELF, which `tools/build osnma` writes to
 //! `target/staticlib` of the repository; the environment variable `OSNMA_STATICLIB` names another
 //! folder. `cargo check` and `cargo doc` need none. An archive of another layout than this crate's
 //! does not link ([`LAYOUT`]).

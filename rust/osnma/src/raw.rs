@@ -1,4 +1,4 @@
-//! The exports of crates/osnma as they are (`include/osnma.h`). A call is lent the regions that it
+//! The exports of crates/osnma_c as they are (`include/osnma.h`). A call is lent the regions that it
 //! reads or writes, each a pointer and a count of elements, in the order of
 //! crates/rules/specs/State.antt. Each call is total: a count that is
 //! not right is answered 1, and no contents, argument or count makes a call leave the memory that

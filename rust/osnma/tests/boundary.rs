@@ -4,11 +4,14 @@
 mod archive;
 #[path = "boundary/assurance.rs"]
 mod assurance;
+#[path = "boundary/contracts.rs"]
+mod contracts;
 #[path = "boundary/declarations.rs"]
 mod declarations;
 mod elf;
 
 use archive::Symbols;
+use contracts::{contracts, imports};
 use declarations::{of_header, of_rattle, of_rust, Declarations};
 use std::collections::BTreeSet;
 use std::fs;
@@ -54,7 +57,7 @@ fn exports_of(wanted: impl Fn(&str) -> bool) -> Declarations {
 const BOUNDARY: &str = "crates/assurance/proofs/Boundary.antt";
 const RUN: &str = "crates/assurance/specs/Run.antt";
 
-/// The exports of crates/osnma that crates/assurance holds to the rules and has in its runs.
+/// The calls of crates/osnma that crates/assurance holds to the rules and has in its runs.
 fn covered() -> BTreeSet<String> {
     assurance::covered(&read(BOUNDARY), &read(RUN)).unwrap()
 }
@@ -68,6 +71,9 @@ const NO_CALLS: [(&str, &str); 1] = [(
 /// What C and Rust declare of a library for receivers and controllers.
 struct Declared {
     library: &'static str,
+    /// The crate with the calls, and the one that exports them.
+    calls: &'static str,
+    exports: &'static str,
     header: &'static str,
     /// What the macros of the header begin with.
     prefix: &'static str,
@@ -76,6 +82,8 @@ struct Declared {
 
 const CORE: Declared = Declared {
     library: "osnma",
+    calls: "osnma",
+    exports: "osnma_c",
     header: "include/osnma.h",
     prefix: "OSNMA",
     raw: "rust/osnma/src/raw.rs",
@@ -83,6 +91,8 @@ const CORE: Declared = Declared {
 
 const GATE: Declared = Declared {
     library: "valve_gate",
+    calls: "valve_gate",
+    exports: "valve_gate_c",
     header: "include/valve_gate.h",
     prefix: "VALVE_GATE",
     raw: "rust/valve_gate/src/raw.rs",
@@ -107,13 +117,13 @@ fn the_core_exports_what_assurance_covers() {
     assert!(exported.len() >= 5, "{exported:?}");
     let known = covered().union(&no_calls()).cloned().collect();
     assert_eq!(exported, known);
-    assert_eq!(exported, names(&exports_of(|name| name == "osnma")));
+    assert_eq!(exported, names(&exports_of(|name| name == CORE.exports)));
 }
 
 // What is no call has nothing to read or write.
 #[test]
 fn no_calls_are_lent_nothing() {
-    let core = exports_of(|name| name == "osnma");
+    let core = exports_of(|name| name == CORE.exports);
     for (name, reason) in NO_CALLS {
         assert!(core[name].parameters.is_empty(), "{name}: {reason}");
     }
@@ -192,9 +202,51 @@ fn the_gate_stands_alone_beside_the_core() {
 #[test]
 fn libraries_export_their_sources() {
     for (name, exports) in exports() {
-        let linked = [CORE, GATE].iter().any(|of| of.library == name);
-        assert!(linked || name.starts_with("test_"), "{name}");
-        assert_eq!(archive(&name).defined, names(&exports), "{name}");
+        let linked = [CORE, GATE].into_iter().find(|of| of.exports == name);
+        assert!(linked.is_some() || name.starts_with("test_"), "{name}");
+        let library = linked.map_or(&name[..], |of| of.library);
+        assert_eq!(archive(library).defined, names(&exports), "{name}");
+    }
+}
+
+fn source_of(name: &str) -> String {
+    read(&format!("crates/{name}/src/lib.rt"))
+}
+
+/// What an export's source states otherwise than the source of the calls, or under names that mean something else there.
+fn stated_otherwise(exports: &str, calls: &str) -> Option<String> {
+    let (of_calls, of_exports) = (contracts(calls), contracts(exports));
+    let differs =
+        |name: &&String| of_exports[*name] != of_calls.get(*name).cloned().unwrap_or_default();
+    let (known, named) = (imports(calls), imports(exports));
+    let name = of_exports.keys().find(differs);
+    name.or_else(|| named.difference(&known).next()).cloned()
+}
+
+// crates/assurance and crates/valve_safety speak of the calls' contracts: each export has its call's, parameters and clauses
+// word for word.
+#[test]
+fn exports_state_what_their_calls_do() {
+    for of in [CORE, GATE] {
+        let (exports, calls) = (source_of(of.exports), source_of(of.calls));
+        let stated = contracts(&exports);
+        assert_eq!(
+            stated.keys().cloned().collect::<BTreeSet<_>>(),
+            names(&exports_of(|name| name == of.exports))
+        );
+        assert_eq!(stated_otherwise(&exports, &calls), None);
+    }
+    let (exports, calls) = (source_of(CORE.exports), source_of(CORE.calls));
+    for (old, new) in [
+        ("ensures { result ≡ 2 }", "ensures { result ≡ result }"),
+        ("blocks: &mut [u8],", "blocks: &[u8],"),
+        ("≡ word_call (word_lent s", "≡ word_call (verdict_lent s"),
+        ("fn osnma_regions_four(", "fn osnma_regions_many("),
+        ("{told, ", "{subframe as told, "),
+    ] {
+        assert!(exports.contains(old), "{old}");
+        let changed = exports.replacen(old, new, 1);
+        assert!(stated_otherwise(&changed, &calls).is_some(), "{new}");
     }
 }
 
@@ -222,7 +274,7 @@ fn difference(declared: &Declarations, exports: &Declarations) -> Option<String>
 #[test]
 fn declarations_are_those_of_the_sources() {
     for of in [CORE, GATE] {
-        let exports = exports_of(|name| name == of.library);
+        let exports = exports_of(|name| name == of.exports);
         let (header, raw) = (read(of.header), read(of.raw));
         assert_eq!(difference(&of_header(&header, of.prefix), &exports), None);
         assert_eq!(difference(&of_rust(&raw), &exports), None);
@@ -269,7 +321,7 @@ fn declarations_stand_in_one_place() {
 
 /// Each change of a library's declarations, in the header and in Rust, is seen as a difference from its source.
 fn changes_are_seen(of: Declared, in_c: &[(&str, &str)], in_rust: &[(&str, &str)]) {
-    let exports = exports_of(|name| name == of.library);
+    let exports = exports_of(|name| name == of.exports);
     let (header, raw) = (read(of.header), read(of.raw));
     let from_header = |header: &str| difference(&of_header(header, of.prefix), &exports);
     let from_raw = |raw: &str| difference(&of_rust(raw), &exports);
@@ -381,8 +433,8 @@ fn one_change_of_a_declaration_of_the_gate_is_seen() {
 // An export that is added to the source is seen in its declarations.
 #[test]
 fn an_added_export_is_seen() {
-    let source = "#[no_mangle]\npub extern \"C\" fn osnma_mark(arrivals: &mut [u32]) {}\n";
-    let mut core = exports_of(|name| name == "osnma");
+    let source = "#[unsafe(no_mangle)]\npub extern \"C\" fn osnma_mark(arrivals: &mut [u32]) {}\n";
+    let mut core = exports_of(|name| name == CORE.exports);
     let header = of_header(&read(CORE.header), CORE.prefix);
     assert_eq!(difference(&header, &core), None);
     core.extend(of_rattle(source));
@@ -417,8 +469,8 @@ fn a_call_that_is_not_covered_is_seen() {
         ("osnma_regions_word.Reads", "osnma_regions_words.Reads"),
         ("→ word-reads.Asked κs args", "→ Unit {0}"),
         (
-            "→ word-rule κs args r last → word-reads.Learnt",
-            "→ word-rule κs args r last → start-reads.Learnt",
+            "→ word_rule κs args r last → word-reads.Learnt",
+            "→ word_rule κs args r last → start-reads.Learnt",
         ),
     ] {
         assert!(boundary.contains(old), "{old}");

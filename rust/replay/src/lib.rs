@@ -7,7 +7,7 @@ use std::path::{Path, PathBuf};
 use std::process::{Child, Command, Stdio};
 use std::thread;
 
-/// Where `rt check replay` and `rt ci` leave the program that they proved.
+/// Where `tools/build replay` and `.ci/run` leave the program that they proved.
 ///
 /// # Errors
 ///
@@ -18,7 +18,7 @@ pub fn program() -> Result<PathBuf, String> {
         Ok(path)
     } else {
         Err(format!(
-            "The proved replay program is not built: {} is missing. Run `rt check replay` at the top of the repository first.",
+            "The proved replay program is not built: {} is missing. Run `tools/build replay` at the top of the repository first.",
             path.display()
         ))
     }

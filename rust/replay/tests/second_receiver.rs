@@ -61,7 +61,7 @@ fn recorded_runs() {
     assert_eq!(count, 29, "recorded runs found");
 }
 
-/// What `rt check replay` runs.
+/// What `rt ci` runs.
 #[test]
 fn the_run_of_the_gate() {
     let folder = Path::new(env!("CARGO_MANIFEST_DIR")).join("../../crates/replay");

@@ -17,7 +17,7 @@
 //! also where no sub-frame came; between two decisions the valves stay as the last one said. A gate that is begun beside a core
 //! that is stopped already learns of the stop by the next answer 4 alone.
 //!
-//! **The archive**: the build links `libvalve_gate.a`, which `rt staticlib valve_gate` writes beside the core's, in the way that
+//! **The archive**: the build links `libvalve_gate.a`, which `tools/build valve_gate` writes beside the core's, in the way that
 //! [`osnma`] links its own. One of another layout than this crate's does not link ([`LAYOUT`]).
 //!
 //! What stands behind a free valve and what does not, and how a boom controller is wired, is said in `docs/BOOM.md`.

@@ -1,4 +1,4 @@
-//! The exports of crates/valve_gate as they are (`include/valve_gate.h`). Each call is total: a count that is not right is
+//! The exports of crates/valve_gate_c as they are (`include/valve_gate.h`). Each call is total: a count that is not right is
 //! answered 1, and no contents, argument or count makes a call leave the memory that it is lent. Nothing is kept after a
 //! call.
 //!

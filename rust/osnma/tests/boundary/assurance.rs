@@ -1,12 +1,12 @@
-//! The exports that crates/assurance holds to the rules (proofs/Boundary.antt) and has in its runs (specs/Run.antt).
+//! The calls of crates/osnma that crates/assurance holds to the rules (proofs/Boundary.antt) and has in its runs (specs/Run.antt).
 
 use std::collections::{BTreeMap, BTreeSet};
 
-/// The aliases under which a file names what the checker makes of an export's contract, by the export's name.
+/// The aliases under which a file names what the checker makes of a call's contract, by the call's name.
 fn readings(text: &str) -> Result<BTreeMap<String, String>, String> {
     let mut found = BTreeMap::new();
     for line in text.lines() {
-        let rest = line.strip_prefix("use Rattle·osnma.proofs.");
+        let rest = line.strip_prefix("use Rattle.osnma.proofs.");
         let Some((name, alias)) = rest.and_then(|rest| rest.split_once(".Reads as ")) else {
             continue;
         };
@@ -17,12 +17,15 @@ fn readings(text: &str) -> Result<BTreeMap<String, String>, String> {
     Ok(found)
 }
 
-/// What a call asks, and what a caller learns, in both directions: stated of each export that is named.
+/// What a call asks, and what a caller learns, in both directions: stated of each call that is named.
 fn stated(boundary: &str) -> Result<BTreeSet<String>, String> {
     let statements = || boundary.lines().filter(|line| line.starts_with("pub "));
     let readings = readings(boundary)?;
     for alias in readings.values() {
-        let rule = alias.replace("-reads", "-rule");
+        let rule = format!(
+            "{}_rule",
+            alias.trim_end_matches("-reads").replace('-', "_")
+        );
         for what in [
             format!("→ {alias}.Asked κs args"),
             format!("{alias}.Learnt κs args r last → {rule} κs args r last"),
@@ -67,7 +70,7 @@ fn constructors(run: &str) -> Result<Vec<String>, String> {
         .collect()
 }
 
-/// The exports that a step of a run can be: each has a constructor of `Did`, whose record has what is learnt of it.
+/// The calls that a step of a run can be: each has a constructor of `Did`, whose record has what is learnt of it.
 fn in_runs(run: &str) -> Result<BTreeSet<String>, String> {
     let readings = readings(run)?;
     let mut found = BTreeSet::new();
@@ -76,7 +79,7 @@ fn in_runs(run: &str) -> Result<BTreeSet<String>, String> {
         let learns = |alias: &str| words(text).any(|word| word == format!("{alias}.Learnt"));
         let mut learnt = readings.iter().filter(|(_, alias)| learns(alias));
         let (Some((name, _)), None) = (learnt.next(), learnt.next()) else {
-            return Err(format!("{record} has not one export's `Learnt`"));
+            return Err(format!("{record} has not one call's `Learnt`"));
         };
         if !found.insert(name.clone()) {
             return Err(format!("{name} has two constructors"));
@@ -86,7 +89,7 @@ fn in_runs(run: &str) -> Result<BTreeSet<String>, String> {
     without.map_or(Ok(found), |name| Err(format!("{name} has no constructor")))
 }
 
-/// The exports that both files cover; an error where one lacks what the other has.
+/// The calls that both files cover; an error where one lacks what the other has.
 pub fn covered(boundary: &str, run: &str) -> Result<BTreeSet<String>, String> {
     let (stated, in_runs) = (stated(boundary)?, in_runs(run)?);
     match stated.symmetric_difference(&in_runs).next() {

@@ -1,4 +1,4 @@
-//! Exported functions as three languages write them: the Rattle source (`#[no_mangle] pub extern "C" fn`), Rust
+//! Exported functions as three languages write them: the Rattle source (`#[unsafe(no_mangle)] pub extern "C" fn`), Rust
 //! (`extern "C"` blocks) and C (prototypes of the header). Anything else than the forms in use is a panic.
 
 use std::collections::BTreeMap;
@@ -219,7 +219,7 @@ fn add(to: &mut Declarations, name: String, declaration: Declaration) {
 pub fn of_rattle(text: &str) -> Declarations {
     let mut reader = Reader::new(text);
     let mut found = Declarations::new();
-    while reader.find(&["#", "[", "no_mangle", "]"]) {
+    while reader.find(&["#", "[", "unsafe", "(", "no_mangle", ")", "]"]) {
         reader.expect(&["pub", "extern", "\"C\"", "fn"]);
         let name = reader.word();
         reader.expect(&["("]);
