@@ -1,8 +1,8 @@
 #![tactic(auto)]
 
 // A reader over a lent MACK section that counts used bits (01, "MACK"): a struct that holds the slice and the count, and thin functions
-// over it. Each takes it apart and calls a function on the slice and the numbers; each is proved by a walk of its MIR, by hand.
-// Public calls, on a plain slice and numbers, so that whoever calls them needs no such proof:
+// over it. Each takes it apart and calls a function on the slice and the numbers.
+// Public calls, on a plain slice and numbers:
 //   take_field    a field: its tag, and its PRN, ADKD and IOD
 //   take_block    a block's key and spare bits
 //   take_macseq   MACSEQ

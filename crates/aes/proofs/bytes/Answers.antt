@@ -4,4 +4,4 @@ use Rattle.aes.proofs.bytes.Goals as goal
 
 pub returns : goal.returns
 returns c =
-    bytes_is c.args.t1 c.put_u32.ensures c.put_u32-2.ensures c.put_u32-3.ensures c.put_u32-4.ensures
+    bytes_is c.args.s c.put_u32.ensures c.put_u32-2.ensures c.put_u32-3.ensures c.put_u32-4.ensures

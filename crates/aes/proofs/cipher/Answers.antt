@@ -1,8 +1,5 @@
 -- `aes::cipher` meets its contract: before turn i the state is that after i - 1 rounds.
-use Prim.Native.Nat.{◌-◌}
 use native.Mathlib.Omega.{arith}
-use Rattle.aes.specs.Aes as S
-use Rattle.aes.specs.Steps as C
 use Rattle.aes.proofs.States.{no_round, one_more, cipher_is}
 use Rattle.aes.proofs.cipher.Goals as goal
 

@@ -4,4 +4,4 @@ use Rattle.aes.proofs.mix_columns.Goals as goal
 
 pub returns : goal.returns
 returns c =
-    mix_all c.args.t1 _ _ _ _ c.mix_column.ensures c.mix_column-2.ensures c.mix_column-3.ensures c.mix_column-4.ensures
+    mix_all c.args.s _ _ _ _ c.mix_column.ensures c.mix_column-2.ensures c.mix_column-3.ensures c.mix_column-4.ensures

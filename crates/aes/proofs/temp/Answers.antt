@@ -9,19 +9,19 @@ overflow_sub-i c =
 pub returns-then-i-nk-eq0 : goal.returns-then-i-nk-eq0
 returns-then-i-nk-eq0 c =
     let s = c.args in
-    first_case s.nk s.i _ s.t4 _ c.if-i-nk-eq0.true c.sub_word-b.ensures c.x_power.ensures
+    first_case s.nk s.i _ s.a _ c.if-i-nk-eq0.true c.sub_word-b.ensures c.x_power.ensures
 
 pub returns-then-i-nk-eq4 : goal.returns-then-i-nk-eq4
 returns-then-i-nk-eq4 c =
     let s = c.args in
-    second_case s.nk s.i s.t4 _ c.if-nk-gt6.true c.if-i-nk-eq4.true c.sub_word.ensures
+    second_case s.nk s.i s.a _ c.if-nk-gt6.true c.if-i-nk-eq4.true c.sub_word.ensures
 
 pub returns-else-i-nk-eq4 : goal.returns-else-i-nk-eq4
 returns-else-i-nk-eq4 c =
     let s = c.args in
-    other_case s.nk s.i s.t4 c.if-i-nk-eq0.false c.if-i-nk-eq4.false
+    other_case s.nk s.i s.a c.if-i-nk-eq0.false c.if-i-nk-eq4.false
 
 pub returns-else-nk-gt6 : goal.returns-else-nk-gt6
 returns-else-nk-gt6 c =
     let s = c.args in
-    short_case s.nk s.i s.t4 c.if-i-nk-eq0.false c.if-nk-gt6.false
+    short_case s.nk s.i s.a c.if-i-nk-eq0.false c.if-nk-gt6.false

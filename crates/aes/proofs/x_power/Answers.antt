@@ -1,7 +1,5 @@
 -- `aes::x_power` meets its contract: after i turns the number is x^i.
-use Prim.Native.Nat.{◌-◌}
 use native.Mathlib.Omega.{arith}
-use Rattle.aes.specs.Aes as S
 use Rattle.aes.proofs.Keys.{one, power_more, power_is}
 use Rattle.aes.proofs.x_power.Goals as goal
 

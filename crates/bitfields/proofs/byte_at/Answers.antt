@@ -6,7 +6,7 @@ use Rattle.bitfields.proofs.byte_at.Goals as goal
 pub returns-then-r-eq0 : goal.returns-then-r-eq0
 returns-then-r-eq0 c =
     let g = c.args in
-    byte_whole g.s.now g.k g.r c.if-r-eq0.true (omega (arith, c.shared-slice-known2.given g.k))
+    byte_whole g.s.now g.k g.r c.if-r-eq0.true (omega (arith, c.type_inv.s g.k))
 
 pub returns : goal.returns
 returns c =

@@ -13,7 +13,7 @@ use Rattle.call_reads.proofs.progress_of.Goals.{After-total_of-total}
 pub overflow_cast-held : goal.overflow_cast-held
 overflow_cast-held c =
     let g = c.args in
-    omega (arith, ones-le 16 (get_or g.present.now g.id 0) (omega (arith, c.shared-slice-known3.given g.id)))
+    omega (arith, ones-le 16 (get_or g.present.now g.id 0) (omega (arith, c.type_inv.present g.id)))
 
 pub returns-then-not-marked : goal.returns-then-not-marked
 returns-then-not-marked c = λ s. unknown _ _ (sym c.marked.ensures ∙ c.if-not-marked.true)

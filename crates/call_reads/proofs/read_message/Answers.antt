@@ -26,9 +26,9 @@ returns c =
     λ s.
     offer_found s g.pubkeys.now g.offer.now g.message.now g.signature.now g.pubkey.now (c.requires.0, c.requires.1.0)
     c.if-offer-ne1.false
-    c.copy_part.new.0
-    c.copy_part-2.new.0
-    c.key_bytes.new.1.1.0
+    c.copy_part.new.dst
+    c.copy_part-2.new.dst
+    c.key_bytes.new.out
     c.key_type.result
     (c.copy_part.ensures ∙ splice_whole g.message.now m (lm ∙ sym c.requires.1.0.0))
     (c.copy_part-2.ensures ∙ splice_whole g.signature.now n (ln ∙ sym c.requires.1.0.1.0))

@@ -31,7 +31,7 @@ loop-id-preserved c =
     let l = c.loop-id in (
       omega arith,
       (
-        c.copy_part.auto.0 ∙ l.invariant.1.0,
+        c.copy_part.auto.dst ∙ l.invariant.1.0,
         λ s. rw c.copy_part.ensures (pairs_more _ l.out l.id _ (omega (arith, l.invariant.1.0)) (c.pair_of-pair.ensures ∙ ap pair_of (c.progress_of.ensures s)) (l.invariant.1.1 s)),
       ),
     )

@@ -40,7 +40,7 @@ returns c =
     λ s.
     set_found s c.args.sets.now c.args.arrivals.now c.args.out.now c.args.prn c.requires.0
     (heard (goal.at.returns c).Else-not-prn_valid)
-    c.copy_set.new.1.1.0
+    c.copy_set.new.out
     c.set_issue.result
     stamp.result
     (rw c.index-satellite.ensures.0 at (c.copy_set.ensures c.args.arrivals.now))

@@ -18,25 +18,25 @@ returns c =
     ((c.hold_key.ensures, c.clear_message.ensures), (c.clear_tags.ensures, c.clear_sets.ensures))
 
 pub shape_of-pubkeys : goal.shape_of-pubkeys
-shape_of-pubkeys c = c.hold_key.auto.0
+shape_of-pubkeys c = c.hold_key.auto.pubkeys
 
 pub shape_of-offer : goal.shape_of-offer
-shape_of-offer c = c.clear_message.auto.0
+shape_of-offer c = c.clear_message.auto.offer
 
 pub shape_of-chain : goal.shape_of-chain
-shape_of-chain c = c.clear_message.auto.1.0
+shape_of-chain c = c.clear_message.auto.chain
 
 pub shape_of-numbers : goal.shape_of-numbers
-shape_of-numbers c = c.clear_tags.auto.0
+shape_of-numbers c = c.clear_tags.auto.numbers
 
 pub shape_of-heldkey : goal.shape_of-heldkey
-shape_of-heldkey c = c.clear_tags.auto.1.0
+shape_of-heldkey c = c.clear_tags.auto.heldkey
 
 pub shape_of-waiting : goal.shape_of-waiting
-shape_of-waiting c = c.clear_tags.auto.1.1.0
+shape_of-waiting c = c.clear_tags.auto.waiting
 
 pub shape_of-sets : goal.shape_of-sets
-shape_of-sets c = c.clear_sets.auto.0
+shape_of-sets c = c.clear_sets.auto.sets
 
 pub shape_of-arrivals : goal.shape_of-arrivals
-shape_of-arrivals c = c.clear_sets.auto.1.0
+shape_of-arrivals c = c.clear_sets.auto.arrivals

@@ -16,25 +16,25 @@ returns c =
     ((c.set_config.ensures, s.ensures.0), (s.ensures.1, c.clear_blocks.ensures))
 
 pub shape_of-config : goal.shape_of-config
-shape_of-config c = c.set_config.auto.0
+shape_of-config c = c.set_config.auto.config
 
 pub shape_of-clocks : goal.shape_of-clocks
-shape_of-clocks c = c.clear_signal.auto.0
+shape_of-clocks c = c.clear_signal.auto.clocks
 
 pub shape_of-words : goal.shape_of-words
-shape_of-words c = c.clear_signal.auto.1.0
+shape_of-words c = c.clear_signal.auto.words
 
 pub shape_of-stamps : goal.shape_of-stamps
-shape_of-stamps c = c.clear_signal.auto.1.1.0
+shape_of-stamps c = c.clear_signal.auto.stamps
 
 pub shape_of-blocks : goal.shape_of-blocks
-shape_of-blocks c = c.clear_blocks.auto.0
+shape_of-blocks c = c.clear_blocks.auto.blocks
 
 pub shape_of-headers : goal.shape_of-headers
-shape_of-headers c = c.clear_blocks.auto.1.0
+shape_of-headers c = c.clear_blocks.auto.headers
 
 pub shape_of-present : goal.shape_of-present
-shape_of-present c = c.clear_blocks.auto.1.1.0
+shape_of-present c = c.clear_blocks.auto.present
 
 pub shape_of-since : goal.shape_of-since
-shape_of-since c = c.clear_blocks.auto.1.1.1.0
+shape_of-since c = c.clear_blocks.auto.since

@@ -7,6 +7,6 @@ use Rattle.call_start_parts.proofs.clear_message.Goals as goal
 pub returns : goal.returns
 unfolding no_offer
 returns c = (
-  cleared c.args.offer.now c.fill.new.0 offer_length c.requires.0 c.fill.ensures,
-  cleared c.args.chain.now c.fill-2.new.0 chain_length c.requires.1 c.fill-2.ensures,
+  cleared c.args.offer.now c.fill.new.dst offer_length c.requires.0 c.fill.ensures,
+  cleared c.args.chain.now c.fill-2.new.dst chain_length c.requires.1 c.fill-2.ensures,
 )

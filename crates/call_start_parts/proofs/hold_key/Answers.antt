@@ -14,13 +14,13 @@ slice_bounds-add_key-end c =
 pub add_key-requires : goal.add_key-requires
 add_key-requires c =
     let n = c.key_length-n in
-    ((c.fill.auto.0 ∙ c.requires.0.0, omega arith), (omega arith, simp length-take (omega (arith, n.ensures, key-length_bound c.args.kind))))
+    ((c.fill.auto.dst ∙ c.requires.0.0, omega arith), (omega arith, simp length-take (omega (arith, n.ensures, key-length_bound c.args.kind))))
 
 pub returns : goal.returns
 returns c =
     let f = c.fill in
     let n = c.key_length-n in
-    key-held f.new.0 c.add_key.new.0 c.args.pubkey.now c.args.id c.args.kind n.result
+    key-held f.new.0 c.add_key.new.pubkeys c.args.pubkey.now c.args.id c.args.kind n.result
     (cleared c.args.pubkeys.now f.new.0 pubkeys_length c.requires.0.0 f.ensures)
     n.ensures
     c.add_key.ensures

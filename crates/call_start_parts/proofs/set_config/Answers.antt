@@ -7,22 +7,22 @@ use Rattle.call_start_parts.proofs.set_config.Goals as goal
 use Rattle.call_start_parts.proofs.set_config.Goals.{After-slice_known-3-1}
 
 -- the region is as long as it was
-long : (c : After-slice_known-3-1) → length c.copy_at-2.new.0 ≡ length c.args.config.now
-long c = c.copy_at-2.auto.0 ∙ c.copy_at.auto.0 ∙ (simp length-set)
+long : (c : After-slice_known-3-1) → length c.copy_at-2.new.dst ≡ length c.args.config.now
+long c = c.copy_at-2.auto.dst ∙ c.copy_at.auto.dst ∙ (simp length-set)
 
 pub copy_at-requires : goal.copy_at-requires
 copy_at-requires c = simp length-set (omega arith)
 
 pub copy_at-requires-2 : goal.copy_at-requires-2
 copy_at-requires-2 c =
-    let k : length c.copy_at.new.0 ≡ length c.args.config.now = c.copy_at.auto.0 ∙ (simp length-set) in
+    let k : length c.copy_at.new.dst ≡ length c.args.config.now = c.copy_at.auto.dst ∙ (simp length-set) in
     omega (arith, k)
 
 pub bounds-config-62 : goal.bounds-config-62
 bounds-config-62 c = omega (arith, long (goal.at.bounds-config-62 c).After-slice_known-3-1)
 
 pub shape_of-config : goal.shape_of-config
-shape_of-config c = length-set c.copy_at-2.new.0 62 _ ∙ long (goal.at.shape_of-config c).After-slice_known-3-1
+shape_of-config c = length-set c.copy_at-2.new.dst 62 _ ∙ long (goal.at.shape_of-config c).After-slice_known-3-1
 
 pub returns : goal.returns
 returns c =

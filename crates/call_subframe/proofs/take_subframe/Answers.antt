@@ -63,49 +63,49 @@ both_halves-requires c =
 pub returns : goal.returns
 returns c =
     accepted (before (goal.at.returns c).Start) c.args.area.now (brought (goal.at.returns c).Start) _ _ (sym c.if-code-ne0.false ∙ c.subframe_refusal-code.ensures.0 (before (goal.at.returns c).Start) c.args.area.now c.args.bytes.now refl refl c.received-fields.ensures (fit (goal.at.returns c).Start)) c.note_subframe-2.ensures
-    (c.both_halves.ensures c.note_subframe-2.new.0 c.args.bytes.now c.received-fields.ensures)
+    (c.both_halves.ensures c.note_subframe-2.new.clocks c.args.bytes.now c.received-fields.ensures)
 
 pub received-fields-requires : goal.received-fields-requires
 received-fields-requires c = c.requires.1.1
 
 pub shape_of-config : goal.shape_of-config
-shape_of-config c = c.both_halves.auto.0
+shape_of-config c = c.both_halves.auto.config
 
 pub shape_of-clocks : goal.shape_of-clocks
-shape_of-clocks c = c.note_subframe-2.auto.0
+shape_of-clocks c = c.note_subframe-2.auto.clocks
 
 pub shape_of-blocks : goal.shape_of-blocks
-shape_of-blocks c = c.both_halves.auto.1.1.1.0
+shape_of-blocks c = c.both_halves.auto.blocks
 
 pub shape_of-headers : goal.shape_of-headers
-shape_of-headers c = c.both_halves.auto.1.1.1.1.0
+shape_of-headers c = c.both_halves.auto.headers
 
 pub shape_of-present : goal.shape_of-present
-shape_of-present c = c.both_halves.auto.1.1.1.1.1.0
+shape_of-present c = c.both_halves.auto.present
 
 pub shape_of-since : goal.shape_of-since
-shape_of-since c = c.both_halves.auto.1.1.1.1.1.1.0
+shape_of-since c = c.both_halves.auto.since
 
 pub shape_of-pubkeys : goal.shape_of-pubkeys
-shape_of-pubkeys c = c.both_halves.auto.1.1.1.1.1.1.1.0
+shape_of-pubkeys c = c.both_halves.auto.pubkeys
 
 pub shape_of-offer : goal.shape_of-offer
-shape_of-offer c = c.both_halves.auto.1.1.1.1.1.1.1.1.0
+shape_of-offer c = c.both_halves.auto.offer
 
 pub shape_of-numbers : goal.shape_of-numbers
-shape_of-numbers c = c.both_halves.auto.1.1.1.1.1.1.1.1.1.1.0
+shape_of-numbers c = c.both_halves.auto.numbers
 
 pub shape_of-heldkey : goal.shape_of-heldkey
-shape_of-heldkey c = c.both_halves.auto.1.1.1.1.1.1.1.1.1.1.1.0
+shape_of-heldkey c = c.both_halves.auto.heldkey
 
 pub shape_of-waiting : goal.shape_of-waiting
-shape_of-waiting c = c.both_halves.auto.1.1.1.1.1.1.1.1.1.1.1.1.0
+shape_of-waiting c = c.both_halves.auto.waiting
 
 pub shape_of-sets : goal.shape_of-sets
-shape_of-sets c = c.both_halves.auto.1.1.1.1.1.1.1.1.1.1.1.1.1.0
+shape_of-sets c = c.both_halves.auto.sets
 
 pub shape_of-arrivals : goal.shape_of-arrivals
-shape_of-arrivals c = c.both_halves.auto.1.1.1.1.1.1.1.1.1.1.1.1.1.1.0
+shape_of-arrivals c = c.both_halves.auto.arrivals
 
 pub shape_of-area : goal.shape_of-area
-shape_of-area c = c.both_halves.auto.1.1.1.1.1.1.1.1.1.1.1.1.1.1.1.0
+shape_of-area c = c.both_halves.auto.area

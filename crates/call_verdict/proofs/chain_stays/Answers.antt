@@ -11,8 +11,8 @@ unchanged-is : (c : After-chain_unchanged) → let g = c.args in c.chain_unchang
 unchanged-is c = rw c.chain_contents.ensures.0 at c.chain_unchanged.ensures
 
 pub returns-then-not-in_force : goal.returns-then-not-in_force
-returns-then-not-in_force c = λ s m e. none_in_force s _ _ _ m e (sym c.in_force_law.ensures ∙ c.if-not-in_force.true)
+returns-then-not-in_force c = λ s m e. none_in_force s _ _ _ m e (sym c.in_force.ensures ∙ c.if-not-in_force.true)
 
 pub returns : goal.returns
 returns c =
-    λ s m e. unchanged-is (goal.at.returns c).After-chain_unchanged ∙ by_contents s _ _ _ m e (sym c.in_force_law.ensures ∙ c.if-not-in_force.false)
+    λ s m e. unchanged-is (goal.at.returns c).After-chain_unchanged ∙ by_contents s _ _ _ m e (sym c.in_force.ensures ∙ c.if-not-in_force.false)

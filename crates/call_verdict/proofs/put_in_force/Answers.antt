@@ -10,7 +10,7 @@ pub copy_at-requires : goal.copy_at-requires
 copy_at-requires c = simp length-set (omega arith)
 
 pub shape_of-chain : goal.shape_of-chain
-shape_of-chain c = c.copy_at.auto.0 ∙ simp length-set
+shape_of-chain c = c.copy_at.auto.dst ∙ simp length-set
 
 pub returns : goal.returns
 unfolding S.forced

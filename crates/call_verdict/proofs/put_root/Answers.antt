@@ -19,7 +19,7 @@ pub overflow_sub-width : goal.overflow_sub-width
 overflow_sub-width c = omega (arith, width (goal.at.overflow_sub-width c).After-key_width-width)
 
 pub fill-requires : goal.fill-requires
-fill-requires c = omega (arith, width (goal.at.fill-requires c).After-key_width-width, c.copy_part.auto.0)
+fill-requires c = omega (arith, width (goal.at.fill-requires c).After-key_width-width, c.copy_part.auto.dst)
 
 pub returns : goal.returns
 returns c =

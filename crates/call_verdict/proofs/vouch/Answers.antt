@@ -14,7 +14,7 @@ unfolding S.message_header
 returns-then-status_of-eq3 c =
     let g = c.args in
     λ s good signature m k e t a.
-    dropped s (record { good = good; id = g.id; message = g.message.now; signature = signature }) _ _ _ k e t (auth s.auth.sets c.clear_candidates.new.0) (sym c.status_of.ensures ∙ c.if-status_of-eq3.true)
+    dropped s (record { good = good; id = g.id; message = g.message.now; signature = signature }) _ _ _ k e t (auth s.auth.sets c.clear_candidates.new.arrivals) (sym c.status_of.ensures ∙ c.if-status_of-eq3.true)
     (c.clear_candidates.ensures s.auth.sets ∙ ap (λ (x : List ℕ). candidates_cleared (auth s.auth.sets x)) (sym a))
 
 pub returns : goal.returns

@@ -11,16 +11,16 @@ use Rattle.chain.proofs.descend.Goals.{After-key_of_slot, After-key_of_slot-2, S
 length-top : (c : Start) → length c.args.top ≡ 32
 length-top c = search rules
 
-length-end : (c : Start) → length c.args.t6 ≡ 32
+length-end : (c : Start) → length c.args.end ≡ 32
 length-end c = search rules
 
 -- the key of the stop, and the one at the end
-here : (c : After-key_of_slot) → length c.key_of_slot.new.1.1.1.0 ≡ 32
+here : (c : After-key_of_slot) → length c.key_of_slot.new.key ≡ 32
 unfolding S.key_of_slot
 here c =
     walked_length c.args.c _ _ _ _ c.requires.0.width_fits (length-top c) c.key_of_slot.ensures
 
-last : (c : After-key_of_slot-2) → length c.key_of_slot-2.new.1.1.1.0 ≡ 32
+last : (c : After-key_of_slot-2) → length c.key_of_slot-2.new.key ≡ 32
 unfolding S.key_of_slot
 last c =
     walked_length c.args.c _ _ _ _ c.requires.0.width_fits (here c) c.key_of_slot-2.ensures
@@ -36,7 +36,7 @@ pub returns : goal.returns
 returns c =
     let g = c.args in
     let w = c.requires.0.width_fits in (
-      two_parts g.c g.high g.stop g.low g.top c.key_of_slot.new.1.1.1.0 c.key_of_slot-2.new.1.1.1.0 g.t6 _ w (length-top (goal.at.returns c).Start) c.requires.1.1.0 c.requires.1.1.1
+      two_parts g.c g.high g.stop g.low g.top c.key_of_slot.new.key c.key_of_slot-2.new.key g.t6 _ w (length-top (goal.at.returns c).Start) c.requires.1.1.0 c.requires.1.1.1
           c.key_of_slot.ensures c.key_of_slot-2.ensures c.equal_part.ensures,
       (record { not_above = c.requires.1.1.1; key_is = walked_key g.c g.high g.stop g.top _ w (length-top (goal.at.returns c).Start) c.key_of_slot.ensures }, refl),
     )

@@ -16,7 +16,7 @@ length-key c = search rules
 pub copy_part-requires-2 : goal.copy_part-requires-2
 copy_part-requires-2 c =
     let a = length-alpha (goal.at.copy_part-requires-2 c).Start in
-    (omega (arith, c.copy_part.auto.0), omega arith)
+    (omega (arith, c.copy_part.auto.dst), omega arith)
 
 pub returns : goal.returns
 returns c =

@@ -1,6 +1,5 @@
 -- `cmac::chained` meets its contract: after i turns c is C_i.
 use mathlib.Core.Path.{◌≡◌, refl, sym, ◌∙◌}
-use Prim.Native.Nat.{◌-◌}
 use lib.Seq.{length-take-le}
 use Rattle.laws.specs.Lists.{part}
 use Rattle.cmac.specs.Cmac as S

@@ -15,6 +15,6 @@ returns-then-x-eq0 c = c.shifted-d.ensures ∙ rw (eq-eqb _ _ c.if-x-eq0.true)
 pub returns : goal.returns
 unfolding S.doubled S.bit
 returns c =
-    let x = c.args.t1 in
+    let x = c.args.x in
     let e : length c.shifted-d.result ≡ 16 = search rules in
     rw (ne_eqb (get_or x 0 0 / 128 % 2) 0 c.if-x-eq0.false, ← c.shifted-d.ensures) (sym (xored-R128 _ e))

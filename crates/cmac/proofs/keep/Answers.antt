@@ -20,7 +20,7 @@ put_subkeys-requires c =
     let w = c.expand_key in
     let n = rounds_range (length g.key.now) in
     let e = c.rounds_of.ensures in
-    let l : length w.new.1.0 ≡ 240 = ap length w.ensures ∙ length-expanded _ in
+    let l : length w.new.w ≡ 240 = ap length w.ensures ∙ length-expanded _ in
     ((omega arith, omega arith), simp (length-append, length-drop) (omega arith))
 
 pub returns : goal.returns

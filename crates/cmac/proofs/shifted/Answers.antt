@@ -1,6 +1,5 @@
 -- `cmac::shifted` meets its contract: after i turns the first i bytes are stored; the last takes no bit in.
 use mathlib.Core.Path.{◌≡◌, refl, sym}
-use Prim.Native.Nat.{◌-◌}
 use lib.ListN.{length, length-set}
 use Rattle.laws.proofs.Fill.{fill_one, fill_all}
 use Rattle.cmac.specs.Cmac as S
@@ -16,7 +15,7 @@ loop-i-init c = (omega arith, (refl, refl))
 pub loop-i-preserved : goal.loop-i-preserved
 loop-i-preserved c =
     let l = c.loop-i in
-    let x = c.args.t1 in
+    let x = c.args.x in
     let e : length x ≡ 16 = search rules in
     let n = length-shifted x in (
       omega arith,
@@ -29,7 +28,7 @@ loop-i-preserved c =
 pub returns : goal.returns
 returns c =
     let l = c.loop-i in
-    let x = c.args.t1 in
+    let x = c.args.x in
     let e : length x ≡ 16 = search rules in
     let n = length-shifted x in
     let e15 : l.i ≡ 15 = omega arith in

@@ -19,7 +19,7 @@ length-key c = search rules
 -- the key at which the way begins
 begun : (c : After-nearer-at)
     → let g = c.args in
-    Met g.c (held g.slot (take g.c.width g.known)) c.nearer-at.result c.nearer-at.new.1.1.1.1.0
+    Met g.c (held g.slot (take g.c.width g.known)) c.nearer-at.result c.nearer-at.new.key
 begun c =
     let g = c.args in
     c.nearer-at.ensures.1.1.1 g.c (held g.slot (take g.c.width g.known)) (met_here g.c g.slot g.known) c.requires.1

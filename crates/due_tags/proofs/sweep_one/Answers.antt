@@ -7,11 +7,11 @@ use Rattle.due_tags.proofs.sweep_one.Goals as goal
 pub returns-then-outcome-eq0 : goal.returns-then-outcome-eq0
 returns-then-outcome-eq0 c =
     let g = c.args in
-    stays_leaves g.ms g.outcome (g.k - g.kept) g.kept (entry_at g.waiting.now g.k) g.waiting.now g.sets.now g.arrivals.now g.area.now c.move_entry.new.0
+    stays_leaves g.ms g.outcome (g.k - g.kept) g.kept (entry_at g.waiting.now g.k) g.waiting.now g.sets.now g.arrivals.now g.area.now c.move_entry.new.waiting
     c.if-outcome-eq0.true c.move_entry.ensures
 
 pub returns : goal.returns
 returns c =
     let g = c.args in
     due_leaves g.ms g.outcome (g.k - g.kept) g.kept (entry_at g.waiting.now g.k) g.waiting.now g.sets.now g.arrivals.now g.area.now
-    c.tell_entry.new.1.1.1.1.0 c.tell_entry.new.1.1.1.1.1.0 c.tell_entry.new.1.1.1.1.1.1.0 c.if-outcome-eq0.false c.tell_entry.ensures
+    c.tell_entry.new.sets c.tell_entry.new.arrivals c.tell_entry.new.area c.if-outcome-eq0.false c.tell_entry.ensures

@@ -1,6 +1,5 @@
 -- `gather::hkroot_of` meets its contract: after i turns the first i bytes are those of i fields.
 use mathlib.Core.Path.{◌≡◌, refl, sym, ◌∙◌}
-use Prim.Native.Nat.{◌-◌}
 use lib.ListN.{length-set}
 use lib.Seq.{take_all}
 use Rattle.rules.specs.Gather as Rule

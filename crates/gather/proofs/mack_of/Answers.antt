@@ -1,6 +1,5 @@
 -- `gather::mack_of` meets its contract: after i turns the first 4 i bytes are those of i fields.
 use mathlib.Core.Path.{◌≡◌, refl, sym, ◌∙◌}
-use Prim.Native.Nat.{◌-◌}
 use lib.Seq.{take_all}
 use Rattle.rules.specs.Gather as Rule
 use native.Mathlib.Omega.{arith}
@@ -20,7 +19,7 @@ copy_part-requires c = (omega arith, omega arith)
 pub loop-i-preserved : goal.loop-i-preserved
 loop-i-preserved c =
     let l = c.loop-i in
-    (omega arith, (c.copy_part.auto.0 ∙ l.invariant.1.0, rw c.copy_part.ensures (mack_more _ l.mack l.i (omega arith) (omega arith) l.invariant.1.1)))
+    (omega arith, (c.copy_part.auto.dst ∙ l.invariant.1.0, rw c.copy_part.ensures (mack_more _ l.mack l.i (omega arith) (omega arith) l.invariant.1.1)))
 
 pub returns : goal.returns
 returns c =

@@ -2,7 +2,6 @@
 use Rattle.rules.specs.Gather as Rule
 use Rattle.rules.proofs.Bounds.{total_bound, total_least}
 use mathlib.Core.Path.{sym, ◌∙◌}
-use borrow.Author.Tests.{not-true, not-false}
 use native.Mathlib.Omega.{arith}
 use Prim.Native.Nat.{◌≤◌}
 use lib.Count.{ones-le}
@@ -25,7 +24,7 @@ pub returns-then-not-marked : goal.returns-then-not-marked
 returns-then-not-marked c = ((λ h t. without_first _ _ (sym c.marked.ensures ∙ c.if-not-marked.true)), tt)
 
 pub overflow_cast-m : goal.overflow_cast-m
-overflow_cast-m c = omega (arith, ones-le 16 (get_or c.args.present.now c.args.id 0) (omega (arith, c.slice-known2.given c.args.id)))
+overflow_cast-m c = omega (arith, ones-le 16 (get_or c.args.present.now c.args.id 0) (omega (arith, c.type_inv.present c.args.id)))
 
 pub returns-then-m-total : goal.returns-then-m-total
 returns-then-m-total c = ((λ h t. not-counted _ _ _ (sym c.marked.ensures ∙ c.if-not-marked.false) c.total_of-total.ensures c.if-m-total.true), tt)

@@ -21,10 +21,10 @@ returns-in-Complete c = λ s ec es ek eo.
     let d = c.complete.ensures in
     let e = rw c.n.given.1 at c.gather.ensures.0 in
     let q = rw c.n.given.1 at c.gather.ensures.1 in
-    let k : length c.gather.new.0 ≡ blocks_length = c.gather.auto.0 ∙ c.requires.0.blocks_long in
+    let k : length c.gather.new.blocks ≡ blocks_length = c.gather.auto.blocks ∙ c.requires.0.blocks_long in
     let n = c.n.given.0.0 in
     let hk = c.args.hk.now in
-    one_complete s _ _ _ _ _ (rw (length_part c.gather.new.0 (dsm_id_of hk * 208) n (omega (arith, d.1, q.0, q.1, k))) (omega (arith, q.0))) (rw es e) (d.0 s _ ec ek eo)
+    one_complete s _ _ _ _ _ (rw (length_part c.gather.new.blocks (dsm_id_of hk * 208) n (omega (arith, d.1, q.0, q.1, k))) (omega (arith, q.0))) (rw es e) (d.0 s _ ec ek eo)
 
 pub returns-in-Refused : goal.returns-in-Refused
 returns-in-Refused c = λ s ec es ek eo. nothing-complete s _ 6 _ _ _ _ _ ec ek eo (rw es (rw c.enum-told2.given.1 at c.gather.ensures.0))

@@ -9,4 +9,4 @@ returns-then-fields_came-ne15 c = λ s ec es ek eo.
 pub returns : goal.returns
 returns c = λ s ec es ek eo.
     let g = c.args in
-    none_missing s g.t g.marks c.fields_came.result g.hk.now _ c.fields_came.ensures c.if-fields_came-ne15.false (c.hkroot_half_lem.ensures s ec es ek eo)
+    none_missing s g.t g.marks c.fields_came.result g.hk.now _ c.fields_came.ensures c.if-fields_came-ne15.false (c.hkroot_half.ensures s ec es ek eo)

@@ -34,7 +34,7 @@ returns-then-j-fields c =
 -- the fields of the block are all taken
 last : (c : Else-j-fields) → c.args.j % c.args.c.fields + 1 ≡ c.args.c.fields
 last c =
-    omega (arith, c.if-j-fields.false, mod-lt c.args.j (some c))
+    omega (arith, c.if-j-fields.false, mod-lt c.args.j (some_field c.args.c c.requires.0 c.args.j c.requires.1.1.0))
 
 pub overflow_add-result : goal.overflow_add-result
 overflow_add-result c =

@@ -9,7 +9,7 @@ use Rattle.mack_half.proofs.hold.Goals as goal
 use Rattle.mack_half.proofs.hold.Goals.{Start}
 
 -- a key by value has 32 bytes
-long : (c : Start) → length c.args.t5 ≡ 32
+long : (c : Start) → length c.args.key ≡ 32
 long c = search rules
 
 pub returns : goal.returns

@@ -10,4 +10,4 @@ returns-then-slot-high c =
 pub returns : goal.returns
 returns c =
     let g = c.args in
-    hold_new g.c g.high g.slot g.key.now g.t4 c.copy_part.new.0 c.if-slot-high.false c.copy_part.ensures
+    hold_new g.c g.high g.slot g.key.now g.t4 c.copy_part.new.dst c.if-slot-high.false c.copy_part.ensures

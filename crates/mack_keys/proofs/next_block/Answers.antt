@@ -24,13 +24,13 @@ returns-then-key_came c =
     let g = c.args in
     let r = c.block_proved.ensures in
     rw c.if-p-ne0.false
-    (λ m p q. rw (key_came_law g.c g.g g.prn g.first g.marks g.p.slot g.b m g.key.now (sym c.key_came_law.ensures ∙ c.if-key_came.true)) (r.0 m p q), (r.1.0, (r.1.1.0, (r.1.1.1.0, λ z. (refl, (λ x c. (r.1.1.1.1 z).0 x, (r.1.1.1.1 z).1))))))
+    (λ m p q. rw (key_came_law g.c g.g g.prn g.first g.marks g.p.slot g.b m g.key.now (sym c.key_came.ensures ∙ c.if-key_came.true)) (r.0 m p q), (r.1.0, (r.1.1.0, (r.1.1.1.0, λ z. (refl, (λ x c. (r.1.1.1.1 z).0 x, (r.1.1.1.1 z).1))))))
 
 -- the key is lost
 lost : (c : Else-key_came)
     → let g = c.args in
     key_came g.c g.marks g.b ≡ false
-lost c = sym c.key_came_law.ensures ∙ c.if-key_came.false
+lost c = sym c.key_came.ensures ∙ c.if-key_came.false
 
 pub returns-then-spare-ne0 : goal.returns-then-spare-ne0
 returns-then-spare-ne0 c =

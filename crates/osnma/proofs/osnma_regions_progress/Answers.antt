@@ -37,4 +37,4 @@ returns c =
     λ s. progress_told_lem (lent (goal.at.returns c).Start s) c.args.out.now _ (fits (goal.at.returns c).Else-not-shaped-out s) (c.read_progress.ensures s)
 
 pub shape_of-out : goal.shape_of-out
-shape_of-out c = c.read_progress.auto.1.1.0
+shape_of-out c = c.read_progress.auto.out

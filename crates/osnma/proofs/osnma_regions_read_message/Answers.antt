@@ -15,8 +15,8 @@ use Rattle.osnma.proofs.osnma_regions_read_message.Goals.{After-offer_shaped-sha
 abbrev lent : Start → State → State
 lent c s = offer_lent s c.args.pubkeys.now c.args.offer.now
 
-shaped-is : (c : After-offer_shaped-shaped) (s : State) → offer_shaped (lent c s) ≡ c.offer_shaped_lem.result
-shaped-is c s = sym (c.offer_shaped_lem.ensures s)
+shaped-is : (c : After-offer_shaped-shaped) (s : State) → offer_shaped (lent c s) ≡ c.offer_shaped.result
+shaped-is c s = sym (c.offer_shaped.ensures s)
 
 -- every lent length is right
 fits : (c : Else-not-shaped-message) (s : State) → (offer_shaped (lent c s) && (eqb (length c.args.message.now) 45 && (eqb (length c.args.signature.now) 132 && eqb (length c.args.pubkey.now) 67))) ≡ true
@@ -40,10 +40,10 @@ pub returns : goal.returns
 returns c = c.read_message.ensures
 
 pub shape_of-message : goal.shape_of-message
-shape_of-message c = c.read_message.auto.1.1.0
+shape_of-message c = c.read_message.auto.message
 
 pub shape_of-signature : goal.shape_of-signature
-shape_of-signature c = c.read_message.auto.1.1.1.0
+shape_of-signature c = c.read_message.auto.signature
 
 pub shape_of-pubkey : goal.shape_of-pubkey
-shape_of-pubkey c = c.read_message.auto.1.1.1.1.0
+shape_of-pubkey c = c.read_message.auto.pubkey

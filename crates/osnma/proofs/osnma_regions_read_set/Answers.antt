@@ -39,4 +39,4 @@ pub returns : goal.returns
 returns c = c.read_set.ensures
 
 pub shape_of-out : goal.shape_of-out
-shape_of-out c = c.read_set.auto.1.1.1.0
+shape_of-out c = c.read_set.auto.out

@@ -45,43 +45,43 @@ pub returns : goal.returns
 returns c = c.take_subframe-r.ensures
 
 pub shape_of-config : goal.shape_of-config
-shape_of-config c = c.take_subframe-r.auto.0
+shape_of-config c = c.take_subframe-r.auto.config
 
 pub shape_of-clocks : goal.shape_of-clocks
-shape_of-clocks c = c.take_subframe-r.auto.1.0
+shape_of-clocks c = c.take_subframe-r.auto.clocks
 
 pub shape_of-blocks : goal.shape_of-blocks
-shape_of-blocks c = c.take_subframe-r.auto.1.1.1.1.0
+shape_of-blocks c = c.take_subframe-r.auto.blocks
 
 pub shape_of-headers : goal.shape_of-headers
-shape_of-headers c = c.take_subframe-r.auto.1.1.1.1.1.0
+shape_of-headers c = c.take_subframe-r.auto.headers
 
 pub shape_of-present : goal.shape_of-present
-shape_of-present c = c.take_subframe-r.auto.1.1.1.1.1.1.0
+shape_of-present c = c.take_subframe-r.auto.present
 
 pub shape_of-since : goal.shape_of-since
-shape_of-since c = c.take_subframe-r.auto.1.1.1.1.1.1.1.0
+shape_of-since c = c.take_subframe-r.auto.since
 
 pub shape_of-pubkeys : goal.shape_of-pubkeys
-shape_of-pubkeys c = c.take_subframe-r.auto.1.1.1.1.1.1.1.1.0
+shape_of-pubkeys c = c.take_subframe-r.auto.pubkeys
 
 pub shape_of-offer : goal.shape_of-offer
-shape_of-offer c = c.take_subframe-r.auto.1.1.1.1.1.1.1.1.1.0
+shape_of-offer c = c.take_subframe-r.auto.offer
 
 pub shape_of-numbers : goal.shape_of-numbers
-shape_of-numbers c = c.take_subframe-r.auto.1.1.1.1.1.1.1.1.1.1.1.0
+shape_of-numbers c = c.take_subframe-r.auto.numbers
 
 pub shape_of-heldkey : goal.shape_of-heldkey
-shape_of-heldkey c = c.take_subframe-r.auto.1.1.1.1.1.1.1.1.1.1.1.1.0
+shape_of-heldkey c = c.take_subframe-r.auto.heldkey
 
 pub shape_of-waiting : goal.shape_of-waiting
-shape_of-waiting c = c.take_subframe-r.auto.1.1.1.1.1.1.1.1.1.1.1.1.1.0
+shape_of-waiting c = c.take_subframe-r.auto.waiting
 
 pub shape_of-sets : goal.shape_of-sets
-shape_of-sets c = c.take_subframe-r.auto.1.1.1.1.1.1.1.1.1.1.1.1.1.1.0
+shape_of-sets c = c.take_subframe-r.auto.sets
 
 pub shape_of-arrivals : goal.shape_of-arrivals
-shape_of-arrivals c = c.take_subframe-r.auto.1.1.1.1.1.1.1.1.1.1.1.1.1.1.1.0
+shape_of-arrivals c = c.take_subframe-r.auto.arrivals
 
 pub shape_of-area : goal.shape_of-area
-shape_of-area c = c.take_subframe-r.auto.1.1.1.1.1.1.1.1.1.1.1.1.1.1.1.1.0
+shape_of-area c = c.take_subframe-r.auto.area

@@ -1,6 +1,5 @@
 -- `public_keys::above_all` meets its contract: none of the first n IDs is held.
 use mathlib.Core.Path.{◌≡◌, refl, sym, ◌∙◌}
-use mathlib.Core.Bool.{false}
 use Prim.Native.Nat.{◌-◌}
 use native.Mathlib.Omega.{arith}
 use Rattle.rules.specs.PublicKeys as S

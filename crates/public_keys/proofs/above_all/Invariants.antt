@@ -3,7 +3,6 @@ use mathlib.Core.Path.{◌≡◌}
 use mathlib.Core.Bool.{false}
 use Prim.Native.Nat.{◌-◌, ◌≤◌}
 use Rattle.rules.specs.PublicKeys as S
-use Rattle.public_keys.proofs.Keys.{held_among}
 use Rattle.public_keys.proofs.above_all.Given as goal
 
 abbrev pub invariant-loop-n : goal.invariant-loop-n

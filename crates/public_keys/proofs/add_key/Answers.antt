@@ -17,7 +17,7 @@ pub copy_at-requires : goal.copy_at-requires
 copy_at-requires c = simp length-set (omega (arith, long (goal.at.copy_at-requires c).After-filled_key-whole))
 
 pub shape_of-pubkeys : goal.shape_of-pubkeys
-shape_of-pubkeys c = c.copy_at.auto.0 ∙ simp length-set
+shape_of-pubkeys c = c.copy_at.auto.dst ∙ simp length-set
 
 pub returns : goal.returns
 unfolding S.with_key

@@ -1,7 +1,6 @@
 -- `public_keys::same_key` meets its contract: each test is a part of the definition.
 use Prim.Native.Nat.{◌+◌, ◌*◌}
 use mathlib.Core.Path.{sym, ◌∙◌}
-use borrow.Author.Tests.{not-true, not-false}
 use Rattle.laws.proofs.Splice.{range_part}
 use Rattle.public_keys.proofs.Keys.{same-key-not, same-key_other, same-key-bytes}
 use Rattle.rules.specs.PublicKeys as S

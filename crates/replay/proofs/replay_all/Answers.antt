@@ -16,20 +16,20 @@ pub slice_bounds-replay_piece-end : goal.slice_bounds-replay_piece-end
 slice_bounds-replay_piece-end c = search (rules, c.read_full-n.ensures)
 
 -- the piece that was read
-short : (c : After-read_full-n) (n : ℕ) → length (take n c.read_full-n.new.1.0) ≤ 4096
+short : (c : After-read_full-n) (n : ℕ) → length (take n c.read_full-n.new.buf) ≤ 4096
 short c n =
-    part_short c.read_full-n.new.1.0 n _ (c.read_full-n.auto.1.0 ∙ c.loop-pieces.invariant.0) c.requires.0
+    part_short c.read_full-n.new.buf n _ (c.read_full-n.auto.buf ∙ c.loop-pieces.invariant.0) c.requires.0
 
 pub replay_piece-filled-requires : goal.replay_piece-filled-requires
 replay_piece-filled-requires c =
     let v = c.loop-pieces.invariant in
     piece_fits _ _ _ (short (goal.at.replay_piece-filled-requires c).After-read_full-n (c.read_full-n.result - 0)) c.loop-pieces-test.true v.1.1 _ _ v.1.0 c.requires.1
 
-input-kept : (c : After-write_all-written) → length c.read_full-n.new.1.0 ≡ length c.args.input.now
-input-kept c = c.read_full-n.auto.1.0 ∙ c.loop-pieces.invariant.0
+input-kept : (c : After-write_all-written) → length c.read_full-n.new.buf ≡ length c.args.input.now
+input-kept c = c.read_full-n.auto.buf ∙ c.loop-pieces.invariant.0
 
-out-kept : (c : After-write_all-written) → length c.replay_piece-filled.new.1.1.1.1.1.1.1.1.1.1.1.1.1.1.1.1.1.1.1.1.0 ≡ length c.args.out.now
-out-kept c = c.replay_piece-filled.auto.1.1.1.1.1.1.1.1.1.1.1.1.1.1.1.1.1.1.1.1.0 ∙ c.loop-pieces.invariant.1.0
+out-kept : (c : After-write_all-written) → length c.replay_piece-filled.new.out ≡ length c.args.out.now
+out-kept c = c.replay_piece-filled.auto.out ∙ c.loop-pieces.invariant.1.0
 
 pub loop-pieces-preserved : goal.loop-pieces-preserved
 loop-pieces-preserved c =

@@ -19,4 +19,4 @@ pub overflow_add-here : goal.overflow_add-here
 overflow_add-here c = omega (arith, c.requires.1)
 
 pub shape_of-out : goal.shape_of-out
-shape_of-out c = c.put_lines.auto.0
+shape_of-out c = c.put_lines.auto.out

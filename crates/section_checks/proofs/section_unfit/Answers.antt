@@ -10,11 +10,11 @@ use Rattle.section_checks.proofs.section_unfit.Goals as goal
 use Rattle.section_checks.proofs.section_unfit.Goals.{Else-not-in_force}
 
 pub returns-then-not-in_force : goal.returns-then-not-in_force
-returns-then-not-in_force c = (λ s ec eh. no_chain s _ _ _ _ ec eh (sym c.in_force_law.ensures ∙ c.if-not-in_force.true), λ e. absurd (true_false e))
+returns-then-not-in_force c = (λ s ec eh. no_chain s _ _ _ _ ec eh (sym c.in_force.ensures ∙ c.if-not-in_force.true), λ e. absurd (true_false e))
 
 -- a chain is in force
 forced : (c : Else-not-in_force) → in_force c.args.config.now c.args.chain.now ≡ true
-forced c = sym c.in_force_law.ensures ∙ c.if-not-in_force.false
+forced c = sym c.in_force.ensures ∙ c.if-not-in_force.false
 
 pub returns-then-status-lt1 : goal.returns-then-status-lt1
 returns-then-status-lt1 c =

@@ -25,7 +25,7 @@ key_came-requires c = (c.requires.0.0.1, (omega arith, omega (arith, in-section 
 
 key_in : (c : Else-not-key_came) → key_came c.args.c c.args.marks
     (c.args.j / c.args.c.fields + 1) ≡ true
-key_in c = sym c.key_came_law.ensures ∙ not-false c.key_came_law.result c.if-not-key_came.false
+key_in c = sym c.key_came.ensures ∙ not-false c.key_came.result c.if-not-key_came.false
 
 tag_in : (c : In-Came)
     → tag_came c.args.c c.args.marks
@@ -43,7 +43,7 @@ fixed c = sym c.flexible.ensures ∙ c.if-flexible.false
 pub returns-then-not-key_came : goal.returns-then-not-key_came
 returns-then-not-key_came c m =
     let g = c.args in
-    sym (lost_key g.config.now g.c g.time g.marks g.j (sym c.key_came_law.ensures ∙ not-true c.key_came_law.result c.if-not-key_came.true))
+    sym (lost_key g.config.now g.c g.time g.marks g.j (sym c.key_came.ensures ∙ not-true c.key_came.result c.if-not-key_came.true))
 
 pub returns-in_default : goal.returns-in_default
 unfolding tag_came

@@ -14,5 +14,5 @@ pub returns : goal.returns
 returns c =
     let g = c.args in
     c.keep.ensures
-    ∙ ap (λ (i : ℕ). kept_of g.c.mf (take i c.key_on_way.new.1.1.1.1.0)) (sub-zero g.c.width)
+    ∙ ap (λ (i : ℕ). kept_of g.c.mf (take i c.key_on_way.new.key)) (sub-zero g.c.width)
     ∙ ap (kept_of g.c.mf) c.key_on_way.ensures.1

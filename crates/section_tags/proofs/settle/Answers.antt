@@ -12,10 +12,10 @@ pub returns-then-outcome-eq5 : goal.returns-then-outcome-eq5
 returns-then-outcome-eq5 c =
     let g = c.args in
     waits_leaves g.ms g.outcome g.count g.at g.t g.set.now g.waiting.now g.sets.now g.arrivals.now g.area.now
-    c.put_entry.new.0 c.tell.new.1.1.1.1.0 c.tell.new.1.1.1.1.1.0 c.tell.new.1.1.1.1.1.1.0 c.if-outcome-eq5.true c.tell.ensures c.put_entry.ensures
+    c.put_entry.new.waiting c.tell.new.sets c.tell.new.arrivals c.tell.new.area c.if-outcome-eq5.true c.tell.ensures c.put_entry.ensures
 
 pub returns : goal.returns
 returns c =
     let g = c.args in
     told_leaves g.ms g.outcome g.count g.at g.t g.set.now g.waiting.now g.sets.now g.arrivals.now g.area.now
-    c.tell.new.1.1.1.1.0 c.tell.new.1.1.1.1.1.0 c.tell.new.1.1.1.1.1.1.0 c.if-outcome-eq5.false c.tell.ensures
+    c.tell.new.sets c.tell.new.arrivals c.tell.new.area c.if-outcome-eq5.false c.tell.ensures

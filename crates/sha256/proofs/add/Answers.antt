@@ -4,4 +4,4 @@ use Rattle.sha256.proofs.add.Goals as goal
 
 pub returns : goal.returns
 unfolding S.add
-returns c = c.wrapping_add_u32.ensures
+returns c = c.wrapping_add_u32.ensures.value

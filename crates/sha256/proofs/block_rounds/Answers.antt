@@ -1,5 +1,5 @@
 -- `sha256::block_rounds` meets its contract: before round t, t rounds are done.
-use Rattle.std.proofs.Common.{◌-◌, arith}
+use Rattle.std.proofs.Common.{arith}
 use Rattle.sha256.proofs.Progress.{at_first, renamed}
 use Rattle.sha256.proofs.block_rounds.Goals as goal
 

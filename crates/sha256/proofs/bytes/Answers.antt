@@ -4,7 +4,7 @@ use Rattle.sha256.proofs.Written.{bytes_is}
 use Rattle.sha256.proofs.bytes.Goals as goal
 use Rattle.sha256.proofs.bytes.Goals.{Start}
 
-length-h : (c : Start) → length c.args.t1 ≡ 8
+length-h : (c : Start) → length c.args.h ≡ 8
 length-h c = search rules
 
 pub returns : goal.returns

@@ -1,6 +1,5 @@
 -- `sha256::finish` meets its contract: after i turns the hash value is that of the first i blocks.
-use Rattle.std.proofs.Common.{◌-◌, arith, rules}
-use Rattle.sha256.specs.Sha256 as S
+use Rattle.std.proofs.Common.{arith, rules}
 use Rattle.sha256.proofs.Message.{no_block, one_more, finished_is}
 use Rattle.sha256.proofs.finish.Goals as goal
 

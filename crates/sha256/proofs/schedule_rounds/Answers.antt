@@ -1,5 +1,5 @@
 -- `sha256::schedule_rounds` meets its contract: before round t, t rounds are done.
-use Rattle.std.proofs.Common.{◌-◌, arith}
+use Rattle.std.proofs.Common.{arith}
 use Rattle.sha256.proofs.Progress.{renamed}
 use Rattle.sha256.proofs.schedule_rounds.Goals as goal
 

@@ -1,6 +1,5 @@
 -- `sha3::absorb` meets its contract: before turn i, the first i lanes are sums.
 use mathlib.Core.Path.{refl, ap, ◌∙◌}
-use Prim.Native.Nat.{◌-◌}
 use native.Mathlib.Omega.{arith}
 use borrow.Author.Rules.{rules}
 use lib.ListN.{length-set}

@@ -6,7 +6,7 @@ use Rattle.sha3.proofs.Written.{digest_is}
 use Rattle.sha3.proofs.digest.Goals as goal
 use Rattle.sha3.proofs.digest.Goals.{Start}
 
-length-s : (c : Start) → length c.args.t1 ≡ 25
+length-s : (c : Start) → length c.args.s ≡ 25
 length-s c = search rules
 
 pub returns : goal.returns

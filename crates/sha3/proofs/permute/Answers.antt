@@ -1,11 +1,8 @@
 -- `sha3::permute` meets its contract: before each turn, i rounds are done.
 use mathlib.Core.Path.{◌≡◌, refl}
-use Prim.Native.Nat.{◌-◌}
 use native.Mathlib.Omega.{arith}
 use borrow.Author.Rules.{rules}
 use lib.ListN.{length}
-use Rattle.sha3.specs.Sha3 as S
-use Rattle.sha3.specs.Mask as K
 use Rattle.sha3.proofs.Steps.{no_round, two_more, all-rounds}
 use Rattle.sha3.proofs.permute.Goals as goal
 use Rattle.sha3.proofs.permute.Goals.{Start}

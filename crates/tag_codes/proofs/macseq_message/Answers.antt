@@ -21,7 +21,7 @@ loop-j-init c =
         sym (first_field g.c),
         (
           omega arith,
-          sender_in g.config.now g.c g.prn g.time g.mack.now g.out.now c.copy_at.new.0 (omega arith) c.copy_at.ensures,
+          sender_in g.config.now g.c g.prn g.time g.mack.now g.out.now c.copy_at.new.dst (omega arith) c.copy_at.ensures,
         ),
       ),
     )

@@ -24,5 +24,5 @@ agree-requires c =
 pub returns : goal.returns
 returns c =
     let g = c.args in
-    agrees_there g.ms g.t g.set.now g.sets.now g.arrivals.now g.found c.agree.new.0 c.agree.new.1.0 c.agree.result
+    agrees_there g.ms g.t g.set.now g.sets.now g.arrivals.now g.found c.agree.new.sets c.agree.new.arrivals c.agree.result
     c.if-found-ne1.false (sym c.names_satellite.ensures.0 ∙ not-false c.names_satellite.result c.if-not-names_satellite.false) c.agree.ensures

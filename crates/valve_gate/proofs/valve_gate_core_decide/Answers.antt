@@ -4,14 +4,14 @@ use Rattle.valve_gate.proofs.valve_gate_core_decide.Goals as goal
 
 pub returns-then-osnma_regions_four-ne0 : goal.returns-then-osnma_regions_four-ne0
 returns-then-osnma_regions_four-ne0 c =
-    λ s. refused_20 c.args.gate.now c.osnma_regions_four.result c.osnma_regions_four.new.1.1.1.0 _ _ (c.osnma_regions_four.ensures s) c.if-osnma_regions_four-ne0.true
+    λ s. refused_20 c.args.gate.now c.osnma_regions_four.result c.osnma_regions_four.new.yes _ _ (c.osnma_regions_four.ensures s) c.if-osnma_regions_four-ne0.true
 
 pub returns-then-osnma_regions_four-ne0-2 : goal.returns-then-osnma_regions_four-ne0-2
 returns-then-osnma_regions_four-ne0-2 c =
-    λ s. refused_10 c.args.gate.now c.osnma_regions_four.result c.osnma_regions_four.new.1.1.1.0 c.osnma_regions_four-2.result c.osnma_regions_four-2.new.1.1.1.0 _ _
+    λ s. refused_10 c.args.gate.now c.osnma_regions_four.result c.osnma_regions_four.new.yes c.osnma_regions_four-2.result c.osnma_regions_four-2.new.yes _ _
     (c.osnma_regions_four.ensures s) c.if-osnma_regions_four-ne0.false (c.osnma_regions_four-2.ensures s) c.if-osnma_regions_four-ne0-2.true
 
 pub returns : goal.returns
 returns c =
-    λ s. as_asked c.args.gate.now c.osnma_regions_four.result c.osnma_regions_four.new.1.1.1.0 c.osnma_regions_four-2.result c.osnma_regions_four-2.new.1.1.1.0 _ _ _
+    λ s. as_asked c.args.gate.now c.osnma_regions_four.result c.osnma_regions_four.new.yes c.osnma_regions_four-2.result c.osnma_regions_four-2.new.yes _ _ _
     (c.osnma_regions_four.ensures s) c.if-osnma_regions_four-ne0.false (c.osnma_regions_four-2.ensures s) c.if-osnma_regions_four-ne0-2.false c.valve_gate_state_decide.ensures

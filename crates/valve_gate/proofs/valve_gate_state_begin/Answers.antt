@@ -13,4 +13,4 @@ pub returns : goal.returns
 unfolding begun
 returns c =
     let g = c.args in
-    as_lent g.gate.now begun c.fill.new.0 c.if-gate-ne-GATE_LENGTH.false (c.fill.ensures ∙ splice_whole g.gate.now (replicate 49 0) (sym c.if-gate-ne-GATE_LENGTH.false))
+    as_lent g.gate.now begun c.fill.new.dst c.if-gate-ne-GATE_LENGTH.false (c.fill.ensures ∙ splice_whole g.gate.now (replicate 49 0) (sym c.if-gate-ne-GATE_LENGTH.false))

@@ -10,4 +10,4 @@ pub returns : goal.returns
 unfolding yes
 returns c =
     let g = c.args in
-    as_decided g.gate.now g.met20 g.met10 c.decide_all.new.0 c.free_valves.result c.if-gate-ne-GATE_LENGTH.false c.decide_all.ensures c.free_valves.ensures
+    as_decided g.gate.now g.met20 g.met10 c.decide_all.new.gate c.free_valves.result c.if-gate-ne-GATE_LENGTH.false c.decide_all.ensures c.free_valves.ensures

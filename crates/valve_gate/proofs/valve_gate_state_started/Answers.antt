@@ -9,4 +9,4 @@ returns-then-gate-ne-GATE_LENGTH c = let g = c.args in not_lent g.gate.now (star
 pub returns : goal.returns
 returns c =
     let g = c.args in
-    as_lent g.gate.now (start_shown g.gate.now g.number) c.show_start.new.0 c.if-gate-ne-GATE_LENGTH.false c.show_start.ensures
+    as_lent g.gate.now (start_shown g.gate.now g.number) c.show_start.new.gate c.if-gate-ne-GATE_LENGTH.false c.show_start.ensures

@@ -9,4 +9,4 @@ returns-then-gate-ne-GATE_LENGTH c = let g = c.args in not_lent g.gate.now (subf
 pub returns : goal.returns
 returns c =
     let g = c.args in
-    as_lent g.gate.now (subframe_shown g.gate.now g.hkroot g.mack) c.show_subframe.new.0 c.if-gate-ne-GATE_LENGTH.false c.show_subframe.ensures
+    as_lent g.gate.now (subframe_shown g.gate.now g.hkroot g.mack) c.show_subframe.new.gate c.if-gate-ne-GATE_LENGTH.false c.show_subframe.ensures
