@@ -7,4 +7,4 @@ use Rattle.kroot.proofs.maclt_field.Goals as goal
 
 pub returns : goal.returns
 unfolding S.maclt_field_of
-returns c = sym (bits_byte c.args.c.now 2 (omega (arith, c.shared-slice-known.given 2)))
+returns c = sym (bits_byte c.args.c.now 2 (omega (arith, c.type_inv.c 2)))

@@ -7,4 +7,4 @@ use Rattle.kroot.proofs.root_hour.Goals as goal
 
 pub returns : goal.returns
 unfolding S.root_hour_of
-returns c = sym (bits_byte c.args.c.now 5 (omega (arith, c.shared-slice-known.given 5)))
+returns c = sym (bits_byte c.args.c.now 5 (omega (arith, c.type_inv.c 5)))

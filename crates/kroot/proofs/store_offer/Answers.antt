@@ -1,6 +1,6 @@
 -- `kroot::store_offer` meets its contract: the parts follow one another.
 use mathlib.Core.Path.{◌≡◌, ◌∙◌}
-use Prim.Native.Nat.{◌+◌, ◌-◌}
+use Prim.Native.Nat.{◌+◌}
 use lib.ListN.{length, length-set}
 use native.Mathlib.Omega.{arith}
 use Rattle.laws.specs.Lists.{part}
@@ -11,17 +11,17 @@ use Rattle.kroot.proofs.store_offer.Goals as goal
 use Rattle.kroot.proofs.store_offer.Goals.{After-copy_part, After-copy_part-2, After-fill, After-fill-2}
 
 -- the region is as long as it was
-long1 : (c : After-copy_part) → length c.copy_part.new.0 ≡ offer_length
-long1 c = c.copy_part.auto.0 ∙ simp length-set (omega arith)
+long1 : (c : After-copy_part) → length c.copy_part.new.dst ≡ offer_length
+long1 c = c.copy_part.auto.dst ∙ simp length-set (omega arith)
 
-long2 : (c : After-fill) → length c.fill.new.0 ≡ offer_length
-long2 c = c.fill.auto.0 ∙ long1 c
+long2 : (c : After-fill) → length c.fill.new.dst ≡ offer_length
+long2 c = c.fill.auto.dst ∙ c.copy_part.auto.dst ∙ simp length-set (omega arith)
 
-long3 : (c : After-copy_part-2) → length c.copy_part-2.new.0 ≡ offer_length
-long3 c = c.copy_part-2.auto.0 ∙ long2 c
+long3 : (c : After-copy_part-2) → length c.copy_part-2.new.dst ≡ offer_length
+long3 c = c.copy_part-2.auto.dst ∙ c.fill.auto.dst ∙ c.copy_part.auto.dst ∙ simp length-set (omega arith)
 
-long4 : (c : After-fill-2) → length c.fill-2.new.0 ≡ offer_length
-long4 c = c.fill-2.auto.0 ∙ long3 c
+long4 : (c : After-fill-2) → length c.fill-2.new.dst ≡ offer_length
+long4 c = c.fill-2.auto.dst ∙ c.copy_part-2.auto.dst ∙ c.fill.auto.dst ∙ c.copy_part.auto.dst ∙ simp length-set (omega arith)
 
 pub copy_part-requires : goal.copy_part-requires
 copy_part-requires c = (simp length-set (omega arith), omega arith)
