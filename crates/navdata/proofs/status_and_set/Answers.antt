@@ -1,6 +1,6 @@
 -- `navdata::status_and_set` meets its contract: after each turn the first i bytes are spliced in, and `before` holds the eight bytes before the next.
 use mathlib.Core.Path.{◌≡◌, sym, ap, ◌∙◌}
-use Prim.Native.Nat.{ℕ, ◌+◌, ◌-◌, ◌*◌, ◌^◌, ◌<◌}
+use Prim.Native.Nat.{ℕ, ◌+◌, ◌*◌, ◌^◌, ◌<◌}
 use native.Mathlib.Omega.{arith}
 use native.Mathlib.Nat.{add-zero}
 use lib.ListN.{length}
@@ -74,6 +74,6 @@ returns c =
     let g = c.args in
     let z = stated g.status g.set.now in
     let i : l.i ≡ 64 = omega arith in
-    let b : l ≡ bits z 512 64 = l.invariant.1.0 ∙ rw i in
-    rw (c.put_five.ensures, c.bits_at.ensures, last_bits g.status g.set.now l b, l.invariant.1.1, i)
+    let b : l.before ≡ bits z 512 64 = l.invariant.1.0 ∙ rw i in
+    rw (c.put_five.ensures, c.bits_at.ensures, last_bits g.status g.set.now l.before b, l.invariant.1.1, i)
     (status_spliced g.out.now g.to g.status g.set.now (omega arith))

@@ -1,6 +1,6 @@
 -- `received::fields_came` meets its contract: after k turns it has counted k fields.
 use mathlib.Core.Path.{◌≡◌, refl, ap, ◌∙◌}
-use Prim.Native.Nat.{◌-◌, ◌≤◌}
+use Prim.Native.Nat.{◌≤◌}
 use native.Mathlib.Omega.{arith}
 use Rattle.rules.specs.Received.{fields_came}
 use Rattle.received.proofs.Fields.{next-count, one_mark}

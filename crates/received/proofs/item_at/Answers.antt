@@ -1,13 +1,12 @@
 -- `received::item_at` meets its contract: the test says which case of `item_at` holds.
 use mathlib.Core.Path.{refl}
-use borrow.Author.Tests.{not-true, not-false}
 use Rattle.received.specs.Items.{item_at}
 use Rattle.received.proofs.item_at.Goals as goal
 
 pub returns-then-not-bits_came : goal.returns-then-not-bits_came
 unfolding item_at
-returns-then-not-bits_came c = rw (← c.bits_came.ensures, not-true c.bits_came.result c.if-not-bits_came.true) refl
+returns-then-not-bits_came c = rw (← c.bits_came.ensures, c.if-not-bits_came.true) refl
 
 pub returns : goal.returns
 unfolding item_at
-returns c = rw (← c.bits_came.ensures, not-false c.bits_came.result c.if-not-bits_came.false, c.bits_at.ensures) refl
+returns c = rw (← c.bits_came.ensures, c.if-not-bits_came.false, c.bits_at.ensures) refl

@@ -1,7 +1,7 @@
 -- `received::received` meets its contract: after k turns the first k fields are as they came, and zeros follow.
 use mathlib.Core.Path.{◌≡◌, refl, sym, ap, ◌∙◌}
 use mathlib.Core.List.{append-nil}
-use Prim.Native.Nat.{ℕ, ◌-◌}
+use Prim.Native.Nat.{ℕ}
 use native.Mathlib.Omega.{arith}
 use Rattle.rules.specs.Received.{received}
 use Rattle.received.proofs.Fields.{followed, next_field}
@@ -21,7 +21,7 @@ pub loop-k-preserved : goal.loop-k-preserved
 loop-k-preserved c =
     let l = c.loop-k in (
       omega arith,
-      (c.put_field.auto.1.1.1.0 ∙ l.invariant.1.0, next_field c.args.marks c.args.f.now l.fields _ l.k (omega arith) c.requires l.invariant.1.1 c.put_field.ensures),
+      (c.put_field.auto.fields ∙ l.invariant.1.0, next_field c.args.marks c.args.f.now l.fields _ l.k (omega arith) c.requires l.invariant.1.1 c.put_field.ensures),
     )
 
 pub returns : goal.returns

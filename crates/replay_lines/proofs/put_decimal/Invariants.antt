@@ -1,5 +1,4 @@
 -- `replay_lines::put_decimal` meets its contract: the digits are written from the last to the first, then copied.
-use Prim.Native.Nat.{◌-◌}
 use Rattle.replay_lines.proofs.Decimal.{Spelt}
 use Rattle.replay_lines.proofs.put_decimal.Given as goal
 

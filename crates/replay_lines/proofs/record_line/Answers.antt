@@ -1,6 +1,6 @@
 -- `replay_lines::record_line` meets its contract: after i turns the digits of i bytes are written.
 use mathlib.Core.Path.{◌≡◌, ap, ◌∙◌}
-use Prim.Native.Nat.{◌-◌, ◌*◌}
+use Prim.Native.Nat.{◌*◌}
 use lib.ListN.{length, length-set}
 use native.Mathlib.Omega.{arith}
 use Rattle.laws.proofs.Splice.{length_splice}

@@ -1,6 +1,5 @@
 -- `replay_lines::record_lines` meets its contract: after k turns the lines of k tag records are written.
 use mathlib.Core.Path.{◌≡◌, ap, ◌∙◌}
-use Prim.Native.Nat.{◌-◌}
 use lib.ListN.{length}
 use native.Mathlib.Omega.{arith}
 use Rattle.laws.proofs.Splice.{length_splice}

@@ -1,6 +1,5 @@
 -- `valves::decide_valves` meets its contract: after k turns the first k valves have decided.
 use mathlib.Core.Path.{◌≡◌, refl, sym, ap, ◌∙◌}
-use Prim.Native.Nat.{◌-◌}
 use lib.ListN.{length}
 use native.Mathlib.Omega.{arith}
 use borrow.Author.Rules.{rules}
@@ -35,7 +34,7 @@ loop-k-preserved c =
       omega arith,
       rw l.invariant.1
           (one_decided g.met20 g.met10 g.gate.now l.k c.next_valve.result
-          (rw (l.invariant.1, c.own_met_lem.ensures) at c.next_valve.ensures)),
+          (rw (l.invariant.1, c.own_met.ensures) at c.next_valve.ensures)),
     )
 
 pub shape_of-gate : goal.shape_of-gate

@@ -1,6 +1,6 @@
 -- `valves::free_valves` meets its contract: after n turns it has the digits of the last n valves.
 use mathlib.Core.Path.{◌≡◌, refl, ap, ◌∙◌}
-use Prim.Native.Nat.{◌-◌, ◌<◌}
+use Prim.Native.Nat.{◌<◌}
 use native.Mathlib.Omega.{arith}
 use borrow.Author.Rules.{rules}
 use Rattle.valve_rules.specs.Gate.{last_digits, free_valves}
@@ -30,12 +30,12 @@ pub overflow_mul-free : goal.overflow_mul-free
 overflow_mul-free c = omega (arith, small (goal.at.overflow_mul-free c).After-free_digit)
 
 pub overflow_add-free : goal.overflow_add-free
-overflow_add-free c = omega (arith, small (goal.at.overflow_add-free c).After-free_digit, c.free_digit_lem.ensures.1)
+overflow_add-free c = omega (arith, small (goal.at.overflow_add-free c).After-free_digit, c.free_digit.ensures.1)
 
 pub loop-n-preserved : goal.loop-n-preserved
 loop-n-preserved c =
     let l = c.loop-n in
-    (omega arith, one_digit c.args.gate.now l.n l.free c.free_digit_lem.result l.invariant.1 c.free_digit_lem.ensures.0)
+    (omega arith, one_digit c.args.gate.now l.n l.free c.free_digit.result l.invariant.1 c.free_digit.ensures.0)
 
 pub returns : goal.returns
 unfolding free_valves
