@@ -8,5 +8,5 @@ pub returns : goal.returns
 returns c =
     let g = c.args in
     told_leaves (told g.ms g.found g.t g.set.now (start 0 g.sets.now g.arrivals.now)) g.t g.set.now g.area.now
-    c.outcome_of-outcome.new.1.1.1.1.0 c.outcome_of-outcome.new.1.1.1.1.1.0 c.put_record.new.0 c.outcome_of-outcome.result g.at c.record_issue-issue.result
+    c.outcome_of-outcome.new.sets c.outcome_of-outcome.new.arrivals c.put_record.new.area c.outcome_of-outcome.result g.at c.record_issue-issue.result
     c.outcome_of-outcome.ensures c.record_issue-issue.ensures c.put_record.ensures
