@@ -1,11 +1,10 @@
 -- What a tag that agrees leaves, case by case: the places that the code writes are the definition's own. Assumes nothing.
 use Prim.Native.Nat.{ℕ, ◌+◌, ◌-◌, ◌*◌, ◌≤◌, ◌<◌}
 use mathlib.Core.Path.{◌≡◌, refl, ap, sym, ◌∙◌}
-use mathlib.Core.Logic.{◌⊎◌, ⊎_elim}
-use mathlib.Core.Bool.{Bool, true, false, cond, not, ◌&&◌}
+use mathlib.Core.Logic.{⊎_elim}
+use mathlib.Core.Bool.{Bool, true, false, cond, not}
 use mathlib.Core.List.{List}
-use native.Mathlib.Omega.{arith}
-use lib.Dec.{leb, ltb, eqb}
+use lib.Dec.{ltb, eqb}
 use lib.ListN.{length, get_or, set}
 use borrow.Author.Tests.{le-leb, lt-leb, lt-ltb, le-ltb}
 use Rattle.laws.proofs.Same.{same_true}
@@ -14,7 +13,7 @@ use Rattle.laws.proofs.Tests.{and_right}
 use Rattle.laws.specs.Lists.{part, splice, same}
 use Rattle.regions.proofs.Faults.{prn_in}
 use Rattle.rules.proofs.Written.{set_back, new_set, new_candidate, sets_back, new_stamp, new_numbers, arrivals_back}
-use Rattle.rules.specs.Candidates.{SetPair, Agreement, later_stamp, set_entered, candidate_gone, candidate_held, on_set, on_candidate, total_with, latest_with, summed, agreed, pair_at, sets_with, arrivals_with}
+use Rattle.rules.specs.Candidates.{SetPair, later_stamp, set_entered, candidate_gone, candidate_held, on_set, on_candidate, total_with, latest_with, summed, agreed, pair_at, sets_with, arrivals_with}
 use Rattle.rules.specs.State.{satellites, sets_length, arrivals_length, copy_length}
 use Rattle.authentic_sets.specs.Places.{holds_at, sets_entered, arrivals_entered, numbers_put, Agrees}
 

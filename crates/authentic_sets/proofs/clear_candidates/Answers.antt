@@ -1,6 +1,6 @@
 -- `authentic_sets::clear_candidates` meets its contract: after i turns the first i of the 72 numbers are 0.
 use mathlib.Core.Path.{◌≡◌, sym, ap, ◌∙◌}
-use Prim.Native.Nat.{ℕ, ◌-◌}
+use Prim.Native.Nat.{ℕ}
 use lib.ListN.{length, replicate, length-take, length-replicate, get_or-replicate}
 use Rattle.laws.proofs.Splice.{length_splice, splice_none, splice_more, splice_all}
 use Rattle.rules.specs.Candidates.{candidates_cleared}

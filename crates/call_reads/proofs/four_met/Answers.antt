@@ -1,12 +1,11 @@
 -- `call_reads::four_met` meets its contract: after i turns that did not end the scan, at most three of the first i satellites count.
 use mathlib.Core.Path.{refl, ◌∙◌}
-use mathlib.Core.Logic.{⊎_elim}
-use Prim.Native.Nat.{◌-◌}
 use borrow.Author.Rules.{rules}
 use native.Mathlib.Omega.{arith}
 use Rattle.rules.specs.Four.{recent_count}
 use Rattle.call_reads.proofs.Scan.{counted, passed, not_noted, too_few, enough}
 use Rattle.call_reads.proofs.four_met.Goals as goal
+use Rattle.call_reads.proofs.four_met.Goals.{then-recent+else-met-eq3, else-recent}
 
 pub last_subframe-clock-requires : goal.last_subframe-clock-requires
 last_subframe-clock-requires c = search rules
@@ -31,10 +30,10 @@ loop-i-preserved c =
     let clock = c.last_subframe-clock.result in
     let is = c.recent.ensures clock c.seconds_of-last.ensures in (
       omega arith,
-      ⊎_elim
-          (λ w. (omega (arith, l.invariant.1.0, w.1.left, w.2), w.2 ∙ counted clock g.limit g.arrivals.now l.i l.met l.invariant.1.1 (rw w.0.taken at is)))
-          (λ w. (omega (arith, l.invariant.1.0, w.1), w.1 ∙ passed clock g.limit g.arrivals.now l.i l.met l.invariant.1.1 (rw w.0.left at is)))
-          c.if-recent.branch,
+      elim c.if-recent.branch [
+        | then-recent+else-met-eq3 w ↦ (omega (arith, l.invariant.1.0, w.if-met-eq3.false, w.met-is), w.met-is ∙ counted clock g.limit g.arrivals.now l.i l.met l.invariant.1.1 (rw w.if-recent.true at is))
+        | else-recent w ↦ (omega (arith, l.invariant.1.0, w.met-is), w.met-is ∙ passed clock g.limit g.arrivals.now l.i l.met l.invariant.1.1 (rw w.if-recent.false at is))
+      ],
     )
 
 -- the scan's end

@@ -4,7 +4,6 @@ use Prim.Native.Nat.{◌≤◌}
 use native.Mathlib.Omega.{arith}
 use lib.Count.{ones-le}
 use lib.ListN.{get_or}
-use borrow.Author.Tests.{not-true, not-false}
 use Rattle.rules.proofs.Bounds.{total_bound}
 use Rattle.call_reads.proofs.Pairs.{unknown, counted}
 use Rattle.call_reads.proofs.progress_of.Goals as goal

@@ -11,8 +11,8 @@ pub returns-then-offer-ne1 : goal.returns-then-offer-ne1
 returns-then-offer-ne1 c =
     let g = c.args in
     λ s.
-    rw (c.requires.1.1.0, c.requires.1.1.1)
-    (offer_missing s g.pubkeys.now g.offer.now g.message.now g.signature.now g.pubkey.now (c.requires.0, c.requires.1.0) c.if-offer-ne1.true)
+    rw (c.requires.id_value.0, c.requires.id_value.1)
+    (offer_missing s g.pubkeys.now g.offer.now g.message.now g.signature.now g.pubkey.now (c.requires.pubkeys_len, c.requires.message_len) c.if-offer-ne1.true)
 
 -- the lent bytes are those of the region
 pub returns : goal.returns
@@ -24,13 +24,13 @@ returns c =
     let lm = length_part g.offer.now 2 45 (omega arith) in
     let ln = length_part g.offer.now 47 132 (omega arith) in
     λ s.
-    offer_found s g.pubkeys.now g.offer.now g.message.now g.signature.now g.pubkey.now (c.requires.0, c.requires.1.0)
+    offer_found s g.pubkeys.now g.offer.now g.message.now g.signature.now g.pubkey.now (c.requires.pubkeys_len, c.requires.message_len)
     c.if-offer-ne1.false
     c.copy_part.new.dst
     c.copy_part-2.new.dst
     c.key_bytes.new.out
     c.key_type.result
-    (c.copy_part.ensures ∙ splice_whole g.message.now m (lm ∙ sym c.requires.1.0.0))
-    (c.copy_part-2.ensures ∙ splice_whole g.signature.now n (ln ∙ sym c.requires.1.0.1.0))
+    (c.copy_part.ensures ∙ splice_whole g.message.now m (lm ∙ sym c.requires.message_len.0))
+    (c.copy_part-2.ensures ∙ splice_whole g.signature.now n (ln ∙ sym c.requires.message_len.1.0))
     c.key_bytes.ensures
     c.key_type.ensures

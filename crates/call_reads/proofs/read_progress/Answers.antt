@@ -1,6 +1,5 @@
 -- `call_reads::read_progress` meets its contract: after `id` turns the first 2 id bytes are the pairs of so many DSM IDs.
 use mathlib.Core.Path.{◌≡◌, refl, sym, ◌∙◌, ap}
-use Prim.Native.Nat.{◌-◌}
 use native.Mathlib.Omega.{arith}
 use lib.ListN.{length}
 use lib.Seq.{take_all}
@@ -16,9 +15,6 @@ loop-id-init c = (omega arith, (search rules, λ s. refl))
 
 pub progress_of-requires : goal.progress_of-requires
 progress_of-requires c = (search rules, omega arith)
-
-pub pair_of-pair-requires : goal.pair_of-pair-requires
-pair_of-pair-requires c = tt
 
 pub slice_bounds-copy_part-end : goal.slice_bounds-copy_part-end
 slice_bounds-copy_part-end c = sym (ap length c.pair_of-pair.ensures ∙ pair_length c.progress_of.result)

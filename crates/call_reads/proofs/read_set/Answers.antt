@@ -3,7 +3,6 @@ use mathlib.Core.Path.{◌≡◌, sym, ◌∙◌}
 use mathlib.Core.Bool.{true}
 use Prim.Native.Nat.{◌≤◌}
 use borrow.Author.Rules.{rules}
-use borrow.Author.Tests.{not-true, not-false}
 use Rattle.rules.specs.State.{prn_valid}
 use Rattle.call_reads.proofs.Answers.{set_unheard, set_missing, set_found}
 use Rattle.call_reads.proofs.read_set.Goals as goal
@@ -18,7 +17,7 @@ in-range c = rw c.index-satellite.ensures.0 (c.prn_valid.ensures.1 (c.if-not-prn
 
 pub returns-then-not-prn_valid : goal.returns-then-not-prn_valid
 returns-then-not-prn_valid c =
-    λ s. rw (c.requires.1.0, c.requires.1.1) (set_unheard s c.args.sets.now c.args.arrivals.now c.args.out.now c.args.prn c.requires.0 (sym c.prn_valid.ensures.0 ∙ c.if-not-prn_valid.true))
+    λ s. rw (c.requires.issue_value.0, c.requires.issue_value.1) (set_unheard s c.args.sets.now c.args.arrivals.now c.args.out.now c.args.prn c.requires.sets_len (sym c.prn_valid.ensures.0 ∙ c.if-not-prn_valid.true))
 
 pub stamp_of-stamp-requires : goal.stamp_of-stamp-requires
 stamp_of-stamp-requires c = let k = in-range (goal.at.stamp_of-stamp-requires c).After-index-satellite in search (rules, k.0, k.1)
@@ -26,8 +25,8 @@ stamp_of-stamp-requires c = let k = in-range (goal.at.stamp_of-stamp-requires c)
 pub returns-then-stamp-eq0 : goal.returns-then-stamp-eq0
 returns-then-stamp-eq0 c =
     λ s.
-    rw (c.requires.1.0, c.requires.1.1)
-    (set_missing s c.args.sets.now c.args.arrivals.now c.args.out.now c.args.prn c.requires.0 (heard (goal.at.returns-then-stamp-eq0 c).Else-not-prn_valid) c.stamp_of-stamp.result
+    rw (c.requires.issue_value.0, c.requires.issue_value.1)
+    (set_missing s c.args.sets.now c.args.arrivals.now c.args.out.now c.args.prn c.requires.sets_len (heard (goal.at.returns-then-stamp-eq0 c).Else-not-prn_valid) c.stamp_of-stamp.result
     (rw c.index-satellite.ensures.0 at (c.stamp_of-stamp.ensures c.args.sets.now))
     c.if-stamp-eq0.true)
 
@@ -38,7 +37,7 @@ pub returns : goal.returns
 returns c =
     let stamp = c.stamp_of-stamp in
     λ s.
-    set_found s c.args.sets.now c.args.arrivals.now c.args.out.now c.args.prn c.requires.0
+    set_found s c.args.sets.now c.args.arrivals.now c.args.out.now c.args.prn c.requires.sets_len
     (heard (goal.at.returns c).Else-not-prn_valid)
     c.copy_set.new.out
     c.set_issue.result

@@ -3,7 +3,6 @@ use mathlib.Core.Path.{◌≡◌, sym, ap, ◌∙◌}
 use mathlib.Core.Bool.{true}
 use Prim.Native.Nat.{ℕ, ◌+◌, ◌*◌, ◌<◌, ◌≤◌}
 use native.Mathlib.Omega.{arith}
-use borrow.Author.Tests.{not-true, not-false}
 use borrow.Author.Rules.{rules}
 use Rattle.kroot.proofs.Parameters.{least_bound, least_fits}
 use Rattle.laws.specs.Lists.{part}
@@ -19,7 +18,7 @@ held-is : (c : After-key_held) → key_held c.args.pubkeys.now (S.pkid_of c.args
 held-is c = rw (← c.pkid-id.ensures) (sym c.key_held.ensures)
 
 held : (c : Else-not-key_held) → key_held c.args.pubkeys.now (S.pkid_of c.args.d.now) ≡ true
-held c = held-is c ∙ c.if-not-key_held.false
+held c = rw (← c.pkid-id.ensures) (sym c.key_held.ensures) ∙ c.if-not-key_held.false
 
 bad-is : (c : After-parameters_bad)
     → S.parameters_bad c.args.config.now (S.contents_of c.args.d.now) ≡ c.parameters_bad.result
@@ -45,8 +44,14 @@ bounds c =
 
 size_is : (c : After-least_blocks)
     → 13 * c.least_blocks.result ≡ 13 * S.kroot_blocks (S.key_width (S.ks_of (S.contents_of c.args.d.now))) (key_type c.args.pubkeys.now (S.pkid_of c.args.d.now))
-unfolding S.kroot_blocks
-size_is c = rw (c.least_blocks.ensures, signed_is c, width_is c)
+unfolding S.kroot_blocks S.contents_of part
+size_is c =
+    let pubkeys = c.args.pubkeys.now in
+    let signed : c.signature_length-signed.result ≡ signature_length (key_type pubkeys (S.pkid_of c.args.d.now)) =
+    c.signature_length-signed.ensures ∙ ap signature_length (c.key_type.ensures ∙ ap (λ (i : ℕ). key_type pubkeys i) c.pkid-id.ensures) in
+    let width : c.key_width-width.result ≡ S.key_width (S.ks_of (S.contents_of c.args.d.now)) =
+    c.key_width-width.ensures ∙ ap S.key_width c.ks.ensures in
+    rw (c.least_blocks.ensures, signed, width)
 
 id-small : (c : After-pkid-id) → c.pkid-id.result < 16
 id-small c = omega (arith, c.pkid-id.ensures, pkid_bound c.args.d.now)

@@ -1,6 +1,5 @@
 -- `kroot::names_offer` meets its contract: each test is a part of the definition.
 use mathlib.Core.Path.{sym, ◌∙◌}
-use borrow.Author.Tests.{not-true, not-false}
 use Rattle.kroot.proofs.Parameters.{names_none, names_other, names_message, names_all}
 use Rattle.laws.specs.Lists.{part}
 use Rattle.rules.specs.Kroot as S

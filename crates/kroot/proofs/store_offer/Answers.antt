@@ -1,6 +1,6 @@
 -- `kroot::store_offer` meets its contract: the parts follow one another.
 use mathlib.Core.Path.{◌≡◌, ◌∙◌}
-use Prim.Native.Nat.{◌+◌, ◌-◌}
+use Prim.Native.Nat.{◌+◌}
 use lib.ListN.{length, length-set}
 use native.Mathlib.Omega.{arith}
 use Rattle.laws.specs.Lists.{part}
@@ -15,13 +15,13 @@ long1 : (c : After-copy_part) → length c.copy_part.new.dst ≡ offer_length
 long1 c = c.copy_part.auto.dst ∙ simp length-set (omega arith)
 
 long2 : (c : After-fill) → length c.fill.new.dst ≡ offer_length
-long2 c = c.fill.auto.dst ∙ long1 c
+long2 c = c.fill.auto.dst ∙ c.copy_part.auto.dst ∙ simp length-set (omega arith)
 
 long3 : (c : After-copy_part-2) → length c.copy_part-2.new.dst ≡ offer_length
-long3 c = c.copy_part-2.auto.dst ∙ long2 c
+long3 c = c.copy_part-2.auto.dst ∙ c.fill.auto.dst ∙ c.copy_part.auto.dst ∙ simp length-set (omega arith)
 
 long4 : (c : After-fill-2) → length c.fill-2.new.dst ≡ offer_length
-long4 c = c.fill-2.auto.dst ∙ long3 c
+long4 c = c.fill-2.auto.dst ∙ c.copy_part-2.auto.dst ∙ c.fill.auto.dst ∙ c.copy_part.auto.dst ∙ simp length-set (omega arith)
 
 pub copy_part-requires : goal.copy_part-requires
 copy_part-requires c = (simp length-set (omega arith), omega arith)

@@ -4,10 +4,9 @@ use mathlib.Core.Bool.{true}
 use mathlib.Core.List.{List}
 use Prim.Native.Nat.{ℕ, ◌<◌, ◌≤◌}
 use native.Mathlib.Omega.{arith}
-use borrow.Author.Tests.{not-true, not-false}
 use Rattle.regions.proofs.Faults.{time_small}
 use Rattle.rules.specs.Calls.{Subframe}
-use Rattle.rules.specs.State.{prn_valid, stopped}
+use Rattle.rules.specs.State.{prn_valid}
 use Rattle.rules.specs.Times.{time_valid}
 use Rattle.regions.specs.Told.{subframe}
 use Rattle.subframe_checks.proofs.Checks.{no_prn, no_time, is_stopped, not_later, zeros, passes}
