@@ -38,8 +38,8 @@ fn shown(source: &str) -> Vec<(String, String)> {
         .map(|lines| {
             let name = lines[0].strip_prefix("pub fn ");
             let name = name.and_then(|name| name.strip_suffix("()"));
-            let says = lines[1].split_once(" ⌜ ").map(|(_, says)| says);
-            let says = says.and_then(|says| says.strip_suffix(" ⌝ }"));
+            let says = lines[1].strip_prefix("    ensures { ");
+            let says = says.and_then(|says| says.strip_suffix(" }"));
             match (name, says) {
                 (Some(name), Some(says)) => (name.to_string(), says.to_string()),
                 _ => panic!("a function that does nothing, in another form: {lines:?}"),
