@@ -16,12 +16,11 @@ use Rattle.laws.proofs.Numbers.{length-be4}
 use Rattle.laws.proofs.Splice.{splice-start, splice_end, length_splice, below?}
 use Rattle.times.proofs.Times.{be4_low}
 use Rattle.sha256.specs.Sha256 as H
-use Rattle.sha3.specs.Sha3 as S3
 use Rattle.rules.specs.Chain as S
 use Rattle.rules.specs.declared.Chain.{Chain}
 use Rattle.laws.proofs.Same.{same_true, same_equal, same_false, same_differ}
 use Rattle.rules.proofs.Walks.{walk-add}
-use Rattle.chain.specs.Sound.{Hashes, ByCompress, Sponge, Framed, Met, OnWay, sponge_tail, laid_out}
+use Rattle.chain.specs.Sound.{Hashes, Framed, Met, OnWay, sponge_tail, laid_out}
 use Rattle.chain.specs.declared.Way.{Way}
 use Rattle.chain.proofs.Hashes.{length_hash, length-key, key_short}
 

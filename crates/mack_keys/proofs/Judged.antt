@@ -4,7 +4,7 @@ use mathlib.Core.Path.{◌≡◌, refl, sym, ap, ◌∙◌}
 use mathlib.Core.Bool.{Bool, true, false, cond, not, ◌||◌}
 use mathlib.Core.Logic.{⊎_elim}
 use mathlib.Core.List.{List, ◌++◌}
-use Prim.Native.Nat.{ℕ, zero, suc, ◌+◌, ◌-◌, ◌≤◌, ◌<◌}
+use Prim.Native.Nat.{ℕ, zero, suc, ◌+◌, ◌≤◌, ◌<◌}
 use native.Mathlib.Omega.{arith}
 use native.Mathlib.Numerals.{add-one}
 use lib.Dec.{ltb, eqb}
@@ -15,7 +15,7 @@ use Rattle.laws.specs.Lists.{part, splice}
 use Rattle.laws.specs.Refusal.{first_refusal, unless, neb}
 use Rattle.laws.proofs.Refusal.{by_test, unless_refused}
 use Rattle.laws.proofs.Splice.{below?}
-use Rattle.rules.specs.Chain.{Held, held, key_fits, key_of_slot, higher, sent_slot}
+use Rattle.rules.specs.Chain.{Held, held, key_fits, higher, sent_slot}
 use Rattle.rules.specs.Mack as S
 use Rattle.rules.specs.Received.{key_came, block_received, keys_received}
 use Rattle.rules.specs.declared.Chain.{Chain}

@@ -36,7 +36,7 @@ mack_half-m-requires c =
     }
 
 pub overflow_cast-result : goal.overflow_cast-result
-overflow_cast-result c = omega (arith, c.mack_half.ensures.1)
+overflow_cast-result c = omega (arith, c.mack_half-m.ensures.1)
 
 pub returns : goal.returns
 returns c =
@@ -45,9 +45,9 @@ returns c =
     let s = state g.config.now clocks g.words.now g.stamps.now g.blocks.now g.headers.now g.present.now g.since.now g.pubkeys.now g.offer.now g.chain.now g.numbers.now g.heldkey.now g.waiting.now g.sets.now g.arrivals.now in
     let s' = state c.hkroot_received-a.last.0 clocks g.words.now g.stamps.now c.hkroot_received-a.last.1.0 c.hkroot_received-a.last.1.1.0 c.hkroot_received-a.last.1.1.1.0 c.hkroot_received-a.last.1.1.1.1.0 c.hkroot_received-a.last.1.1.1.1.1.0 c.hkroot_received-a.last.1.1.1.1.1.1.0 g.chain.now g.numbers.now g.heldkey.now g.waiting.now g.sets.now g.arrivals.now in
     let x = subframe g.prn g.time g.marks lent in
-    goes_on s g.area.now x c.hkroot_received-a.result s' _ c.mack_half.result.code c.mack_half.result.count c.header_of.result c.mack_of-mack.result _
+    goes_on s g.area.now x c.hkroot_received-a.result s' _ c.mack_half-m.result.code c.mack_half-m.result.count c.header_of.result c.mack_of-mack.result _
     (c.hkroot_received-a.ensures s refl refl refl refl ∙ ap (hkroot_received s g.time g.marks) (c.hkroot_of-hk.ensures ∙ ap (λ (f : List ℕ). hkroot_of f 15) is)) c.if-a.false
-    (c.header_of.ensures ∙ ap header_of (c.hkroot_of-hk.ensures ∙ ap (λ (f : List ℕ). hkroot_of f 15) is)) (c.mack_of-mack.ensures ∙ ap (λ (f : List ℕ). mack_of f 15) is) (c.mack_half.ensures.0 s' refl refl refl refl refl)
+    (c.header_of.ensures ∙ ap header_of (c.hkroot_of-hk.ensures ∙ ap (λ (f : List ℕ). hkroot_of f 15) is)) (c.mack_of-mack.ensures ∙ ap (λ (f : List ℕ). mack_of f 15) is) (c.mack_half-m.ensures.0 s' refl refl refl refl refl)
 
 pub slice_bounds-mack_half-end : goal.slice_bounds-mack_half-end
 slice_bounds-mack_half-end c = sym (sixty (goal.at.slice_bounds-mack_half-end c).After-mack_of-mack)

@@ -1,6 +1,5 @@
 -- `call_verdict_checks::cid_in_force` meets its contract: a chain in force, and its CID.
 use mathlib.Core.Path.{sym, ◌∙◌}
-use borrow.Author.Tests.{not-true, not-false}
 use Rattle.call_verdict_checks.proofs.Tests.{cid_none, cid_some}
 use Rattle.call_verdict_checks.proofs.cid_in_force.Goals as goal
 

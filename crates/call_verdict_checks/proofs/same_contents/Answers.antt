@@ -1,6 +1,5 @@
 -- `call_verdict_checks::same_contents` meets its contract: a chain in force, and its contents.
 use mathlib.Core.Path.{sym, ◌∙◌}
-use borrow.Author.Tests.{not-true, not-false}
 use Rattle.call_verdict_checks.proofs.Tests.{same_none, same_some}
 use Rattle.call_verdict_checks.proofs.same_contents.Goals as goal
 

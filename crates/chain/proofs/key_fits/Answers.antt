@@ -6,7 +6,7 @@ use Rattle.chain.proofs.key_fits.Goals as goal
 pub stop_over-stop-requires : goal.stop_over-stop-requires
 stop_over-stop-requires c =
     let g = c.args in
-    (between g.held g.slot _ _ c.pick.ensures c.pick2.ensures).ordered
+    (between g.held g.slot _ _ c.pick-high.ensures c.pick-low.ensures).ordered
 
 pub descend-requires : goal.descend-requires
 descend-requires c =

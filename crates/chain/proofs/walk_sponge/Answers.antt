@@ -25,7 +25,7 @@ loop-left-preserved c =
 -- the block after the loop
 block : (c : After-b-2-1) → length c.loop-left.b ≡ 64
 block c =
-    framed_length c.args.c _ c.loop-left.b (length-sponge-tail c.args.c.width (search rules)) (search rules) (length-alpha c) c.loop-left.invariant.1.framed
+    framed_length c.args.c _ c.loop-left.b (length-sponge-tail c.args.c.width (search rules)) (search rules) (search rules) c.loop-left.invariant.1.framed
 
 pub returns : goal.returns
 returns c =

@@ -5,7 +5,7 @@ use Rattle.aes.proofs.Lengths.{rounds_range}
 use Rattle.mac_examples.proofs.block.Goals as goal
 
 pub cipher-d-requires : goal.cipher-d-requires
-cipher-d-requires c =
+cipher-d-requires g c =
     let n = rounds_range (length c.args.key.now) in
     let e = c.rounds_of.ensures in
     (omega arith, omega arith)

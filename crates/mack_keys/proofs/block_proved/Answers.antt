@@ -51,7 +51,7 @@ returns-then-not-fit c =
     let g = c.args in
     rw c.still-then-not-fit.ensures (
       λ m p q. by_key g.c g.g g.prn g.first g.p.slot g.b c.sent_slot-slot.result m g.key.now c.sent_slot-slot.ensures c.if-first-slot.false g.sent p g.spare q c.if-spare-ne0.false _ _ _
-          (unfit g.c g.p.slot c.sent_slot-slot.result g.key.now g.sent (sym c.key_fits-fit.ensures.0 ∙ c.if-not-fit.true)),
+          (unfit g.c g.p.slot c.sent_slot-slot.result g.key.now g.sent (sym c.key_fits-fit.ensures.0 ∙ not-true _ c.if-not-fit.true)),
       (high (goal.at.returns-then-not-fit c).Start, (λ x. x, (λ low x. x, λ z. absurd (omega (arith, z))))),
     )
 
@@ -63,7 +63,7 @@ returns c =
     let out = c.hold_higher-top.new.key in
     let h = held g.p.slot (take g.c.width key) in
     let top = higher h slot (take g.c.width g.sent) in
-    let yes = sym c.key_fits-fit.ensures.0 ∙ c.if-not-fit.false in
+    let yes = sym c.key_fits-fit.ensures.0 ∙ not-false _ c.if-not-fit.false in
     let r = c.hold_higher-top.ensures in
     let t = c.taken.ensures in
     let p = c.passed.ensures in

@@ -1,10 +1,8 @@
 -- `mack_keys::keys_proved` meets its contract: after b turns it has what the first b blocks give, keys met from the highest of them, and the cursor
 use mathlib.Core.Path.{sym, ap, ◌∙◌}
-use Prim.Native.Nat.{◌-◌}
 use native.Mathlib.Omega.{arith}
 use borrow.Author.Rules.{rules}
 use lib.Seq.{length-take-le}
-use Rattle.rules.specs.Mack as S
 use Rattle.chain.proofs.Steps.{met_here}
 use Rattle.mack.specs.declared.Block.{Block}
 use Rattle.mack.proofs.Places.{first_block}

@@ -1,6 +1,6 @@
 -- `mack_keys::next_block` meets its contract: what came before stays once a block has failed, and where the block's key is lost.
 use mathlib.Core.Path.{◌≡◌, refl, sym, ◌∙◌}
-use mathlib.Core.Bool.{true, false}
+use mathlib.Core.Bool.{false}
 use native.Mathlib.Omega.{arith}
 use borrow.Author.Rules.{rules}
 use Rattle.rules.specs.Received.{key_came}

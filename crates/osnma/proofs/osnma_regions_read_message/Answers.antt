@@ -15,8 +15,8 @@ use Rattle.osnma.proofs.osnma_regions_read_message.Goals.{After-offer_shaped-sha
 abbrev lent : Start → State → State
 lent c s = offer_lent s c.args.pubkeys.now c.args.offer.now
 
-shaped-is : (c : After-offer_shaped-shaped) (s : State) → offer_shaped (lent c s) ≡ c.offer_shaped.result
-shaped-is c s = sym (c.offer_shaped.ensures s)
+shaped-is : (c : After-offer_shaped-shaped) (s : State) → offer_shaped (lent c s) ≡ c.offer_shaped-shaped.result
+shaped-is c s = sym (c.offer_shaped-shaped.ensures s)
 
 -- every lent length is right
 fits : (c : Else-not-shaped-message) (s : State) → (offer_shaped (lent c s) && (eqb (length c.args.message.now) 45 && (eqb (length c.args.signature.now) 132 && eqb (length c.args.pubkey.now) 67))) ≡ true

@@ -29,7 +29,7 @@ number_is c =
 -- an accepted start has right lengths
 long : (c : Else-code-ne0) → Sized (whole c) × ((length c.args.marks.now ≡ 28) × ((length c.args.root.now ≡ 32) × (length c.args.pubkey.now ≡ 67)))
 long c =
-    let l = long_three (shaped (whole c)) c.args.marks.now c.args.root.now c.args.pubkey.now 28 32 67 (rw (← c.shaped-shaped.ensures) (c.start-refusal.ensures.1 c.if1.false).0) in
+    let l = long_three (shaped (whole c)) c.args.marks.now c.args.root.now c.args.pubkey.now 28 32 67 (rw (← c.shaped-shaped.ensures) (c.start_refusal-code.ensures.1 c.if-code-ne0.false).0) in
     (sized (whole c) l.0, l.1)
 
 pub returns-then-code-ne0 : goal.returns-then-code-ne0
@@ -56,7 +56,7 @@ install_key-requires c =
       pubkeys_len = (l.0.pubkeys, (l.0.offer, l.0.chain));
       numbers_len = (l.0.numbers, (l.0.heldkey, l.0.waiting));
       sets_len = (l.0.sets, l.0.arrivals);
-      pubkey_len = (l.1.1.1, (c.start-refusal.ensures.1 c.if1.false).1);
+      pubkey_len = (l.1.1.1, (c.start_refusal-code.ensures.1 c.if-code-ne0.false).1);
     }
 
 pub returns : goal.returns

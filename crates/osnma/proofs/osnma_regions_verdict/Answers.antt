@@ -22,8 +22,8 @@ abbrev lent : Start → State → State
 lent c s =
     verdict_lent s c.args.config.now c.args.pubkeys.now c.args.offer.now c.args.chain.now c.args.numbers.now c.args.heldkey.now c.args.waiting.now c.args.arrivals.now
 
-shaped-is : (c : After-verdict_shaped-shaped) (s : State) → verdict_shaped (lent c s) ≡ c.verdict_shaped.result
-shaped-is c s = sym (c.verdict_shaped.ensures s)
+shaped-is : (c : After-verdict_shaped-shaped) (s : State) → verdict_shaped (lent c s) ≡ c.verdict_shaped-shaped.result
+shaped-is c s = sym (c.verdict_shaped-shaped.ensures s)
 
 -- every lent length is right
 fits : (c : Else-not-shaped-message) (s : State) → (verdict_shaped (lent c s) && (eqb (length c.args.message.now) 45 && eqb (length c.args.signature.now) 132)) ≡ true

@@ -16,22 +16,22 @@ whole c =
 long : (c : After-take_subframe-arg-17-1) → Sized (whole c)
 long c =
     record {
-      config = c.take-subframe-arg.given.0.1;
-      clocks = c.take-subframe-arg2.given.0.1;
-      words = c.take-subframe-arg3.given.0;
-      stamps = c.take-subframe-arg4.given.0;
-      blocks = c.take-subframe-arg5.given.0.1;
-      headers = c.take-subframe-arg6.given.0.1;
-      present = c.take-subframe-arg7.given.0.1;
-      since = c.take-subframe-arg8.given.0.1;
-      pubkeys = c.take-subframe-arg9.given.0.1;
-      offer = c.take-subframe-arg10.given.0.1;
-      chain = c.take-subframe-arg11.given.0;
-      numbers = c.take-subframe-arg12.given.0.1;
-      heldkey = c.take-subframe-arg13.given.0.1;
-      waiting = c.take-subframe-arg14.given.0.1;
-      sets = c.take-subframe-arg15.given.0.1;
-      arrivals = c.take-subframe-arg16.given.0.1;
+      config = c.take_subframe-arg-1.given.0.1;
+      clocks = c.take_subframe-arg-2-1.given.0.1;
+      words = c.take_subframe-arg-3-1.given.0;
+      stamps = c.take_subframe-arg-4-1.given.0;
+      blocks = c.take_subframe-arg-5-1.given.0.1;
+      headers = c.take_subframe-arg-6-1.given.0.1;
+      present = c.take_subframe-arg-7-1.given.0.1;
+      since = c.take_subframe-arg-8-1.given.0.1;
+      pubkeys = c.take_subframe-arg-9-1.given.0.1;
+      offer = c.take_subframe-arg-10-1.given.0.1;
+      chain = c.take_subframe-arg-11-1.given.0;
+      numbers = c.take_subframe-arg-12-1.given.0.1;
+      heldkey = c.take_subframe-arg-13-1.given.0.1;
+      waiting = c.take_subframe-arg-14-1.given.0.1;
+      sets = c.take_subframe-arg-15-1.given.0.1;
+      arrivals = c.take_subframe-arg-16-1.given.0.1;
     }
 
 pub returns-then-started-eq0 : goal.returns-then-started-eq0
@@ -39,7 +39,7 @@ returns-then-started-eq0 c = subframe_unstarted _ _ _ _ c.if-started-eq0.true
 
 pub take_subframe-r-requires : goal.take_subframe-r-requires
 take_subframe-r-requires c =
-    (all-shaped (whole (goal.at.take_subframe-r-requires c).Start) (long (goal.at.take_subframe-r-requires c).After-take_subframe-arg-17-1), (c.take-subframe-arg17.given.0.1, part_long c.args.input.now 6 75 c.requires tt))
+    (all-shaped (whole (goal.at.take_subframe-r-requires c).Start) (long (goal.at.take_subframe-r-requires c).After-take_subframe-arg-17-1), (c.take_subframe-arg-17-1.given.0.1, part_long c.args.input.now 6 75 c.requires tt))
 
 pub returns : goal.returns
 unfolding subframe_of part

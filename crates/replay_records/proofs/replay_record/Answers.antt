@@ -7,7 +7,7 @@ use Rattle.replay_records.proofs.replay_record.Goals as goal
 -- the count is a record's
 pub put_lines-requires : goal.put_lines-requires
 put_lines-requires c =
-    room_for _ _ _ c.requires.0 (given_few _ _ _ _ _ _ c.answer.ensures).0 c.put-lines-arg3.given.0
+    room_for _ _ _ c.requires.0 (given_few _ _ _ _ _ _ c.answer-a.ensures).0 c.put_lines-arg-3-1.given.0
 
 pub returns : goal.returns
 returns c =

@@ -10,9 +10,9 @@ use Rattle.section_outcomes.proofs.next_key.Goals as goal
 pub returns-then-j-eq0 : goal.returns-then-j-eq0
 returns-then-j-eq0 c =
     let g = c.args in
-    c.requires.1 ∙ ap (λ (b : ℕ). block_key g.c (held g.slot (take g.c.width g.known)) g.time b) (first_block g.j g.c.fields c.if-j-eq0.true)
+    c.requires.kept_value ∙ ap (λ (b : ℕ). block_key g.c (held g.slot (take g.c.width g.known)) g.time b) (first_block g.j g.c.fields c.if-j-eq0.true)
 
 pub returns-then-j-fields-ne0 : goal.returns-then-j-fields-ne0
 returns-then-j-fields-ne0 c =
     let g = c.args in
-    c.requires.1 ∙ ap (λ (b : ℕ). block_key g.c (held g.slot (take g.c.width g.known)) g.time b) (same_block g.j g.c.fields c.requires.0.0.1.1.0 c.if-j-fields-ne0.true)
+    c.requires.kept_value ∙ ap (λ (b : ℕ). block_key g.c (held g.slot (take g.c.width g.known)) g.time b) (same_block g.j g.c.fields c.requires.walks.0.1.1.0 c.if-j-fields-ne0.true)

@@ -93,7 +93,7 @@ loop-j-preserved c =
             g.marks g.count g.at l.j l.r p.result (start g.count g.sets.now g.arrivals.now)
             (omega (arith, q.1.1.1.1.1, c.loop-j-test.true)) q.1.0.1.0 q.1.0.1.1 l.invariant.1.1.0 l.invariant.1.1.1
             (p.ensures h c.next_key.ensures
-            (macseq_is g.config.now g.c h x _ c.macseq_fits.result c.block_key.ensures (λ v e. c.macseq_fits.ensures v g.status e))
+            (macseq_is g.config.now g.c h x _ c.macseq_fits-fits.result c.block_key.ensures (λ v e. c.macseq_fits-fits.ensures v g.status e))
             c.macseq_came-macseq.ensures),
       ),
     )

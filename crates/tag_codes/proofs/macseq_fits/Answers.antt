@@ -15,4 +15,4 @@ returns c k status e =
     (ap (λ (v : ℕ). eqb v (macseq_of g.c g.mack.now))
     (c.macseq_code.ensures k e
     ∙ ap (λ (l : List ℕ). mac_bits g.c.mf 12 k l)
-    (c.macseq_message.ensures.0 ∙ any_status g.config.now g.c g.prn g.time g.mack.now status (g.c.nmack * g.c.fields))))
+    (c.macseq_message-n.ensures.0 ∙ any_status g.config.now g.c g.prn g.time g.mack.now status (g.c.nmack * g.c.fields))))

@@ -1,6 +1,6 @@
 -- `tag_codes::macseq_message` meets its contract: after j turns the front is the message of the first j fields.
 use mathlib.Core.Path.{◌≡◌, sym, ap, ◌∙◌}
-use Prim.Native.Nat.{ℕ, ◌+◌, ◌-◌, ◌*◌, ◌≤◌}
+use Prim.Native.Nat.{ℕ, ◌+◌, ◌*◌, ◌≤◌}
 use native.Mathlib.Omega.{arith}
 use lib.ListN.{length}
 use Rattle.rules.specs.Tags.{macseq_message}
@@ -42,7 +42,7 @@ loop-j-preserved c =
     let p = c.put_info-n in
     let h : l.n + 2 ≤ length l.out = omega (arith, c.requires.0.few) in
     let i = ap (λ (x : Field). x.info) f in
-    let m = info_in g.config.now g.c g.prn g.time g.mack.now l.j l.n p.result _ l.out p.new.1.1.1.1.0 h l.invariant.1.1.1.1 i p.ensures.0 p.ensures.1 in
+    let m = info_in g.config.now g.c g.prn g.time g.mack.now l.j l.n p.result _ l.out p.new.out h l.invariant.1.1.1.1 i p.ensures.0 p.ensures.1 in
     (omega arith, (ap (λ (x : Field). x.next.used) f, (omega arith, (m.0 ∙ l.invariant.1.1.1.0, m.1.1))))
 
 pub shape_of-out : goal.shape_of-out

@@ -1,6 +1,5 @@
 -- `test_hash::put_words` meets its contract: after i turns the first i words are spliced in.
 use mathlib.Core.Path.{◌≡◌, refl, ap, ◌∙◌}
-use Prim.Native.Nat.{◌-◌}
 use lib.ListN.{length, length-take}
 use Rattle.laws.proofs.Splice.{length_splice, splice_none, splice_more, splice_all}
 use borrow.Author.Rules.{rules}
@@ -13,7 +12,7 @@ long : (c : At-loop-i) → length c.loop-i.dst ≡ length c.args.dst.now
 long c = ap length c.loop-i.invariant.1.1 ∙ length_splice _ _ _ (simp length-take (omega arith))
 
 pub loop-i-init : goal.loop-i-init
-loop-i-init c = (omega arith, (search rules, splice_none _ _ c.args.t3))
+loop-i-init c = (omega arith, (search rules, splice_none _ _ c.args.w))
 
 pub bounds-dst-at : goal.bounds-dst-at
 bounds-dst-at c = omega (arith, long (goal.at.bounds-dst-at c).At-loop-i)

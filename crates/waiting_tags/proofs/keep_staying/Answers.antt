@@ -1,6 +1,5 @@
 -- `waiting_tags::keep_staying` meets its contract: after k turns those of the first k entries that stay are at the front.
 use mathlib.Core.Path.{◌≡◌, ap, ◌∙◌}
-use Prim.Native.Nat.{◌-◌}
 use native.Mathlib.Omega.{arith}
 use lib.ListN.{length}
 use Rattle.laws.proofs.Splice.{length_splice}
@@ -27,9 +26,9 @@ loop-k-preserved c =
     let g = c.args in
     let l = c.loop-k in
     let i = l.invariant.1.1 in
-    let s = c.«keep_one» in
-    let m = stay_length g.root g.waiting.now l.waiting s.new.0 l.k l.auto s.result l.invariant.1.0 (omega arith) i.0 i.1 s.ensures.0 s.ensures.1 in
-    let u = stay_region g.root g.waiting.now l.waiting s.new.0 l.k l.auto s.result l.invariant.1.0 (omega arith) i.0 i.1 s.ensures.0 s.ensures.1 in
+    let s = c.keep_one-kept in
+    let m = stay_length g.root g.waiting.now l.waiting s.new.waiting l.k l.kept s.result l.invariant.1.0 (omega arith) i.0 i.1 s.ensures.0 s.ensures.1 in
+    let u = stay_region g.root g.waiting.now l.waiting s.new.waiting l.k l.kept s.result l.invariant.1.0 (omega arith) i.0 i.1 s.ensures.0 s.ensures.1 in
     (omega arith, (m.1, (m.0, u)))
 
 pub shape_of-waiting : goal.shape_of-waiting

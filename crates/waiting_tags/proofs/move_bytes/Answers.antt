@@ -1,6 +1,5 @@
 -- `waiting_tags::move_bytes` meets its contract: after i turns the first i bytes of the part are spliced in, and the others are not yet touched.
 use mathlib.Core.Path.{◌≡◌, ap, ◌∙◌}
-use Prim.Native.Nat.{◌-◌}
 use native.Mathlib.Omega.{arith}
 use lib.ListN.{length, take, length-take}
 use Rattle.laws.specs.Lists.{part}

@@ -4,4 +4,4 @@ use Rattle.waiting_tags.proofs.stays.Goals as goal
 
 pub returns : goal.returns
 unfolding key_not_before
-returns c = rw (c.key_seconds.ensures, c.entry_tag.ensures)
+returns c = rw (c.key_seconds.ensures, c.entry_tag-t.ensures)
