@@ -9,8 +9,8 @@ returns c =
     let h = c.fill-2 in
     let m = c.clear_u16 in
     let t = c.clear_u32 in
-    blocks_clear b.new.0 h.new.0 m.new.0 t.new.0
-    (cleared c.args.blocks.now b.new.0 blocks_length c.requires.0.0 b.ensures)
-    (cleared c.args.headers.now h.new.0 16 c.requires.0.1 h.ensures)
-    (cleared c.args.present.now m.new.0 16 c.requires.1.0 m.ensures)
-    (cleared c.args.since.now t.new.0 16 c.requires.1.1 t.ensures)
+    blocks_clear b.new.dst h.new.dst m.new.dst t.new.dst
+    (cleared c.args.blocks.now b.new.dst blocks_length c.requires.0.0 b.ensures)
+    (cleared c.args.headers.now h.new.dst 16 c.requires.0.1 h.ensures)
+    (cleared c.args.present.now m.new.dst 16 c.requires.1.0 m.ensures)
+    (cleared c.args.since.now t.new.dst 16 c.requires.1.1 t.ensures)

@@ -6,4 +6,4 @@ pub returns : goal.returns
 returns c =
     let s = c.fill in
     let t = c.clear_u32 in
-    sets_clear c.args.sets.now s.new.0 c.args.arrivals.now t.new.0 c.requires.0 c.requires.1 s.ensures t.ensures
+    sets_clear c.args.sets.now s.new.dst c.args.arrivals.now t.new.dst c.requires.0 c.requires.1 s.ensures t.ensures

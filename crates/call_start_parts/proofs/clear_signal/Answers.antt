@@ -7,6 +7,6 @@ returns c =
     let k = c.clear_u32 in
     let w = c.fill in
     let t = c.clear_u32-2 in (
-      cleared c.args.clocks.now k.new.0 73 c.requires.0 k.ensures,
-      words_clear c.args.words.now w.new.0 c.args.stamps.now t.new.0 c.requires.1.0 c.requires.1.1 w.ensures t.ensures,
+      cleared c.args.clocks.now k.new.dst 73 c.requires.0 k.ensures,
+      words_clear c.args.words.now w.new.dst c.args.stamps.now t.new.dst c.requires.1.0 c.requires.1.1 w.ensures t.ensures,
     )

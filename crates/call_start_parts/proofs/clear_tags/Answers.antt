@@ -6,4 +6,4 @@ pub returns : goal.returns
 returns c =
     let k = c.fill in
     let w = c.fill-2 in
-    tags_clear c.args.numbers.now c.args.heldkey.now k.new.0 c.args.waiting.now w.new.0 c.requires.0 c.requires.1.0 c.requires.1.1 k.ensures w.ensures
+    tags_clear c.args.numbers.now c.args.heldkey.now k.new.dst c.args.waiting.now w.new.dst c.requires.0 c.requires.1.0 c.requires.1.1 k.ensures w.ensures

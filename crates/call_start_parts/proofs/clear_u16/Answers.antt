@@ -1,6 +1,6 @@
 -- `call_start_parts::clear_u16` meets its contract: after i turns the first i numbers are 0.
 use mathlib.Core.Path.{◌≡◌, ap, ◌∙◌}
-use Prim.Native.Nat.{ℕ, ◌-◌}
+use Prim.Native.Nat.{ℕ}
 use lib.ListN.{length, replicate, length-take, length-replicate}
 use Rattle.laws.proofs.Splice.{length_splice, splice_none, splice_all}
 use native.Mathlib.Omega.{arith}

@@ -20,7 +20,7 @@ pub returns : goal.returns
 returns c =
     let f = c.fill in
     let n = c.key_length-n in
-    key-held f.new.0 c.add_key.new.pubkeys c.args.pubkey.now c.args.id c.args.kind n.result
-    (cleared c.args.pubkeys.now f.new.0 pubkeys_length c.requires.0.0 f.ensures)
+    key-held f.new.dst c.add_key.new.pubkeys c.args.pubkey.now c.args.id c.args.kind n.result
+    (cleared c.args.pubkeys.now f.new.dst pubkeys_length c.requires.0.0 f.ensures)
     n.ensures
     c.add_key.ensures

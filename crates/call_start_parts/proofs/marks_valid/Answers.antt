@@ -1,6 +1,5 @@
 -- `call_start_parts::marks_valid` meets its contract: after i turns the first i marks are looked at.
 use mathlib.Core.Path.{◌≡◌, refl, ap, ◌∙◌}
-use Prim.Native.Nat.{◌-◌}
 use native.Mathlib.Omega.{arith}
 use Rattle.rules.specs.Calls.{marks_valid}
 use Rattle.call_start_parts.proofs.Cleared.{marks_more}
