@@ -4,18 +4,18 @@
 // on the records; this program only reads and writes. It reads 16 records at a time and writes their lines at once, and stops where a write fails.
 ghost use Rattle.std.specs.Prelude.{◌≤◌, length};
 
-use libc::{STDIN_FILENO, STDOUT_FILENO};
 use regions::{
     AREA_LENGTH, ARRIVALS_LENGTH, BLOCKS_LENGTH, CHAIN_LENGTH, CLOCKS_LENGTH, CONFIG_LENGTH,
     DSM_IDS, HELDKEY_LENGTH, NUMBERS_LENGTH, OFFER_LENGTH, PUBKEYS_LENGTH, SETS_LENGTH,
     STAMPS_LENGTH, WAITING_LENGTH, WORDS_LENGTH,
 };
+use std::io::Read;
 
 // Pieces of the input that are read: as many as have places in 64 bits. No run uses them up.
 const PIECES: u64 = 1152921504606846975;
 
 // The core's regions, the area for tag records, and room for 16 records and their lines.
-fn main() {
+fn main(rt: HostRuntime) {
     let mut config = [0u8; CONFIG_LENGTH];
     let mut clocks = [0u32; CLOCKS_LENGTH];
     let mut words = [0u8; WORDS_LENGTH];
@@ -36,6 +36,7 @@ fn main() {
     let mut input = [0u8; 4096];
     let mut out = [0u8; 109344];
     replay_all(
+        &rt,
         &mut config,
         &mut clocks,
         &mut words,
@@ -60,6 +61,7 @@ fn main() {
 
 // Every record of standard input, in order. A proved loop has to end, and nothing says that the input does: it counts the pieces down.
 fn replay_all(
+    rt: &(impl Input + Print),
     config: &mut [u8; CONFIG_LENGTH],
     clocks: &mut [u32; CLOCKS_LENGTH],
     words: &mut [u8; WORDS_LENGTH],
@@ -85,8 +87,9 @@ fn replay_all(
     let mut started: u8 = 0;
     let mut place: u64 = 0;
     let mut pieces = PIECES;
+    let mut reader = rt.reader();
     while pieces > 0 {
-        let n = io::read_full(STDIN_FILENO, input);
+        let n = read_full(&mut reader, input);
         let filled = replay_records::replay_piece(
             config,
             clocks,
@@ -110,10 +113,25 @@ fn replay_all(
             &input[0..n],
             out,
         );
-        let written = io::write_all(STDOUT_FILENO, &out[0..filled]);
+        let written = rt.write_all(&out[0..filled]).is_ok();
         if !(written & (n > 0)) {
             return;
         }
         pieces -= 1;
     }
+}
+
+// Reads until buf is full, the input ends or a read fails: how many bytes it put at the start of buf.
+fn read_full(reader: &mut impl Read, buf: &mut [u8]) -> usize
+    ensures { result ≤ length buf.new }
+{
+    let mut done: usize = 0;
+    while done < buf.len() {
+        let n = reader.read(&mut buf[done..]).unwrap_or(0);
+        if n == 0 {
+            return done;
+        }
+        done += n;
+    }
+    done
 }

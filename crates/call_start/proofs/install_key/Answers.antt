@@ -2,16 +2,16 @@
 use Rattle.call_start.proofs.install_key.Goals as goal
 
 pub hold_key-requires : goal.hold_key-requires
-hold_key-requires c = ((c.requires.0.0, c.requires.1.1.1.0), c.requires.1.1.1.1)
+hold_key-requires c = ((c.requires.pubkeys_len.0, c.requires.pubkey_len.0), c.requires.pubkey_len.1)
 
 pub clear_message-requires : goal.clear_message-requires
-clear_message-requires c = c.requires.0.1
+clear_message-requires c = c.requires.pubkeys_len.1
 
 pub clear_tags-requires : goal.clear_tags-requires
-clear_tags-requires c = c.requires.1.0
+clear_tags-requires c = c.requires.numbers_len
 
 pub clear_sets-requires : goal.clear_sets-requires
-clear_sets-requires c = c.requires.1.1.0
+clear_sets-requires c = c.requires.sets_len
 
 pub returns : goal.returns
 returns c =

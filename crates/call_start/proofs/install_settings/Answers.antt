@@ -2,13 +2,13 @@
 use Rattle.call_start.proofs.install_settings.Goals as goal
 
 pub set_config-requires : goal.set_config-requires
-set_config-requires c = (c.requires.0.0.0, c.requires.1.1)
+set_config-requires c = (c.requires.config_len.0.0, c.requires.marks_len)
 
 pub clear_signal-requires : goal.clear_signal-requires
-clear_signal-requires c = (c.requires.0.0.1, c.requires.0.1)
+clear_signal-requires c = (c.requires.config_len.0.1, c.requires.config_len.1)
 
 pub clear_blocks-requires : goal.clear_blocks-requires
-clear_blocks-requires c = c.requires.1.0
+clear_blocks-requires c = c.requires.blocks_len
 
 pub returns : goal.returns
 returns c =

@@ -1,6 +1,5 @@
 -- `call_verdict::chain_stays` meets its contract: a chain in force, and its contents compared.
 use mathlib.Core.Path.{◌≡◌, sym, ◌∙◌}
-use borrow.Author.Tests.{not-true, not-false}
 use Rattle.rules.specs.Kroot.{chain_contents}
 use Rattle.rules.specs.Verdict.{chain_unchanged}
 use Rattle.call_verdict.proofs.Effects.{none_in_force, by_contents}

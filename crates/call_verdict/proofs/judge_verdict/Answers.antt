@@ -22,7 +22,7 @@ lent c s =
 
 -- every lent length is right
 long : (c : Start) (s : State) → (verdict_shaped (lent c s) && (eqb (length c.args.message.now) 45 && eqb (length c.args.signature.now) 132)) ≡ true
-long c s = fits (lent c s) (verdict c) c.requires.0 c.requires.1
+long c s = fits (lent c s) (verdict c) c.requires.config_len c.requires.arrivals_len
 
 pub returns-then-good-gt1 : goal.returns-then-good-gt1
 returns-then-good-gt1 c =

@@ -1,6 +1,5 @@
 -- `call_verdict::keep_tags` meets its contract: no tag stays but on the same chain.
 use mathlib.Core.Path.{sym, ◌∙◌}
-use borrow.Author.Tests.{not-true, not-false}
 use Rattle.call_verdict.proofs.Effects.{new_chain, same_chain, none_stay, some_stay}
 use Rattle.call_verdict.proofs.keep_tags.Goals as goal
 

@@ -24,9 +24,9 @@ abbrev word : Start → Word
 word c = record { prn = c.args.prn; time = c.args.time; bytes = c.args.bytes.now }
 
 -- the number is that of the rule's checks
-number_is : (c : After-word_refusal-code) (s : State) → c.word_refusal-code.result ≡ first_refusal (word_checks (lent c s) (word c))
+number_is : (c : After-word_refusal-code) (s : State) → c.word_refusal-code.result ≡ first_refusal (word_checks (word_lent s c.args.config.now c.args.clocks.now c.args.words.now c.args.stamps.now) (record { prn = c.args.prn; time = c.args.time; bytes = c.args.bytes.now }))
 number_is c s =
-    c.word_refusal-code.ensures.0 (lent c s) refl refl (fits s c.args.config.now c.args.clocks.now c.args.words.now c.args.stamps.now c.args.bytes.now c.requires)
+    c.word_refusal-code.ensures.0 (word_lent s c.args.config.now c.args.clocks.now c.args.words.now c.args.stamps.now) refl refl (fits s c.args.config.now c.args.clocks.now c.args.words.now c.args.stamps.now c.args.bytes.now c.requires)
 
 pub returns-then-code-ne0 : goal.returns-then-code-ne0
 returns-then-code-ne0 c = λ s. refused (lent (goal.at.returns-then-code-ne0 c).Start s) (word (goal.at.returns-then-code-ne0 c).Start) _ c.if-code-ne0.true (number_is (goal.at.returns-then-code-ne0 c).After-word_refusal-code s)
@@ -63,5 +63,5 @@ returns c =
     (held s c.args.config.now c.args.clocks.now c.args.words.now c.args.stamps.now _ _ _ (word (goal.at.returns c).Start)
     (rw (← k) (type_held _ c.if-kind-lt1.false c.if-kind-gt5.false))
     c.note_word.ensures
-    (rw (← k) (rw c.index.ensures.0 at c.Store-word.ensures)))
+    (rw (← k) (rw c.index.ensures.0 at c.store_word.ensures)))
     ∙ accepted (lent (goal.at.returns c).Start s) (word (goal.at.returns c).Start) (sym c.if-code-ne0.false ∙ number_is (goal.at.returns c).After-word_refusal-code s)

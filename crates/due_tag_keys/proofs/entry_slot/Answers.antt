@@ -4,4 +4,4 @@ use Rattle.due_tag_keys.proofs.entry_slot.Goals as goal
 
 pub returns : goal.returns
 unfolding entry_slot
-returns c = rw (c.key_slot.ensures, c.entry_tag.ensures)
+returns c = rw (c.key_slot.ensures, c.entry_tag-t.ensures)

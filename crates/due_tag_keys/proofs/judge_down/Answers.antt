@@ -8,8 +8,8 @@ pub returns : goal.returns
 returns c =
     let g = c.args in
     let out = c.key_of_slot.new.key in (
-      (key_long g.c g.at g.m g.key.now out c.requires.0.0.0.width_fits c.requires.1.0 c.key_of_slot.ensures, c.judge_slot.ensures.0),
+      (key_long g.c g.at g.m g.key.now out c.requires.walks.0.0.width_fits c.requires.key_len.0 c.key_of_slot.ensures, c.judge_slot.ensures.0),
       λ h p e.
-          let q = key-after g.c h g.at g.m g.key.now out c.requires.0.0.0.width_fits c.requires.1.0 c.requires.0.1.1.0 p e c.key_of_slot.ensures in
+          let q = key-after g.c h g.at g.m g.key.now out c.requires.walks.0.0.width_fits c.requires.key_len.0 c.requires.walks.1.1.0 p e c.key_of_slot.ensures in
           (q, c.judge_slot.ensures.1 h (c.keep_key.ensures ∙ ap (kept_of g.c.mf) q)),
     )

@@ -11,6 +11,6 @@ unfolding match_outcome
 returns c h e =
     let g = c.args in
     let x = entry_at g.waiting.now g.k in
-    let r = matches_is g.c h x c.copy_set.new.out c.entry_tag.result c.tag_matches-matches.result c.entry_tag.ensures c.copy_set.ensures
+    let r = matches_is g.c h x c.copy_set.new.out c.entry_tag-t.result c.tag_matches-matches.result c.entry_tag-t.ensures c.copy_set.ensures
     (c.tag_matches-matches.ensures (key_of_slot g.c h (entry_slot g.c x)) e) in
     c.outcome_number.ensures ∙ c.judged.ensures ∙ rw r

@@ -1,7 +1,7 @@
 -- `due_tag_keys::next_below` meets its contract: after k turns none of the first k slots below the bound is above the best, which is 0 or one of them.
 use mathlib.Core.Logic.{inl}
 use mathlib.Core.Path.{refl}
-use Prim.Native.Nat.{ℕ, ◌-◌}
+use Prim.Native.Nat.{ℕ}
 use native.Mathlib.Omega.{arith}
 use Rattle.rules.specs.Tags.{entry_at}
 use Rattle.due_tag_keys.specs.Outcomes.{entry_slot}

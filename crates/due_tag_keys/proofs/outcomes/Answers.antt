@@ -22,7 +22,7 @@ begun : (c : After-nearer-at)
     Met g.c (held g.slot (take g.c.width g.known)) c.nearer-at.result c.nearer-at.new.key
 begun c =
     let g = c.args in
-    c.nearer-at.ensures.1.1.1 g.c (held g.slot (take g.c.width g.known)) (met_here g.c g.slot g.known) c.requires.1
+    c.nearer-at.ensures.1.1.1 g.c (held g.slot (take g.c.width g.known)) (met_here g.c g.slot g.known) c.requires.met
 
 -- it does not begin below slot m
 begins : (c : After-nearer-at) → c.next_below-m.result ≤ c.nearer-at.result
@@ -35,7 +35,7 @@ loop-m-init c =
       (((begun (goal.at.loop-m-init c).After-nearer-at).not_above, begins (goal.at.loop-m-init c).After-nearer-at), (c.nearer-at.ensures.0.0, refl)),
       λ h e k. (
         k,
-        none_above g.c h g.waiting.now g.n r.result (rw e r.ensures.1.0) (replicate 256 0) (λ k q. get_or-replicate 256 k 0 0 (omega (arith, c.requires.0.1.0.1))),
+        none_above g.c h g.waiting.now g.n r.result (rw e r.ensures.1.0) (replicate 256 0) (λ k q. get_or-replicate 256 k 0 0 (omega (arith, c.requires.walks.1.0.1))),
       ),
     )
 
@@ -50,7 +50,7 @@ loop-m-preserved c =
           let i = l.invariant.1 h e k in
           let j = d.ensures.1 h (rw e l.invariant.0.0.0) i.0 in (
             j.0,
-            next_above g.c h g.waiting.now g.n l.m r.result l.judged d.new.1.1.1.1.1.1.0
+            next_above g.c h g.waiting.now g.n l.m r.result l.judged d.new.outcomes
                 (rw e (omega arith)) r.ensures.0 i.1 j.1 r.ensures.1.0,
           ),
     )

@@ -11,20 +11,20 @@ use Rattle.hkroot_half.proofs.Halves.{nothing-complete, one_complete}
 use Rattle.hkroot_half.proofs.hkroot_half.Goals as goal
 
 pub complete-requires : goal.complete-requires
-complete-requires c = let q = rw c.n.given.1 at c.gather.ensures.1 in search (rules, q.0, q.1)
+complete-requires c = let q = rw c.in-Complete.is at c.gather.ensures.1 in search (rules, q.0, q.1)
 
 pub returns-in-Stored : goal.returns-in-Stored
-returns-in-Stored c = λ s ec es ek eo. nothing-complete s _ 0 _ _ _ _ _ ec ek eo (rw es (rw c.enum_told.given.1 at c.gather.ensures.0))
+returns-in-Stored c = λ s ec es ek eo. nothing-complete s _ 0 _ _ _ _ _ ec ek eo (rw es (rw c.in-Stored.is at c.gather.ensures.0))
 
 pub returns-in-Complete : goal.returns-in-Complete
 returns-in-Complete c = λ s ec es ek eo.
     let d = c.complete.ensures in
-    let e = rw c.n.given.1 at c.gather.ensures.0 in
-    let q = rw c.n.given.1 at c.gather.ensures.1 in
+    let e = rw c.in-Complete.is at c.gather.ensures.0 in
+    let q = rw c.in-Complete.is at c.gather.ensures.1 in
     let k : length c.gather.new.blocks ≡ blocks_length = c.gather.auto.blocks ∙ c.requires.0.blocks_long in
-    let n = c.n.given.0.0 in
+    let n = c.in-Complete.n in
     let hk = c.args.hk.now in
     one_complete s _ _ _ _ _ (rw (length_part c.gather.new.blocks (dsm_id_of hk * 208) n (omega (arith, d.1, q.0, q.1, k))) (omega (arith, q.0))) (rw es e) (d.0 s _ ec ek eo)
 
 pub returns-in-Refused : goal.returns-in-Refused
-returns-in-Refused c = λ s ec es ek eo. nothing-complete s _ 6 _ _ _ _ _ ec ek eo (rw es (rw c.enum-told2.given.1 at c.gather.ensures.0))
+returns-in-Refused c = λ s ec es ek eo. nothing-complete s _ 6 _ _ _ _ _ ec ek eo (rw es (rw c.in-Refused.is at c.gather.ensures.0))

@@ -16,8 +16,8 @@ use Rattle.mack_half.proofs.judge_tags.Goals.{After-judge_due-stay}
 pub judge_due-stay-requires : goal.judge_due-stay-requires
 judge_due-stay-requires c =
     record {
-      sets_len = c.requires.1.0;
-      sound = ((c.requires.1.1.0.0.0, c.requires.1.1.0.1), c.requires.1.1.1.near_is);
+      sets_len = c.requires.sets_len;
+      sound = ((c.requires.sound.0.0.0, c.requires.sound.0.1), c.requires.sound.1.near_is);
     }
 
 few : (d : After-judge_due-stay) → d.judge_due-stay.result ≤ d.args.n

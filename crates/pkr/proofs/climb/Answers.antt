@@ -1,6 +1,6 @@
 -- `pkr::climb` meets its contract: after j turns the hash is joined with j nodes.
 use mathlib.Core.Path.{ap, ◌≡◌, ◌∙◌}
-use Prim.Native.Nat.{◌+◌, ◌-◌, ◌*◌}
+use Prim.Native.Nat.{◌+◌, ◌*◌}
 use native.Mathlib.Omega.{arith}
 use Rattle.laws.proofs.Splice.{length_part, range_part}
 use Rattle.rules.specs.Pkr as S

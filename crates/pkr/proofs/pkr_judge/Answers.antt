@@ -1,7 +1,6 @@
 -- `pkr::pkr_judge` meets its contract: each return is the case of its checks.
 use mathlib.Core.Path.{◌≡◌, sym, ◌∙◌}
 use mathlib.Core.Bool.{true, false}
-use borrow.Author.Tests.{not-true, not-false}
 use borrow.Author.Rules.{rules}
 use Rattle.rules.specs.Pkr as S
 use Rattle.pkr.proofs.Pkr.{key_size, size_refused, tree_refused, stopped, renewed}

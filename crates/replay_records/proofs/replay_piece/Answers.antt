@@ -31,7 +31,7 @@ slice_bounds-replay_record-end c = c.record_end-end.ensures.within
 
 -- the rest of the slice
 left : (c : In-loop-k) → c.loop-k.filled + room ≤ length c.loop-k.out
-left c = let h = c.loop-k.invariant in room_left _ _ _ _ _ _ _ h c.loop-k-test.true c.requires.0
+left c = let h = c.loop-k.invariant in room_left _ _ _ _ _ _ _ h c.loop-k-test.true c.requires.room_in_bounds
 
 pub slice_bounds-replay_record-count-in-loop-k : goal.slice_bounds-replay_record-count-in-loop-k
 slice_bounds-replay_record-count-in-loop-k c = let h = left (goal.at.slice_bounds-replay_record-count-in-loop-k c).In-loop-k in omega arith
@@ -41,7 +41,7 @@ slice_bounds-replay_record-start-in-loop-k c = let h = left (goal.at.slice_bound
 
 pub replay_record-filled-requires : goal.replay_record-filled-requires
 replay_record-filled-requires c =
-    (rest_long c.loop-k.out c.loop-k.filled (left (goal.at.replay_record-filled-requires c).In-loop-k), place_left _ _ _ _ _ _ _ c.loop-k.invariant c.loop-k-test.true c.requires.1)
+    (rest_long c.loop-k.out c.loop-k.filled (left (goal.at.replay_record-filled-requires c).In-loop-k), place_left _ _ _ _ _ _ _ c.loop-k.invariant c.loop-k-test.true c.requires.input_bound)
 
 pub overflow_add-filled : goal.overflow_add-filled
 overflow_add-filled c =
@@ -58,11 +58,11 @@ loop-k-smaller c =
 pub loop-k-preserved : goal.loop-k-preserved
 loop-k-preserved c =
     let f = c.replay_record-filled in
-    read_on _ _ _ _ _ _ _ c.loop-k.invariant _ _ _ _ c.loop-k-test.true c.requires.0
-    c.record_end-end.ensures f.ensures.0 f.ensures.1 f.auto.1.1.1.1.1.1.1.1.1.1.1.1.1.1.1.1.1.1.1.1.0
+    read_on _ _ _ _ _ _ _ c.loop-k.invariant _ _ _ _ c.loop-k-test.true c.requires.room_in_bounds
+    c.record_end-end.ensures f.ensures.0 f.ensures.1 c.replay_record-filled.auto.out
 
 pub shape_of-out : goal.shape_of-out
 shape_of-out c = c.loop-k.invariant.long
 
 pub returns : goal.returns
-returns c = read_all _ _ _ _ _ _ _ c.loop-k.invariant c.loop-k-test.false c.requires.0
+returns c = read_all _ _ _ _ _ _ _ c.loop-k.invariant c.loop-k-test.false c.requires.room_in_bounds

@@ -16,17 +16,16 @@ set_long c = ap length c.set_of-set.ensures ∙ length-set_of c.args.words.now c
 
 pub outcome_of-outcome-requires : goal.outcome_of-outcome-requires
 outcome_of-outcome-requires c =
-    let l = c.requires.1.1.0 in
     record {
-      config_len = (c.requires.0.0, (c.requires.0.1.0, set_long (goal.at.outcome_of-outcome-requires c).After-set_of-set));
-      ms_bound = ((l.0.fit.ms_high, omega (arith, l.0.few, l.1)), c.heard-p.ensures.0);
+      config_len = (c.requires.config_len.0, (c.requires.config_len.1.0, set_long (goal.at.outcome_of-outcome-requires c).After-set_of-set));
+      ms_bound = ((c.requires.laid.0.0.fit.ms_high, omega (arith, c.requires.laid.0.0.few, c.requires.laid.0.1)), c.heard-p.ensures.0);
     }
 
 pub settle-requires : goal.settle-requires
 settle-requires c =
     record {
-      sets_len = c.requires.1.0;
-      set_len = (((set_long (goal.at.settle-requires c).After-set_of-set, c.requires.1.1.1.1), (c.requires.1.1.1.0, c.outcome_of-outcome.ensures.0)), c.requires.1.1.0.0.fit.ms_high);
+      sets_len = c.requires.sets_len;
+      set_len = (((set_long (goal.at.settle-requires c).After-set_of-set, c.requires.laid.1.1), (c.requires.laid.1.0, c.outcome_of-outcome.ensures.0)), c.requires.laid.0.0.fit.ms_high);
     }
 
 pub returns : goal.returns

@@ -6,7 +6,7 @@ use Rattle.section_tags.proofs.settle.Goals as goal
 
 pub put_entry-requires : goal.put_entry-requires
 put_entry-requires c =
-    (omega (arith, c.requires.1.0.1.1 c.if-outcome-eq5.true, c.requires.0.1.0), search rules)
+    (omega (arith, c.requires.set_len.0.1.1 c.if-outcome-eq5.true, c.requires.sets_len.1.0), search rules)
 
 pub returns-then-outcome-eq5 : goal.returns-then-outcome-eq5
 returns-then-outcome-eq5 c =
