@@ -1,7 +1,7 @@
 -- `test_leaves::of_chain::osnma_walk` meets its contract: each return is a case of the checks, and the last one walks.
 use mathlib.Core.Path.{◌≡◌, sym, ap, ◌∙◌}
 use mathlib.Core.Bool.{true}
-use borrow.Author.Tests.{not-true, not-false, le-leb, leb-true}
+use borrow.Author.Tests.{le-leb, leb-true}
 use lib.Dec.{leb}
 use Prim.Native.Nat.{ℕ, ◌+◌, ◌^◌}
 use Rattle.rules.specs.Bits.{within}
@@ -24,7 +24,7 @@ longest c = ap (λ (h : ℕ). within 12 h c.args.width) (sym c.longest_key-longe
 
 width_fits : (c : Else-not-in_range-3)
     → within 12 (longest_key c.args.hf) c.args.width ≡ true
-width_fits c = longest c ∙ sym c.in_range-3.ensures ∙ c.if-not-in_range-3.false
+width_fits c = ap (λ (h : ℕ). within 12 h c.args.width) (sym c.longest_key-longest.ensures) ∙ sym c.in_range-3.ensures ∙ c.if-not-in_range-3.false
 
 slots-fit : (c : Else-not-slots_fit) → leb (c.args.m + c.args.n) (2 ^ 34) ≡ true
 slots-fit c = sym c.slots_fit.ensures ∙ c.if-not-slots_fit.false
