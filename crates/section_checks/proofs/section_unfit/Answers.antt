@@ -1,7 +1,6 @@
 -- `section_checks::section_unfit` meets its contract: the tests are the definition's own.
 use mathlib.Core.Path.{◌≡◌, sym, ◌∙◌}
 use mathlib.Core.Bool.{true}
-use borrow.Author.Tests.{not-true, not-false}
 use Rattle.laws.specs.Lists.{part}
 use Rattle.laws.proofs.Tests.{true_false}
 use Rattle.rules.specs.Kroot.{in_force, chain_contents}
