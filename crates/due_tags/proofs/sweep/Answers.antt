@@ -1,6 +1,5 @@
 -- `due_tags::sweep` meets its contract: after k turns the regions hold the work of the first k entries.
 use mathlib.Core.Path.{◌≡◌}
-use Prim.Native.Nat.{◌-◌}
 use native.Mathlib.Omega.{arith}
 use Rattle.tag_records.specs.Told.{start}
 use Rattle.due_tags.proofs.Arrival.{none_swept, one_swept}
@@ -27,11 +26,11 @@ pub loop-k-preserved : goal.loop-k-preserved
 loop-k-preserved c =
     let l = c.loop-k in
     let g = c.args in
-    let p = c.«sweep-one» in (
+    let p = c.sweep_one-kept in (
       search rules,
       one_swept g.ms g.outcomes.now g.waiting.now g.area.now l.waiting l.sets l.arrivals l.area
-          p.new.1.1.0 p.new.1.1.1.1.1.0 p.new.1.1.1.1.1.1.0 p.new.1.1.1.1.1.1.1.0
-          l.k l.auto p.result (start 0 g.sets.now g.arrivals.now)
+          c.sweep_one-kept.new.waiting c.sweep_one-kept.new.sets c.sweep_one-kept.new.arrivals c.sweep_one-kept.new.area
+          l.k l.kept p.result (start 0 g.sets.now g.arrivals.now)
           (omega (arith, c.requires)) (omega (arith, c.requires)) (omega (arith, c.requires)) l.invariant.1.0 l.invariant.1.1 p.ensures,
     )
 

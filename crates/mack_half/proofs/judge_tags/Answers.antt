@@ -1,5 +1,5 @@
 -- `mack_half::judge_tags` meets its contract: the own tags' work comes behind that of the due ones.
-use Prim.Native.Nat.{◌-◌, ◌*◌, ◌≤◌}
+use Prim.Native.Nat.{◌*◌, ◌≤◌}
 use native.Mathlib.Omega.{arith}
 use lib.ListN.{take}
 use Rattle.rules.specs.Chain.{held}
@@ -49,7 +49,7 @@ returns c =
     let w = dues_judged g.c h g.waiting.now g.n (start 0 g.sets.now g.arrivals.now) in
     let r = both_leave g.config.now (nav g.words.now g.stamps.now) g.c h (section g.prn g.time g.status g.mack.now)
     g.waiting.now g.area.now
-    c.judge_due-stay.last.1.1.1.1.1.0 c.judge_due-stay.last.1.1.1.1.1.1.1.0 c.judge_due-stay.last.1.1.1.1.1.1.1.1.0 c.judge_due-stay.last.1.1.1.1.1.1.1.1.1.0
+    c.judge_due-stay.new.waiting c.judge_due-stay.new.sets c.judge_due-stay.new.arrivals c.judge_due-stay.new.area
     _ _ _ _ g.marks g.n (g.c.nmack * g.c.fields) c.judge_due-stay.result c.judge_own-kept.result w
     c.requires.sets_len.1.0 c.requires.sets_len.1.1 (omega (arith, few (goal.at.returns c).After-judge_due-stay, c.requires.sound.0.0.1.few))
     c.judge_due-stay.ensures.0 c.judge_due-stay.ensures.1 c.judge_own-kept.ensures.0 c.judge_own-kept.ensures.1 in

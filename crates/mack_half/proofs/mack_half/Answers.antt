@@ -2,7 +2,6 @@
 use mathlib.Core.Path.{◌≡◌, sym, ◌∙◌}
 use mathlib.Core.Bool.{true}
 use native.Mathlib.Omega.{arith}
-use borrow.Author.Tests.{not-true, not-false}
 use Rattle.rules.specs.Received.{field_came}
 use Rattle.authentic_sets.specs.Regions.{auth}
 use Rattle.mack_half.specs.Half.{tesla}
