@@ -61,7 +61,7 @@ gap_chain = record { ns = 36; nmack = 2; root = hour_seconds 1 0; alpha = replic
 abbrev pub slot_for_gap : ℕ → ℕ
 slot_for_gap prn = sent_slot gap_chain (gst 1 416640) 2 prn
 
--- the number that this block's own list gives by its first check, where the root is held. That its key is then taken is `gap-taken` of Known.antt
+-- the number that this block's own list gives by its first check, where the root is held. That its key is then taken is `gap_taken` of Known.antt
 abbrev pub number_for_gap : ℕ → ℕ
 number_for_gap prn = first_refusal (take 1 (block_checks gap_chain (gst 1 416640) prn 0 (replicate 60 0) (held 0 (replicate 16 0)) 2))
 

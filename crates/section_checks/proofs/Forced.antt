@@ -1,4 +1,4 @@
--- The chain of accepted parameters has the layout that `judge_own` asks for; that its numbers are in range is `chain-sound` of `chain`.
+-- The chain of accepted parameters has the layout that `judge_own` asks for; that its numbers are in range is `chain_sound` of `chain`.
 -- Assumes nothing.
 use mathlib.Core.Path.{◌≡◌}
 use mathlib.Core.Bool.{false}

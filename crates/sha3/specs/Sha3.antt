@@ -1,6 +1,6 @@
 -- SHA3-224 and SHA3-256 after FIPS 202, in the standard's order, on lists of numbers. A state is its 25 lanes, numbers below 2 ^ 64, bit z of a
 -- lane worth 2 ^ z; lane (x, y) stands at place 5 y + x. A message and a digest are lists of bytes. All definitions are total.
--- The main equations are `keccak_f` (the permutation), `sponge` (for any rate, in bytes), `sha3-224` and `sha3-256`; `one_block` is the
+-- The main equations are `keccak_f` (the permutation), `sponge` (for any rate, in bytes), `sha3_224` and `sha3_256`; `one_block` is the
 -- sponge's result for a message whose caller has begun the padding in a block of 64 bytes.
 use Rattle.std.specs.Prelude.{ℕ, zero, suc, ◌+◌, ◌-◌, ◌*◌, ◌/◌, ◌%◌, ◌^◌, List, [], ◌∷◌, ◌++◌, length, get_or, set, take, replicate}
 use Rattle.std.specs.Int.Bits.{bit_and, bit_xor}
