@@ -1,7 +1,6 @@
 -- `osnma::osnma_regions_four` meets its contract: a wrong length is refused, then the inner call's contract at the lent state.
 use mathlib.Core.Path.{◌≡◌, refl, sym, ◌∙◌}
 use mathlib.Core.Bool.{true}
-use borrow.Author.Tests.{not-true, not-false}
 use Rattle.rules.specs.Replay.{blank_core}
 use Rattle.rules.specs.State.{State, four_lent, four_shaped}
 use Rattle.rules.proofs.Lengths.{four_sized}
@@ -21,7 +20,7 @@ pub four_met-requires : goal.four_met-requires
 four_met-requires c =
     four_sized (lent (goal.at.four_met-requires c).Start blank_core) (sym (c.four_shaped.ensures blank_core) ∙ c.if-not-four_shaped.false)
 
-right : (c : After-four_met) (s : State) → four_shaped (lent c s) ≡ true
+right : (c : After-four_met) (s : State) → four_shaped (four_lent s c.args.clocks.now c.args.arrivals.now) ≡ true
 right c s = sym (c.four_shaped.ensures s) ∙ c.if-not-four_shaped.false
 
 pub returns-then-four_met : goal.returns-then-four_met

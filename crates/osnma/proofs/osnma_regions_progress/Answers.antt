@@ -3,7 +3,6 @@ use mathlib.Core.Path.{◌≡◌, sym}
 use mathlib.Core.Bool.{true, ◌&&◌}
 use lib.Dec.{eqb}
 use lib.ListN.{length}
-use borrow.Author.Tests.{not-true, not-false}
 use Rattle.rules.specs.Replay.{blank_core}
 use Rattle.rules.specs.State.{State, progress_lent, progress_shaped}
 use Rattle.rules.proofs.Lengths.{progress_sized}
@@ -15,12 +14,12 @@ use Rattle.osnma.proofs.osnma_regions_progress.Goals.{After-progress_shaped-shap
 abbrev lent : Start → State → State
 lent c s = progress_lent s c.args.blocks.now c.args.present.now
 
-shaped-is : (c : After-progress_shaped-shaped) (s : State) → progress_shaped (lent c s) ≡ c.progress_shaped-shaped.result
+shaped-is : (c : After-progress_shaped-shaped) (s : State) → progress_shaped (progress_lent s c.args.blocks.now c.args.present.now) ≡ c.progress_shaped-shaped.result
 shaped-is c s = sym (c.progress_shaped-shaped.ensures s)
 
 -- every lent length is right
-fits : (c : Else-not-shaped-out) (s : State) → (progress_shaped (lent c s) && eqb (length c.args.out.now) 32) ≡ true
-fits c s = rw (shaped-is c s) (c.if-not-shaped-out.false)
+fits : (c : Else-not-shaped-out) (s : State) → (progress_shaped (progress_lent s c.args.blocks.now c.args.present.now) && eqb (length c.args.out.now) 32) ≡ true
+fits c s = rw (sym (c.progress_shaped-shaped.ensures s)) (c.if-not-shaped-out.false)
 
 pub returns-then-not-shaped-out : goal.returns-then-not-shaped-out
 returns-then-not-shaped-out c =

@@ -3,7 +3,6 @@ use mathlib.Core.Path.{◌≡◌, refl, sym}
 use mathlib.Core.Bool.{true, ◌&&◌}
 use lib.Dec.{eqb}
 use lib.ListN.{length}
-use borrow.Author.Tests.{not-true, not-false}
 use Rattle.rules.specs.Replay.{blank_core}
 use Rattle.rules.specs.State.{State, offer_lent, offer_shaped}
 use Rattle.rules.proofs.Lengths.{message_sized}
@@ -15,12 +14,12 @@ use Rattle.osnma.proofs.osnma_regions_read_message.Goals.{After-offer_shaped-sha
 abbrev lent : Start → State → State
 lent c s = offer_lent s c.args.pubkeys.now c.args.offer.now
 
-shaped-is : (c : After-offer_shaped-shaped) (s : State) → offer_shaped (lent c s) ≡ c.offer_shaped-shaped.result
+shaped-is : (c : After-offer_shaped-shaped) (s : State) → offer_shaped (offer_lent s c.args.pubkeys.now c.args.offer.now) ≡ c.offer_shaped-shaped.result
 shaped-is c s = sym (c.offer_shaped-shaped.ensures s)
 
 -- every lent length is right
-fits : (c : Else-not-shaped-message) (s : State) → (offer_shaped (lent c s) && (eqb (length c.args.message.now) 45 && (eqb (length c.args.signature.now) 132 && eqb (length c.args.pubkey.now) 67))) ≡ true
-fits c s = rw (shaped-is c s) (c.if-not-shaped-message.false)
+fits : (c : Else-not-shaped-message) (s : State) → (offer_shaped (offer_lent s c.args.pubkeys.now c.args.offer.now) && (eqb (length c.args.message.now) 45 && (eqb (length c.args.signature.now) 132 && eqb (length c.args.pubkey.now) 67))) ≡ true
+fits c s = rw (sym (c.offer_shaped-shaped.ensures s)) (c.if-not-shaped-message.false)
 
 pub returns-then-not-shaped-message : goal.returns-then-not-shaped-message
 returns-then-not-shaped-message c =

@@ -3,7 +3,6 @@ use mathlib.Core.Path.{◌≡◌, refl, sym}
 use mathlib.Core.Bool.{true, ◌&&◌}
 use lib.Dec.{eqb}
 use lib.ListN.{length}
-use borrow.Author.Tests.{not-true, not-false}
 use Rattle.rules.specs.Replay.{blank_core}
 use Rattle.rules.specs.State.{State, set_lent, set_shaped}
 use Rattle.rules.proofs.Lengths.{set_sized}
@@ -15,12 +14,12 @@ use Rattle.osnma.proofs.osnma_regions_read_set.Goals.{After-set_shaped-shaped, E
 abbrev lent : Start → State → State
 lent c s = set_lent s c.args.sets.now c.args.arrivals.now
 
-shaped-is : (c : After-set_shaped-shaped) (s : State) → set_shaped (lent c s) ≡ c.set_shaped-shaped.result
+shaped-is : (c : After-set_shaped-shaped) (s : State) → set_shaped (set_lent s c.args.sets.now c.args.arrivals.now) ≡ c.set_shaped-shaped.result
 shaped-is c s = sym (c.set_shaped-shaped.ensures s)
 
 -- every lent length is right
-fits : (c : Else-not-shaped-out) (s : State) → (set_shaped (lent c s) && eqb (length c.args.out.now) 69) ≡ true
-fits c s = rw (shaped-is c s) (c.if-not-shaped-out.false)
+fits : (c : Else-not-shaped-out) (s : State) → (set_shaped (set_lent s c.args.sets.now c.args.arrivals.now) && eqb (length c.args.out.now) 69) ≡ true
+fits c s = rw (sym (c.set_shaped-shaped.ensures s)) (c.if-not-shaped-out.false)
 
 pub returns-then-not-shaped-out : goal.returns-then-not-shaped-out
 returns-then-not-shaped-out c =

@@ -21,16 +21,16 @@ given c =
     record { ns = c.args.ns; id = c.args.id; type = c.args.kind; maclt = c.args.maclt; marks = c.args.marks.now; root = c.args.root.now; key = c.args.pubkey.now }
 
 -- the number is that of the rule's checks
-number_is : (c : After-start_refusal-code) → c.start_refusal-code.result ≡ first_refusal (S.start_checks (whole c) (given c))
+number_is : (c : After-start_refusal-code) → c.start_refusal-code.result ≡ first_refusal (S.start_checks (state c.args.config.now c.args.clocks.now c.args.words.now c.args.stamps.now c.args.blocks.now c.args.headers.now c.args.present.now c.args.since.now c.args.pubkeys.now c.args.offer.now c.args.chain.now c.args.numbers.now c.args.heldkey.now c.args.waiting.now c.args.sets.now c.args.arrivals.now) (record { ns = c.args.ns; id = c.args.id; type = c.args.kind; maclt = c.args.maclt; marks = c.args.marks.now; root = c.args.root.now; key = c.args.pubkey.now }))
 unfolding S.start_lengths
 number_is c =
-    c.start_refusal-code.ensures.0 (whole c) c.args.maclt c.args.root.now c.args.pubkey.now (rw (← c.shaped-shaped.ensures))
+    c.start_refusal-code.ensures.0 (state c.args.config.now c.args.clocks.now c.args.words.now c.args.stamps.now c.args.blocks.now c.args.headers.now c.args.present.now c.args.since.now c.args.pubkeys.now c.args.offer.now c.args.chain.now c.args.numbers.now c.args.heldkey.now c.args.waiting.now c.args.sets.now c.args.arrivals.now) c.args.maclt c.args.root.now c.args.pubkey.now (rw (← c.shaped-shaped.ensures))
 
 -- an accepted start has right lengths
-long : (c : Else-code-ne0) → Sized (whole c) × ((length c.args.marks.now ≡ 28) × ((length c.args.root.now ≡ 32) × (length c.args.pubkey.now ≡ 67)))
+long : (c : Else-code-ne0) → Sized (state c.args.config.now c.args.clocks.now c.args.words.now c.args.stamps.now c.args.blocks.now c.args.headers.now c.args.present.now c.args.since.now c.args.pubkeys.now c.args.offer.now c.args.chain.now c.args.numbers.now c.args.heldkey.now c.args.waiting.now c.args.sets.now c.args.arrivals.now) × ((length c.args.marks.now ≡ 28) × ((length c.args.root.now ≡ 32) × (length c.args.pubkey.now ≡ 67)))
 long c =
-    let l = long_three (shaped (whole c)) c.args.marks.now c.args.root.now c.args.pubkey.now 28 32 67 (rw (← c.shaped-shaped.ensures) (c.start_refusal-code.ensures.1 c.if-code-ne0.false).0) in
-    (sized (whole c) l.0, l.1)
+    let l = long_three (shaped (state c.args.config.now c.args.clocks.now c.args.words.now c.args.stamps.now c.args.blocks.now c.args.headers.now c.args.present.now c.args.since.now c.args.pubkeys.now c.args.offer.now c.args.chain.now c.args.numbers.now c.args.heldkey.now c.args.waiting.now c.args.sets.now c.args.arrivals.now)) c.args.marks.now c.args.root.now c.args.pubkey.now 28 32 67 (rw (← c.shaped-shaped.ensures) (c.start_refusal-code.ensures.1 c.if-code-ne0.false).0) in
+    (sized (state c.args.config.now c.args.clocks.now c.args.words.now c.args.stamps.now c.args.blocks.now c.args.headers.now c.args.present.now c.args.since.now c.args.pubkeys.now c.args.offer.now c.args.chain.now c.args.numbers.now c.args.heldkey.now c.args.waiting.now c.args.sets.now c.args.arrivals.now) l.0, l.1)
 
 pub returns-then-code-ne0 : goal.returns-then-code-ne0
 returns-then-code-ne0 c =
@@ -63,53 +63,53 @@ pub returns : goal.returns
 returns c =
     let t = c.install_settings.ensures in
     let k = c.install_key.ensures in
-    accepted (whole (goal.at.returns c).Start) (given (goal.at.returns c).Start) c.start_refusal-code.result (number_is (goal.at.returns c).After-start_refusal-code) c.if-code-ne0.left _
+    accepted (whole (goal.at.returns c).Start) (given (goal.at.returns c).Start) c.start_refusal-code.result (number_is (goal.at.returns c).After-start_refusal-code) c.if-code-ne0.false _
     (all-written (given (goal.at.returns c).Start) _ _ _ _ _ _ _ _ _ t.0 t.1 k.0 k.1)
 
 pub shape_of-config : goal.shape_of-config
-shape_of-config c = c.install_settings.kept.0
+shape_of-config c = c.install_settings.auto.config
 
 pub shape_of-clocks : goal.shape_of-clocks
-shape_of-clocks c = c.install_settings.kept.1.0
+shape_of-clocks c = c.install_settings.auto.clocks
 
 pub shape_of-words : goal.shape_of-words
-shape_of-words c = c.install_settings.kept.1.1.0
+shape_of-words c = c.install_settings.auto.words
 
 pub shape_of-stamps : goal.shape_of-stamps
-shape_of-stamps c = c.install_settings.kept.1.1.1.0
+shape_of-stamps c = c.install_settings.auto.stamps
 
 pub shape_of-blocks : goal.shape_of-blocks
-shape_of-blocks c = c.install_settings.kept.1.1.1.1.0
+shape_of-blocks c = c.install_settings.auto.blocks
 
 pub shape_of-headers : goal.shape_of-headers
-shape_of-headers c = c.install_settings.kept.1.1.1.1.1.0
+shape_of-headers c = c.install_settings.auto.headers
 
 pub shape_of-present : goal.shape_of-present
-shape_of-present c = c.install_settings.kept.1.1.1.1.1.1.0
+shape_of-present c = c.install_settings.auto.present
 
 pub shape_of-since : goal.shape_of-since
-shape_of-since c = c.install_settings.kept.1.1.1.1.1.1.1.0
+shape_of-since c = c.install_settings.auto.since
 
 pub shape_of-pubkeys : goal.shape_of-pubkeys
-shape_of-pubkeys c = c.install_key.kept.0
+shape_of-pubkeys c = c.install_key.auto.pubkeys
 
 pub shape_of-offer : goal.shape_of-offer
-shape_of-offer c = c.install_key.kept.1.0
+shape_of-offer c = c.install_key.auto.offer
 
 pub shape_of-chain : goal.shape_of-chain
-shape_of-chain c = c.install_key.kept.1.1.0
+shape_of-chain c = c.install_key.auto.chain
 
 pub shape_of-numbers : goal.shape_of-numbers
-shape_of-numbers c = c.install_key.kept.1.1.1.0
+shape_of-numbers c = c.install_key.auto.numbers
 
 pub shape_of-heldkey : goal.shape_of-heldkey
-shape_of-heldkey c = c.install_key.kept.1.1.1.1.0
+shape_of-heldkey c = c.install_key.auto.heldkey
 
 pub shape_of-waiting : goal.shape_of-waiting
-shape_of-waiting c = c.install_key.kept.1.1.1.1.1.0
+shape_of-waiting c = c.install_key.auto.waiting
 
 pub shape_of-sets : goal.shape_of-sets
-shape_of-sets c = c.install_key.kept.1.1.1.1.1.1.0
+shape_of-sets c = c.install_key.auto.sets
 
 pub shape_of-arrivals : goal.shape_of-arrivals
-shape_of-arrivals c = c.install_key.kept.1.1.1.1.1.1.1.0
+shape_of-arrivals c = c.install_key.auto.arrivals

@@ -3,7 +3,7 @@ use mathlib.Core.Path.{◌≡◌, sym, ◌∙◌}
 use mathlib.Core.Bool.{Bool, ◌&&◌}
 use lib.Dec.{eqb}
 use lib.ListN.{length}
-use borrow.Author.Tests.{eqb-true, not-true, not-false}
+use borrow.Author.Tests.{eqb-true}
 use Rattle.laws.proofs.Tests.{and_left, and_right}
 use Rattle.rules.specs.Calls.{Subframe}
 use Rattle.rules.specs.State.{State, state, shaped, area_length}
@@ -23,7 +23,7 @@ joined : (r a b a' b' : Bool) → r ≡ (a && b) → a ≡ a' → b ≡ b' → r
 joined r a b a' b' e f g = e ∙ rw (f, g)
 
 -- the test is that of the rule
-tested : (c : After-both) → c.both.result ≡ (shaped (before c) && (eqb (length c.args.area.now) area_length && eqb (length c.args.bytes.now) 75))
+tested : (c : After-both) → c.both.result ≡ (shaped (state c.args.config.now c.args.clocks.now c.args.words.now c.args.stamps.now c.args.blocks.now c.args.headers.now c.args.present.now c.args.since.now c.args.pubkeys.now c.args.offer.now c.args.chain.now c.args.numbers.now c.args.heldkey.now c.args.waiting.now c.args.sets.now c.args.arrivals.now) && (eqb (length c.args.area.now) area_length && eqb (length c.args.bytes.now) 75))
 tested c = joined _ _ _ _ _ c.both.ensures c.shaped-shaped.ensures c.both-lent.ensures
 
 pub returns-then-not-both : goal.returns-then-not-both

@@ -3,7 +3,6 @@ use mathlib.Core.Path.{◌≡◌, sym}
 use mathlib.Core.Bool.{true, ◌&&◌}
 use lib.Dec.{eqb}
 use lib.ListN.{length}
-use borrow.Author.Tests.{not-true, not-false}
 use Rattle.rules.specs.Replay.{blank_core}
 use Rattle.rules.specs.State.{State, verdict_lent, verdict_shaped}
 use Rattle.rules.specs.Verdict.{Verdict}
@@ -22,12 +21,12 @@ abbrev lent : Start → State → State
 lent c s =
     verdict_lent s c.args.config.now c.args.pubkeys.now c.args.offer.now c.args.chain.now c.args.numbers.now c.args.heldkey.now c.args.waiting.now c.args.arrivals.now
 
-shaped-is : (c : After-verdict_shaped-shaped) (s : State) → verdict_shaped (lent c s) ≡ c.verdict_shaped-shaped.result
+shaped-is : (c : After-verdict_shaped-shaped) (s : State) → verdict_shaped (verdict_lent s c.args.config.now c.args.pubkeys.now c.args.offer.now c.args.chain.now c.args.numbers.now c.args.heldkey.now c.args.waiting.now c.args.arrivals.now) ≡ c.verdict_shaped-shaped.result
 shaped-is c s = sym (c.verdict_shaped-shaped.ensures s)
 
 -- every lent length is right
-fits : (c : Else-not-shaped-message) (s : State) → (verdict_shaped (lent c s) && (eqb (length c.args.message.now) 45 && eqb (length c.args.signature.now) 132)) ≡ true
-fits c s = rw (shaped-is c s) (c.if-not-shaped-message.false)
+fits : (c : Else-not-shaped-message) (s : State) → (verdict_shaped (verdict_lent s c.args.config.now c.args.pubkeys.now c.args.offer.now c.args.chain.now c.args.numbers.now c.args.heldkey.now c.args.waiting.now c.args.arrivals.now) && (eqb (length c.args.message.now) 45 && eqb (length c.args.signature.now) 132)) ≡ true
+fits c s = rw (sym (c.verdict_shaped-shaped.ensures s)) (c.if-not-shaped-message.false)
 
 pub returns-then-not-shaped-message : goal.returns-then-not-shaped-message
 returns-then-not-shaped-message c =
@@ -47,22 +46,22 @@ pub returns : goal.returns
 returns c = c.judge_verdict.ensures
 
 pub shape_of-pubkeys : goal.shape_of-pubkeys
-shape_of-pubkeys c = c.judge_verdict.kept.1.0
+shape_of-pubkeys c = c.judge_verdict.auto.pubkeys
 
 pub shape_of-offer : goal.shape_of-offer
-shape_of-offer c = c.judge_verdict.kept.1.1.0
+shape_of-offer c = c.judge_verdict.auto.offer
 
 pub shape_of-chain : goal.shape_of-chain
-shape_of-chain c = c.judge_verdict.kept.1.1.1.0
+shape_of-chain c = c.judge_verdict.auto.chain
 
 pub shape_of-numbers : goal.shape_of-numbers
-shape_of-numbers c = c.judge_verdict.kept.1.1.1.1.0
+shape_of-numbers c = c.judge_verdict.auto.numbers
 
 pub shape_of-heldkey : goal.shape_of-heldkey
-shape_of-heldkey c = c.judge_verdict.kept.1.1.1.1.1.0
+shape_of-heldkey c = c.judge_verdict.auto.heldkey
 
 pub shape_of-waiting : goal.shape_of-waiting
-shape_of-waiting c = c.judge_verdict.kept.1.1.1.1.1.1.0
+shape_of-waiting c = c.judge_verdict.auto.waiting
 
 pub shape_of-arrivals : goal.shape_of-arrivals
-shape_of-arrivals c = c.judge_verdict.kept.1.1.1.1.1.1.1.0
+shape_of-arrivals c = c.judge_verdict.auto.arrivals

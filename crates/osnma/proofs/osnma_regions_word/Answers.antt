@@ -3,7 +3,6 @@ use mathlib.Core.Path.{◌≡◌, sym}
 use mathlib.Core.Bool.{true, ◌&&◌}
 use lib.Dec.{eqb}
 use lib.ListN.{length}
-use borrow.Author.Tests.{not-true, not-false}
 use Rattle.rules.specs.Calls.{Word}
 use Rattle.rules.specs.Replay.{blank_core}
 use Rattle.rules.specs.State.{State, word_lent, word_shaped}
@@ -20,12 +19,12 @@ word c = record { prn = c.args.prn; time = c.args.time; bytes = c.args.bytes.now
 abbrev lent : Start → State → State
 lent c s = word_lent s c.args.config.now c.args.clocks.now c.args.words.now c.args.stamps.now
 
-shaped-is : (c : After-word_shaped-shaped) (s : State) → word_shaped (lent c s) ≡ c.word_shaped-shaped.result
+shaped-is : (c : After-word_shaped-shaped) (s : State) → word_shaped (word_lent s c.args.config.now c.args.clocks.now c.args.words.now c.args.stamps.now) ≡ c.word_shaped-shaped.result
 shaped-is c s = sym (c.word_shaped-shaped.ensures s)
 
 -- every lent length is right
-fits : (c : Else-not-shaped-bytes) (s : State) → (word_shaped (lent c s) && eqb (length c.args.bytes.now) 16) ≡ true
-fits c s = rw (shaped-is c s) (c.if-not-shaped-bytes.false)
+fits : (c : Else-not-shaped-bytes) (s : State) → (word_shaped (word_lent s c.args.config.now c.args.clocks.now c.args.words.now c.args.stamps.now) && eqb (length c.args.bytes.now) 16) ≡ true
+fits c s = rw (sym (c.word_shaped-shaped.ensures s)) (c.if-not-shaped-bytes.false)
 
 pub returns-then-not-shaped-bytes : goal.returns-then-not-shaped-bytes
 returns-then-not-shaped-bytes c =
@@ -42,10 +41,10 @@ pub returns : goal.returns
 returns c = c.take_word.ensures
 
 pub shape_of-clocks : goal.shape_of-clocks
-shape_of-clocks c = c.take_word.kept.1.0
+shape_of-clocks c = c.take_word.auto.clocks
 
 pub shape_of-words : goal.shape_of-words
-shape_of-words c = c.take_word.kept.1.1.0
+shape_of-words c = c.take_word.auto.words
 
 pub shape_of-stamps : goal.shape_of-stamps
-shape_of-stamps c = c.take_word.kept.1.1.1.0
+shape_of-stamps c = c.take_word.auto.stamps

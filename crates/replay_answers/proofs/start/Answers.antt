@@ -25,10 +25,10 @@ upto : (c : Start) (i : ℕ) → T (leb i record_length) → i ≤ length c.args
 upto c i h = to_record c.args.input.now i c.requires h
 
 -- the number is that of the rule's checks
-number_is : (c : After-start_refusal-code) → c.start_refusal-code.result ≡ first_refusal (start_checks (whole c) (start_of c.args.input.now))
+number_is : (c : After-start_refusal-code) → c.start_refusal-code.result ≡ first_refusal (start_checks (state c.args.config.now c.args.clocks.now c.args.words.now c.args.stamps.now c.args.blocks.now c.args.headers.now c.args.present.now c.args.since.now c.args.pubkeys.now c.args.offer.now c.args.chain.now c.args.numbers.now c.args.heldkey.now c.args.waiting.now c.args.sets.now c.args.arrivals.now) (start_of c.args.input.now))
 unfolding start_of part
 number_is c =
-    c.start_refusal-code.ensures.0 (whole c) _ _ _ (start_lent (whole c) c.args.input.now c.requires ∙ sym c.shaped-fits.ensures)
+    c.start_refusal-code.ensures.0 (state c.args.config.now c.args.clocks.now c.args.words.now c.args.stamps.now c.args.blocks.now c.args.headers.now c.args.present.now c.args.since.now c.args.pubkeys.now c.args.offer.now c.args.chain.now c.args.numbers.now c.args.heldkey.now c.args.waiting.now c.args.sets.now c.args.arrivals.now) _ _ _ (start_lent (state c.args.config.now c.args.clocks.now c.args.words.now c.args.stamps.now c.args.blocks.now c.args.headers.now c.args.present.now c.args.since.now c.args.pubkeys.now c.args.offer.now c.args.chain.now c.args.numbers.now c.args.heldkey.now c.args.waiting.now c.args.sets.now c.args.arrivals.now) c.args.input.now c.requires ∙ sym c.shaped-fits.ensures)
 
 pub start_refusal-code-requires : goal.start_refusal-code-requires
 start_refusal-code-requires c = λ _. part_long c.args.input.now 5 28 c.requires tt

@@ -13,7 +13,7 @@ whole c =
     state c.args.config.now c.args.clocks.now c.args.words.now c.args.stamps.now c.args.blocks.now c.args.headers.now c.args.present.now c.args.since.now c.args.pubkeys.now c.args.offer.now c.args.chain.now c.args.numbers.now c.args.heldkey.now c.args.waiting.now c.args.sets.now c.args.arrivals.now
 
 -- each region has its length
-long : (c : After-take_subframe-arg-17-1) → Sized (whole c)
+long : (c : After-take_subframe-arg-17-1) → Sized (state c.args.config.now c.args.clocks.now c.args.words.now c.args.stamps.now c.args.blocks.now c.args.headers.now c.args.present.now c.args.since.now c.args.pubkeys.now c.args.offer.now c.args.chain.now c.args.numbers.now c.args.heldkey.now c.args.waiting.now c.args.sets.now c.args.arrivals.now)
 long c =
     record {
       config = c.take_subframe-arg-1.given.0.1;
