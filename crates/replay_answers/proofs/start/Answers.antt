@@ -1,4 +1,5 @@
 -- `replay_answers::start` meets its contract: a refusal changes nothing, and an accepted start writes every part of the state.
+use borrow.Author.Rules.{rules}
 use mathlib.Core.Path.{◌≡◌, sym, ◌∙◌}
 use Prim.Native.Nat.{ℕ, ◌<◌, ◌≤◌}
 use lib.Dec.{T, leb, ltb}
@@ -39,17 +40,17 @@ returns-then-code-ne0 c = λ area. start_refused _ area _ _ _ (number_is (goal.a
 pub install_settings-requires : goal.install_settings-requires
 install_settings-requires c =
     record {
-      config_len = ((c.install_settings-arg-1.given.0.1, c.install_settings-arg-2-1.given.0.1), (c.install_settings-arg-3-1.given.0.1, c.install_settings-arg-4-1.given.0.1));
-      blocks_len = ((c.install_settings-arg-5-1.given.0.1, c.install_settings-arg-6-1.given.0.1), (c.install_settings-arg-7-1.given.0.1, c.install_settings-arg-8-1.given.0.1));
+      config_len = ((search rules, search rules), (search rules, search rules));
+      blocks_len = ((search rules, search rules), (search rules, search rules));
       marks_len = (part_long c.args.input.now 5 28 c.requires tt, part_long c.args.input.now 33 32 c.requires tt);
     }
 
 pub install_key-requires : goal.install_key-requires
 install_key-requires c =
     record {
-      pubkeys_len = (c.install_key-arg-1.given.0.1, (c.install_key-arg-2-1.given.0.1, c.install_key-arg-3-1.given.0.1));
-      numbers_len = (c.install_key-arg-4-1.given.0.1, (c.install_key-arg-5-1.given.0.1, c.install_key-arg-6-1.given.0.1));
-      sets_len = (c.install_key-arg-7-1.given.0.1, c.install_key-arg-8-1.given.0.1);
+      pubkeys_len = (search rules, (search rules, search rules));
+      numbers_len = (search rules, (search rules, search rules));
+      sets_len = (search rules, search rules);
       pubkey_len = (part_long c.args.input.now 65 67 c.requires tt, (c.start_refusal-code.ensures.1 c.if-code-ne0.false).1);
     }
 
