@@ -28,7 +28,7 @@ use Rattle.osnma.proofs.osnma_regions_four.Reads as four-reads
 use Rattle.osnma.proofs.osnma_regions_four.Kinds as four-kinds
 use Rattle.osnma.proofs.osnma_regions_progress.Reads as progress-reads
 use Rattle.osnma.proofs.osnma_regions_progress.Kinds as progress-kinds
-use Rattle.assurance.specs.Run.{word_before, word_given, word_after, verdict_before, verdict_given, verdict_after}
+use Rattle.assurance.proofs.Contracts.{word_before, word_given, word_after, verdict_before, verdict_given, verdict_after}
 
 -- ---- start: its number, and all sixteen regions at exit
 

@@ -1,115 +1,61 @@
--- Each exported call's contract is the rule that `step` uses; so a run of exported calls is a run of the rules, by one induction, and the claim of
--- demand 3 holds of it. Assumes nothing.
-use Prim.Native.Nat.{ℕ}
-use mathlib.Core.Path.{◌≡◌, refl, sym, ◌∙◌, ap}
+-- The claim of exported calls, with the clauses of their contracts written out, from the claim of proofs/Exported.antt, of what the checker makes of these
+-- contracts. Assumes nothing.
+use Prim.Native.Nat.{ℕ, zero, suc}
+use mathlib.Core.Path.{◌≡◌, refl}
 use mathlib.Core.List.{List, [], ◌∷◌}
 use contract.Lifetimes.{Lfts}
-use borrow.Fn.Kinds.{ParamKind, ResultKind, Dens, ended_of}
-use denote.Triple.Clauses.{AtExit}
-use Rattle.rules.specs.Calls.{Start, Told, SubframeTold, SetRead, OfferRead, FourRead, ProgressRead, start_call}
+use Rattle.rules.specs.Calls.{Start}
 use Rattle.rules.specs.Claim.{FairHistory}
-use Rattle.rules.specs.Log.{Call, start, Reply, plain, subframe_reply, set_reply, offer_reply, four_reply, progress_reply, Stepped, History, advanced, step, asked, ran, ran_from}
+use Rattle.rules.specs.Log.{Call, start, Reply, plain, History}
 use Rattle.rules.specs.State.{State}
-use Rattle.rules.proofs.MessageProgress.{message_progress}
-use Rattle.rules.proofs.Sound.{claim, four_satellites}
-use Rattle.rules.proofs.Sizes.{tag_sizes}
-use Rattle.rules.proofs.Whole.{lost_fields}
-use Rattle.assurance.specs.Run.{Made, StartDid, WordDid, SubframeDid, VerdictDid, ReadSetDid, ReadOfferDid, FourDid, ProgressDid, Did, started, worded, subframed, judged, set_read, offer_read, four_asked, progress_asked, Done, Run, history_of, ExportedClaim, read_set_before, read_offer_before, four_before, progress_before}
+use Rattle.assurance.specs.Run.{Did, started, worded, subframed, judged, set_read, offer_read, four_asked, progress_asked, Done, Run, history_of, ExportedClaim}
+use Rattle.assurance.proofs.Contracts as Made
+use Rattle.assurance.proofs.Boundary.{start_only, word_only, subframe_only, verdict_only, read_set_only, read_message_only, four_only, progress_only}
+use Rattle.assurance.proofs.Exported as Exported
 
-abbrev Steps : State → Call → Reply → State → Type 0
-Steps s c r s' = step s c ≡ record { reply = r; state = s' }
+-- lifetimes: none is named
+none : (n : ℕ) → Lfts n
+none zero = tt
+none (suc n) = ([], none n)
 
--- ---- one lemma a call
+-- a call by its clause is a call by its contract
+pub made : (s s' : State) (c : Call) (r : Reply) → Did s c r s' → Made.Did s c r s'
+made s s' c r (started d) = Made.started (record { lifetimes = none 19; args = d.args; result = d.result; last = d.last; before_is = d.before_is; call_is = d.call_is; after_is = d.after_is; reply_is = d.reply_is; learnt = start_only (none 19) d.args d.result d.last d.learnt })
+made s s' c r (worded d) = Made.worded (record { lifetimes = none 5; args = d.args; result = d.result; last = d.last; before_is = d.before_is; call_is = d.call_is; after_is = d.after_is; reply_is = d.reply_is; learnt = word_only (none 5) d.args d.result d.last d.learnt })
+made s s' c r (subframed d) = Made.subframed (record { lifetimes = none 20; args = d.args; result = d.result; last = d.last; before_is = d.before_is; call_is = d.call_is; after_is = d.after_is; reply_is = d.reply_is; learnt = subframe_only (none 20) d.args d.result d.last d.learnt })
+made s s' c r (judged d) = Made.judged (record { lifetimes = none 10; args = d.args; result = d.result; last = d.last; before_is = d.before_is; call_is = d.call_is; after_is = d.after_is; reply_is = d.reply_is; learnt = verdict_only (none 10) d.args d.result d.last d.learnt })
+made s s' c r (set_read d) = Made.set_read (record { lifetimes = none 5; args = d.args; result = d.result; last = d.last; before_is = d.before_is; call_is = d.call_is; after_is = d.after_is; reply_is = d.reply_is; learnt = read_set_only (none 5) d.args d.result d.last d.learnt })
+made s s' c r (offer_read d) = Made.offer_read (record { lifetimes = none 7; args = d.args; result = d.result; last = d.last; before_is = d.before_is; call_is = d.call_is; after_is = d.after_is; reply_is = d.reply_is; learnt = read_message_only (none 7) d.args d.result d.last d.learnt })
+made s s' c r (four_asked d) = Made.four_asked (record { lifetimes = none 3; args = d.args; result = d.result; last = d.last; before_is = d.before_is; call_is = d.call_is; after_is = d.after_is; reply_is = d.reply_is; learnt = four_only (none 3) d.args d.result d.last d.learnt })
+made s s' c r (progress_asked d) = Made.progress_asked (record { lifetimes = none 3; args = d.args; result = d.result; last = d.last; before_is = d.before_is; call_is = d.call_is; after_is = d.after_is; reply_is = d.reply_is; learnt = progress_only (none 3) d.args d.result d.last d.learnt })
 
--- a call whose contract is a step of the rules
-made_steps : (n : ℕ) (ps : List (ParamKind n)) (k : ResultKind n)
-    (Learnt : (κs : Lfts n) → Dens κs ps → ℕ → AtExit (ended_of n ps k) κs → Type 0)
-    (before : (κs : Lfts n) → Dens κs ps → State → State)
-    (given : (κs : Lfts n) → Dens κs ps → Call)
-    (after : (κs : Lfts n) → Dens κs ps → AtExit (ended_of n ps k) κs → State → State)
-    (told : (κs : Lfts n) → ℕ → AtExit (ended_of n ps k) κs → Reply)
-    → ((κs : Lfts n) (args : Dens κs ps) (r : ℕ) (last : AtExit (ended_of n ps k) κs) (s : State) → Learnt κs args r last
-    → Steps (before κs args s) (given κs args) (told κs r last) (after κs args last s))
-    → (s s' : State) (c : Call) (r : Reply) → Made n ps k Learnt before given after told s c r s' → Steps s c r s'
-made_steps n ps k Learnt before given after told h s s' c r d =
-    rw (d.before_is, d.call_is, d.after_is, d.reply_is) at (h d.lifetimes d.args d.result d.last s d.learnt)
+-- calls and what came of them
+abbrev listed : List Done → List Made.Done
+listed [] = []
+listed (d ∷ ds) = record { call = d.call; reply = d.reply; left = d.left } ∷ listed ds
 
-start-steps : (s s' : State) (c : Call) (r : Reply) → StartDid s c r s' → Steps s c r s'
-unfolding step
-start-steps = made_steps _ _ _ _ _ _ _ _ (λ κs args r last s d. ap (λ (t : Told). record { reply = plain t.code; state = t.state }) (sym d))
+run_made : (s : State) (ds : List Done) → Run s ds → Made.Run s (listed ds)
+run_made s [] u = tt
+run_made s (d ∷ ds) u = (made s d.left d.call d.reply u.0, run_made d.left ds u.1)
 
-word-steps : (s s' : State) (c : Call) (r : Reply) → WordDid s c r s' → Steps s c r s'
-unfolding step
-word-steps = made_steps _ _ _ _ _ _ _ _ (λ κs args r last s d. ap (λ (t : Told). record { reply = plain t.code; state = t.state }) (sym (d s)))
-
-subframe-steps : (s s' : State) (c : Call) (r : Reply) → SubframeDid s c r s' → Steps s c r s'
-unfolding step
-subframe-steps = made_steps _ _ _ _ _ _ _ _ (λ κs args r last s d. ap (λ (t : SubframeTold). record { reply = subframe_reply t.hkroot t.mack t.count t.area; state = t.state }) (sym d))
-
-verdict_steps : (s s' : State) (c : Call) (r : Reply) → VerdictDid s c r s' → Steps s c r s'
-unfolding step
-verdict_steps = made_steps _ _ _ _ _ _ _ _ (λ κs args r last s d. ap (λ (t : Told). record { reply = plain t.code; state = t.state }) (sym (d s)))
-
-read_set-steps : (s s' : State) (c : Call) (r : Reply) → ReadSetDid s c r s' → Steps s c r s'
-unfolding step asked
-read_set-steps = made_steps _ _ _ _ _ _ _ _ (λ κs args r last s d. ap (λ (t : SetRead). record { reply = set_reply t; state = read_set_before κs args s }) (sym (d s)))
-
-read_message-steps : (s s' : State) (c : Call) (r : Reply) → ReadOfferDid s c r s' → Steps s c r s'
-unfolding step asked
-read_message-steps = made_steps _ _ _ _ _ _ _ _ (λ κs args r last s d. ap (λ (t : OfferRead). record { reply = offer_reply t; state = read_offer_before κs args s }) (sym (d s)))
-
-four_steps : (s s' : State) (c : Call) (r : Reply) → FourDid s c r s' → Steps s c r s'
-unfolding step asked
-four_steps = made_steps _ _ _ _ _ _ _ _ (λ κs args r last s d. ap (λ (t : FourRead). record { reply = four_reply t; state = four_before κs args s }) (sym (d s)))
-
-progress_steps : (s s' : State) (c : Call) (r : Reply) → ProgressDid s c r s' → Steps s c r s'
-unfolding step asked
-progress_steps = made_steps _ _ _ _ _ _ _ _ (λ κs args r last s d. ap (λ (t : ProgressRead). record { reply = progress_reply t; state = progress_before κs args s }) (sym (d s)))
-
-pub steps : (s s' : State) (c : Call) (r : Reply) → Did s c r s' → Steps s c r s'
-steps s s' c r (started d) = start-steps s s' c r d
-steps s s' c r (worded d) = word-steps s s' c r d
-steps s s' c r (subframed d) = subframe-steps s s' c r d
-steps s s' c r (judged d) = verdict_steps s s' c r d
-steps s s' c r (set_read d) = read_set-steps s s' c r d
-steps s s' c r (offer_read d) = read_message-steps s s' c r d
-steps s s' c r (four_asked d) = four_steps s s' c r d
-steps s s' c r (progress_asked d) = progress_steps s s' c r d
-
--- ---- a run of exported calls is a run of the rules
-
-abbrev calls_of : List Done → List Call
-calls_of [] = []
-calls_of (d ∷ ds) = d.call ∷ calls_of ds
-
-pub run_is : (ds : List Done) (s : State) (h : History) → Run s ds → (ran s h (calls_of ds)).history ≡ history_of h ds
-unfolding ran
-run_is [] s h u = refl
-run_is (d ∷ ds) s h u =
-    ap (λ (z : Stepped). (ran z.state (advanced h d.call z.reply.code z.reply z.state) (calls_of ds)).history) (steps s d.left d.call d.reply u.0)
-    ∙ run_is ds d.left (advanced h d.call d.reply.code d.reply d.left) u.1
-
--- ---- the claim
-
--- an accepted start, by the rule
-accepted : (s left : State) (x : Start) → Did s (start x) (plain 0) left → ((start_call s x).code ≡ 0) × ((start_call s x).state ≡ left)
-unfolding step
-accepted s left x d =
-    let e : Steps s (start x) (plain 0) left = steps s left (start x) (plain 0) d in
-    (ap (λ (z : Stepped). z.reply.code) e, ap (λ (z : Stepped). z.state) e)
+same_history : (h : History) (ds : List Done) → Made.history_of h (listed ds) ≡ history_of h ds
+same_history h [] = refl
+same_history h (d ∷ ds) = same_history _ ds
 
 fair : (s began : State) (x : Start) → Did s (start x) (plain 0) began → (ds : List Done) → Run began ds → FairHistory (history_of (record { origin = x; began = began; log = [] }) ds)
-unfolding ran_from
 fair s began x d ds u =
-    let a = accepted s began x d in
-    let f : FairHistory (ran_from s x (calls_of ds)).history = claim.fair s x a.0 (calls_of ds) in
-    rw (a.1, run_is ds began (record { origin = x; began = began; log = [] }) u) at f
-
-begins : (s s' left left' : State) (x : Start) → Did s (start x) (plain 0) left → Did s' (start x) (plain 0) left' → left ≡ left'
-begins s s' left left' x d d' =
-    let a = accepted s left x d in
-    let b = accepted s' left' x d' in
-    sym a.1 ∙ claim.begins s s' x a.0 b.0 ∙ b.1
+    rw same_history at (Exported.exported_claim.fair s began x (made s began (start x) (plain 0) d) (listed ds) (run_made began ds u))
 
 pub exported_claim : ExportedClaim
-exported_claim = record { steps = steps; fair = fair; begins = begins; refused = claim.refused; lost_fields = lost_fields; tag_sizes = tag_sizes; four_satellites = four_satellites; message_progress = message_progress }
+exported_claim =
+    let e = Exported.exported_claim in
+    record {
+      steps = λ s s' c r d. e.steps s s' c r (made s s' c r d);
+      fair = fair;
+      begins = λ s s' left left' x d d'. e.begins s s' left left' x (made s left (start x) (plain 0) d) (made s' left' (start x) (plain 0) d');
+      refused = e.refused;
+      lost_fields = e.lost_fields;
+      tag_sizes = e.tag_sizes;
+      four_satellites = e.four_satellites;
+      message_progress = e.message_progress;
+    }

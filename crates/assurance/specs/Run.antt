@@ -1,13 +1,15 @@
 -- Runs of exported calls: lists of calls of which the contracts of the boundary, and nothing else, say what each gave and left; and what is claimed of
--- them. `Learnt` is what the checker makes of a function's `ensures`: all that a caller learns.
+-- them. `..Learnt` is what the `ensures` of a call of `osnma` says, written out here, since a contract names nothing that the checker makes;
+-- proofs/Boundary.antt has that it is what the checker makes of that `ensures`, all that a caller learns.
 -- For each call, from its parameters at entry and at exit (a parameter after the other, in the function's order; ' at exit): the state with what it was
 -- lent in its places, what else it was given, the state that it left, and its reply.
 use Rattle.std.specs.Prelude.{ℕ, ◌≡◌, List, [], ◌∷◌}
-use contract.Lifetimes.{Lfts}
-use borrow.Fn.Kinds.{ParamKind, ResultKind, Dens, ended_of}
-use denote.Triple.Clauses.{AtExit}
+use Rattle.std.specs.Borrow.{Bor, MutBor}
+use Rattle.regions.specs.Told.{told, subframe_told}
+use Rattle.regions.specs.Told.{subframe as subframe_brought}
 use Rattle.call_reads.specs.Reads.{set_told, offer_told, four_told, progress_told}
-use Rattle.rules.specs.Calls.{Start, Word, Subframe}
+use Rattle.rules.specs.Calls.{Start, Word, Subframe, start_call, word_call, subframe_call, verdict_call}
+use Rattle.rules.specs.Calls as S
 use Rattle.rules.specs.Claim.{FairHistory, Refused}
 use Rattle.rules.specs.FourLaws.{FourSatellites}
 use Rattle.rules.specs.ProgressLaws.{MessageProgress}
@@ -17,175 +19,236 @@ use Rattle.rules.specs.State.{State, state, word_lent, verdict_lent, set_lent, o
 use Rattle.rules.specs.Verdict.{Verdict}
 use Rattle.rules.specs.Sizes.{TagSizes}
 use Rattle.rules.specs.Whole.{LostFields}
-use Rattle.osnma.proofs.osnma_regions_start.Reads as start-reads
-use Rattle.osnma.proofs.osnma_regions_start.Kinds as start-kinds
-use Rattle.osnma.proofs.osnma_regions_word.Reads as word-reads
-use Rattle.osnma.proofs.osnma_regions_word.Kinds as word-kinds
-use Rattle.osnma.proofs.osnma_regions_subframe.Reads as subframe-reads
-use Rattle.osnma.proofs.osnma_regions_subframe.Kinds as subframe-kinds
-use Rattle.osnma.proofs.osnma_regions_verdict.Reads as verdict-reads
-use Rattle.osnma.proofs.osnma_regions_verdict.Kinds as verdict-kinds
-use Rattle.osnma.proofs.osnma_regions_read_set.Reads as read-set-reads
-use Rattle.osnma.proofs.osnma_regions_read_set.Kinds as read-set-kinds
-use Rattle.osnma.proofs.osnma_regions_read_message.Reads as read-message-reads
-use Rattle.osnma.proofs.osnma_regions_read_message.Kinds as read-message-kinds
-use Rattle.osnma.proofs.osnma_regions_four.Reads as four-reads
-use Rattle.osnma.proofs.osnma_regions_four.Kinds as four-kinds
-use Rattle.osnma.proofs.osnma_regions_progress.Reads as progress-reads
-use Rattle.osnma.proofs.osnma_regions_progress.Kinds as progress-kinds
 
 -- ---- a call that was made
 
--- In the state s the call c gave this reply and left the state s': it was lent the regions of s, and its contract held. Of the exported function:
--- lifetimes, kinds of its parameters and result, and what is learnt; then how parameters are read
-pub record Made (n : ℕ) (ps : List (ParamKind n)) (r : ResultKind n)
-    (Learnt : (κs : Lfts n) → Dens κs ps → ℕ → AtExit (ended_of n ps r) κs → Type 0)
-    (before : (κs : Lfts n) → Dens κs ps → State → State)
-    (given : (κs : Lfts n) → Dens κs ps → Call)
-    (after : (κs : Lfts n) → Dens κs ps → AtExit (ended_of n ps r) κs → State → State)
-    (told : (κs : Lfts n) → ℕ → AtExit (ended_of n ps r) κs → Reply)
+-- In the state s the call c gave this reply and left the state s': it was lent the regions of s, and its contract held. Of the call: its parameters at
+-- entry and at exit, and what its contract says; then how parameters are read
+pub record Made (Args : Type 0)
+    (Learnt : Args → ℕ → Args → Type 0)
+    (before : Args → State → State)
+    (given : Args → Call)
+    (after : Args → Args → State → State)
+    (told : ℕ → Args → Reply)
     (s : State) (c : Call) (reply : Reply) (s' : State)
     : Type 0 where
-  pub lifetimes : Lfts n
-  pub args : Dens lifetimes ps
+  pub args : Args
   pub result : ℕ
-  pub last : AtExit (ended_of n ps r) lifetimes
-  pub before_is : before lifetimes args s ≡ s
-  pub call_is : given lifetimes args ≡ c
-  pub after_is : after lifetimes args last s ≡ s'
-  pub reply_is : told lifetimes result last ≡ reply
-  pub learnt : Learnt lifetimes args result last
+  pub last : Args
+  pub before_is : before args s ≡ s
+  pub call_is : given args ≡ c
+  pub after_is : after args last s ≡ s'
+  pub reply_is : told result last ≡ reply
+  pub learnt : Learnt args result last
+
+-- what is lent to be read, or to be written, and a number that is put
+abbrev pub Read : Type 0
+Read = Bor (List ℕ)
+
+abbrev pub Written : Type 0
+Written = MutBor (List ℕ)
+
+abbrev pub Put : Type 0
+Put = MutBor ℕ
 
 -- ---- start: all sixteen regions are written
 
-abbrev pub start_before : (κs : Lfts 19) → Dens κs start-kinds.ps → State → State
-start_before κs (config, (clocks, (words, (stamps, (blocks, (headers, (present, (since, (pubkeys, (offer, (chain, (numbers, (heldkey, (waiting, (sets, (arrivals, _)))))))))))))))) s = state config.now clocks.now words.now stamps.now blocks.now headers.now present.now since.now pubkeys.now offer.now chain.now numbers.now heldkey.now waiting.now sets.now arrivals.now
+-- its parameters, at entry or at exit, and its clause
+abbrev pub StartArgs : Type 0
+StartArgs = Written × (Written × (Written × (Written × (Written × (Written × (Written × (Written × (Written × (Written × (Written × (Written × (Written × (Written × (Written × (Written × (ℕ × (ℕ × (ℕ × (ℕ × (Read × (Read × (Read × Unit {0}))))))))))))))))))))))
 
-abbrev pub start_given : (κs : Lfts 19) → Dens κs start-kinds.ps → Start
-start_given κs (_, (_, (_, (_, (_, (_, (_, (_, (_, (_, (_, (_, (_, (_, (_, (_, (ns, (id, (kind, (maclt, (marks, (root, (pubkey, _))))))))))))))))))))))) = record { ns = ns; id = id; type = kind; maclt = maclt; marks = marks.now; root = root.now; key = pubkey.now }
+abbrev pub StartLearnt : StartArgs → ℕ → StartArgs → Type 0
+StartLearnt (config, (clocks, (words, (stamps, (blocks, (headers, (present, (since, (pubkeys, (offer, (chain, (numbers, (heldkey, (waiting, (sets, (arrivals, (ns, (id, (kind, (maclt, (marks, (root, (pubkey, _))))))))))))))))))))))) r (config', (clocks', (words', (stamps', (blocks', (headers', (present', (since', (pubkeys', (offer', (chain', (numbers', (heldkey', (waiting', (sets', (arrivals', _)))))))))))))))) =
+    told r (state config'.now clocks'.now words'.now stamps'.now blocks'.now headers'.now present'.now since'.now pubkeys'.now offer'.now chain'.now numbers'.now heldkey'.now waiting'.now sets'.now arrivals'.now)
+    ≡ start_call (state config.now clocks.now words.now stamps.now blocks.now headers.now present.now since.now pubkeys.now offer.now chain.now numbers.now heldkey.now waiting.now sets.now arrivals.now) (record { ns = ns; id = id; type = kind; maclt = maclt; marks = marks.now; root = root.now; key = pubkey.now })
 
-abbrev pub start_after : (κs : Lfts 19) → Dens κs start-kinds.ps → AtExit (ended_of 19 start-kinds.ps start-kinds.r) κs → State → State
-start_after κs _ (config', (clocks', (words', (stamps', (blocks', (headers', (present', (since', (pubkeys', (offer', (chain', (numbers', (heldkey', (waiting', (sets', (arrivals', _)))))))))))))))) s = state config'.now clocks'.now words'.now stamps'.now blocks'.now headers'.now present'.now since'.now pubkeys'.now offer'.now chain'.now numbers'.now heldkey'.now waiting'.now sets'.now arrivals'.now
+abbrev pub start_before : StartArgs → State → State
+start_before (config, (clocks, (words, (stamps, (blocks, (headers, (present, (since, (pubkeys, (offer, (chain, (numbers, (heldkey, (waiting, (sets, (arrivals, _)))))))))))))))) s = state config.now clocks.now words.now stamps.now blocks.now headers.now present.now since.now pubkeys.now offer.now chain.now numbers.now heldkey.now waiting.now sets.now arrivals.now
+
+abbrev pub start_given : StartArgs → Start
+start_given (_, (_, (_, (_, (_, (_, (_, (_, (_, (_, (_, (_, (_, (_, (_, (_, (ns, (id, (kind, (maclt, (marks, (root, (pubkey, _))))))))))))))))))))))) = record { ns = ns; id = id; type = kind; maclt = maclt; marks = marks.now; root = root.now; key = pubkey.now }
+
+abbrev pub start_after : StartArgs → StartArgs → State → State
+start_after _ (config', (clocks', (words', (stamps', (blocks', (headers', (present', (since', (pubkeys', (offer', (chain', (numbers', (heldkey', (waiting', (sets', (arrivals', _)))))))))))))))) s = state config'.now clocks'.now words'.now stamps'.now blocks'.now headers'.now present'.now since'.now pubkeys'.now offer'.now chain'.now numbers'.now heldkey'.now waiting'.now sets'.now arrivals'.now
 
 abbrev pub StartDid : State → Call → Reply → State → Type 0
 StartDid =
-    Made 19 start-kinds.ps start-kinds.r start-reads.Learnt start_before (λ κs args. start (start_given κs args))
-    start_after (λ κs r last. plain r)
+    Made StartArgs StartLearnt start_before (λ args. start (start_given args))
+    start_after (λ r last. plain r)
 
 -- ---- word: of its four regions clocks, words and stamps are written
 
-abbrev pub word_before : (κs : Lfts 5) → Dens κs word-kinds.ps → State → State
-word_before κs (config, (clocks, (words, (stamps, _)))) s = word_lent s config.now clocks.now words.now stamps.now
+-- its parameters, at entry or at exit, and its clause
+abbrev pub WordArgs : Type 0
+WordArgs = Read × (Written × (Written × (Written × (ℕ × (ℕ × (Read × Unit {0}))))))
 
-abbrev pub word_given : (κs : Lfts 5) → Dens κs word-kinds.ps → Word
-word_given κs (_, (_, (_, (_, (prn, (time, (bytes, _))))))) = record { prn = prn; time = time; bytes = bytes.now }
+abbrev pub WordLearnt : WordArgs → ℕ → WordArgs → Type 0
+WordLearnt (config, (clocks, (words, (stamps, (prn, (time, (bytes, _))))))) r (_, (clocks', (words', (stamps', _)))) =
+    (s : State) → told r (word_lent s config.now clocks'.now words'.now stamps'.now)
+    ≡ word_call (word_lent s config.now clocks.now words.now stamps.now) (record { prn = prn; time = time; bytes = bytes.now })
 
-abbrev pub word_after : (κs : Lfts 5) → Dens κs word-kinds.ps → AtExit (ended_of 5 word-kinds.ps word-kinds.r) κs → State → State
-word_after κs (config, _) (_, (clocks', (words', (stamps', _)))) s = word_lent s config.now clocks'.now words'.now stamps'.now
+abbrev pub word_before : WordArgs → State → State
+word_before (config, (clocks, (words, (stamps, _)))) s = word_lent s config.now clocks.now words.now stamps.now
+
+abbrev pub word_given : WordArgs → Word
+word_given (_, (_, (_, (_, (prn, (time, (bytes, _))))))) = record { prn = prn; time = time; bytes = bytes.now }
+
+abbrev pub word_after : WordArgs → WordArgs → State → State
+word_after (config, _) (_, (clocks', (words', (stamps', _)))) s = word_lent s config.now clocks'.now words'.now stamps'.now
 
 abbrev pub WordDid : State → Call → Reply → State → Type 0
 WordDid =
-    Made 5 word-kinds.ps word-kinds.r word-reads.Learnt word_before (λ κs args. word (word_given κs args))
-    word_after (λ κs r last. plain r)
+    Made WordArgs WordLearnt word_before (λ args. word (word_given args))
+    word_after (λ r last. plain r)
 
 -- ---- sub-frame: all regions but words, stamps and chain are written, and the record area
 
-abbrev pub subframe_before : (κs : Lfts 20) → Dens κs subframe-kinds.ps → State → State
-subframe_before κs (config, (clocks, (words, (stamps, (blocks, (headers, (present, (since, (pubkeys, (offer, (chain, (numbers, (heldkey, (waiting, (sets, (arrivals, _)))))))))))))))) s = state config.now clocks.now words.now stamps.now blocks.now headers.now present.now since.now pubkeys.now offer.now chain.now numbers.now heldkey.now waiting.now sets.now arrivals.now
+-- its parameters, at entry or at exit, and its clause
+abbrev pub SubframeArgs : Type 0
+SubframeArgs = Written × (Written × (Read × (Read × (Written × (Written × (Written × (Written × (Written × (Written × (Read × (Written × (Written × (Written × (Written × (Written × (Written × (ℕ × (ℕ × (ℕ × (Read × (Put × (Put × Unit {0}))))))))))))))))))))))
 
-abbrev pub subframe_given : (κs : Lfts 20) → Dens κs subframe-kinds.ps → List ℕ × Subframe
-subframe_given κs (_, (_, (_, (_, (_, (_, (_, (_, (_, (_, (_, (_, (_, (_, (_, (_, (area, (prn, (time, (marks, (bytes, _))))))))))))))))))))) = (area.now, record { prn = prn; time = time; marks = marks; bytes = bytes.now })
+abbrev pub SubframeLearnt : SubframeArgs → ℕ → SubframeArgs → Type 0
+SubframeLearnt (config, (clocks, (words, (stamps, (blocks, (headers, (present, (since, (pubkeys, (offer, (chain, (numbers, (heldkey, (waiting, (sets, (arrivals, (area, (prn, (time, (marks, (bytes, _))))))))))))))))))))) r (config', (clocks', (_, (_, (blocks', (headers', (present', (since', (pubkeys', (offer', (_, (numbers', (heldkey', (waiting', (sets', (arrivals', (area', (_, (_, (_, (_, (hkroot', (mack', _))))))))))))))))))))))) =
+    subframe_told hkroot'.now mack'.now r (state config'.now clocks'.now words.now stamps.now blocks'.now headers'.now present'.now since'.now pubkeys'.now offer'.now chain.now numbers'.now heldkey'.now waiting'.now sets'.now arrivals'.now) area'.now
+    ≡ subframe_call (state config.now clocks.now words.now stamps.now blocks.now headers.now present.now since.now pubkeys.now offer.now chain.now numbers.now heldkey.now waiting.now sets.now arrivals.now) area.now (subframe_brought prn time marks bytes.now)
 
-abbrev pub subframe_after : (κs : Lfts 20) → Dens κs subframe-kinds.ps → AtExit (ended_of 20 subframe-kinds.ps subframe-kinds.r) κs → State → State
-subframe_after κs (_, (_, (words, (stamps, (_, (_, (_, (_, (_, (_, (chain, _))))))))))) (config', (clocks', (_, (_, (blocks', (headers', (present', (since', (pubkeys', (offer', (_, (numbers', (heldkey', (waiting', (sets', (arrivals', _)))))))))))))))) s = state config'.now clocks'.now words.now stamps.now blocks'.now headers'.now present'.now since'.now pubkeys'.now offer'.now chain.now numbers'.now heldkey'.now waiting'.now sets'.now arrivals'.now
+abbrev pub subframe_before : SubframeArgs → State → State
+subframe_before (config, (clocks, (words, (stamps, (blocks, (headers, (present, (since, (pubkeys, (offer, (chain, (numbers, (heldkey, (waiting, (sets, (arrivals, _)))))))))))))))) s = state config.now clocks.now words.now stamps.now blocks.now headers.now present.now since.now pubkeys.now offer.now chain.now numbers.now heldkey.now waiting.now sets.now arrivals.now
 
-abbrev pub subframe_tells : (κs : Lfts 20) → ℕ → AtExit (ended_of 20 subframe-kinds.ps subframe-kinds.r) κs → Reply
-subframe_tells κs r (_, (_, (_, (_, (_, (_, (_, (_, (_, (_, (_, (_, (_, (_, (_, (_, (area', (_, (_, (_, (_, (hkroot', (mack', _))))))))))))))))))))))) = subframe_reply hkroot'.now mack'.now r area'.now
+abbrev pub subframe_given : SubframeArgs → List ℕ × Subframe
+subframe_given (_, (_, (_, (_, (_, (_, (_, (_, (_, (_, (_, (_, (_, (_, (_, (_, (area, (prn, (time, (marks, (bytes, _))))))))))))))))))))) = (area.now, record { prn = prn; time = time; marks = marks; bytes = bytes.now })
+
+abbrev pub subframe_after : SubframeArgs → SubframeArgs → State → State
+subframe_after (_, (_, (words, (stamps, (_, (_, (_, (_, (_, (_, (chain, _))))))))))) (config', (clocks', (_, (_, (blocks', (headers', (present', (since', (pubkeys', (offer', (_, (numbers', (heldkey', (waiting', (sets', (arrivals', _)))))))))))))))) s = state config'.now clocks'.now words.now stamps.now blocks'.now headers'.now present'.now since'.now pubkeys'.now offer'.now chain.now numbers'.now heldkey'.now waiting'.now sets'.now arrivals'.now
+
+abbrev pub subframe_tells : ℕ → SubframeArgs → Reply
+subframe_tells r (_, (_, (_, (_, (_, (_, (_, (_, (_, (_, (_, (_, (_, (_, (_, (_, (area', (_, (_, (_, (_, (hkroot', (mack', _))))))))))))))))))))))) = subframe_reply hkroot'.now mack'.now r area'.now
 
 abbrev pub SubframeDid : State → Call → Reply → State → Type 0
 SubframeDid =
-    Made 20 subframe-kinds.ps subframe-kinds.r subframe-reads.Learnt subframe_before (λ κs args. subframe (subframe_given κs args).0 (subframe_given κs args).1)
+    Made SubframeArgs SubframeLearnt subframe_before (λ args. subframe (subframe_given args).0 (subframe_given args).1)
     subframe_after subframe_tells
 
 -- ---- verdict: of its eight regions all but the settings are written
 
-abbrev pub verdict_before : (κs : Lfts 10) → Dens κs verdict-kinds.ps → State → State
-verdict_before κs (config, (pubkeys, (offer, (chain, (numbers, (heldkey, (waiting, (arrivals, _)))))))) s = verdict_lent s config.now pubkeys.now offer.now chain.now numbers.now heldkey.now waiting.now arrivals.now
+-- its parameters, at entry or at exit, and its clause
+abbrev pub VerdictArgs : Type 0
+VerdictArgs = Read × (Written × (Written × (Written × (Written × (Written × (Written × (Written × (ℕ × (ℕ × (Read × (Read × Unit {0})))))))))))
 
-abbrev pub verdict_given : (κs : Lfts 10) → Dens κs verdict-kinds.ps → Verdict
-verdict_given κs (_, (_, (_, (_, (_, (_, (_, (_, (good, (id, (message, (signature, _)))))))))))) = record { good = good; id = id; message = message.now; signature = signature.now }
+abbrev pub VerdictLearnt : VerdictArgs → ℕ → VerdictArgs → Type 0
+VerdictLearnt (config, (pubkeys, (offer, (chain, (numbers, (heldkey, (waiting, (arrivals, (good, (id, (message, (signature, _)))))))))))) r (_, (pubkeys', (offer', (chain', (numbers', (heldkey', (waiting', (arrivals', _)))))))) =
+    (s : State) → told r (verdict_lent s config.now pubkeys'.now offer'.now chain'.now numbers'.now heldkey'.now waiting'.now arrivals'.now)
+    ≡ verdict_call (verdict_lent s config.now pubkeys.now offer.now chain.now numbers.now heldkey.now waiting.now arrivals.now) (record { good = good; id = id; message = message.now; signature = signature.now })
 
-abbrev pub verdict_after : (κs : Lfts 10) → Dens κs verdict-kinds.ps → AtExit (ended_of 10 verdict-kinds.ps verdict-kinds.r) κs → State → State
-verdict_after κs (config, _) (_, (pubkeys', (offer', (chain', (numbers', (heldkey', (waiting', (arrivals', _)))))))) s = verdict_lent s config.now pubkeys'.now offer'.now chain'.now numbers'.now heldkey'.now waiting'.now arrivals'.now
+abbrev pub verdict_before : VerdictArgs → State → State
+verdict_before (config, (pubkeys, (offer, (chain, (numbers, (heldkey, (waiting, (arrivals, _)))))))) s = verdict_lent s config.now pubkeys.now offer.now chain.now numbers.now heldkey.now waiting.now arrivals.now
+
+abbrev pub verdict_given : VerdictArgs → Verdict
+verdict_given (_, (_, (_, (_, (_, (_, (_, (_, (good, (id, (message, (signature, _)))))))))))) = record { good = good; id = id; message = message.now; signature = signature.now }
+
+abbrev pub verdict_after : VerdictArgs → VerdictArgs → State → State
+verdict_after (config, _) (_, (pubkeys', (offer', (chain', (numbers', (heldkey', (waiting', (arrivals', _)))))))) s = verdict_lent s config.now pubkeys'.now offer'.now chain'.now numbers'.now heldkey'.now waiting'.now arrivals'.now
 
 abbrev pub VerdictDid : State → Call → Reply → State → Type 0
 VerdictDid =
-    Made 10 verdict-kinds.ps verdict-kinds.r verdict-reads.Learnt verdict_before (λ κs args. verdict (verdict_given κs args))
-    verdict_after (λ κs r last. plain r)
+    Made VerdictArgs VerdictLearnt verdict_before (λ args. verdict (verdict_given args))
+    verdict_after (λ r last. plain r)
 
 -- ---- the read of an authentic set writes no region
 
-abbrev pub read_set_before : (κs : Lfts 5) → Dens κs read-set-kinds.ps → State → State
-read_set_before κs (sets, (arrivals, _)) s = set_lent s sets.now arrivals.now
+-- its parameters, at entry or at exit, and its clause
+abbrev pub ReadSetArgs : Type 0
+ReadSetArgs = Read × (Read × (ℕ × (Written × (Put × (Put × Unit {0})))))
 
-abbrev pub read_set_given : (κs : Lfts 5) → Dens κs read-set-kinds.ps → Question
-read_set_given κs (_, (_, (prn, (out, _)))) = L.set prn out.now
+abbrev pub ReadSetLearnt : ReadSetArgs → ℕ → ReadSetArgs → Type 0
+ReadSetLearnt (sets, (arrivals, (prn, (out, _)))) r (_, (_, (_, (out', (issue', (time', _)))))) =
+    (s : State) → set_told r out'.now issue'.now time'.now ≡ S.set_read (set_lent s sets.now arrivals.now) prn out.now
 
-abbrev pub read_set_tells : (κs : Lfts 5) → ℕ → AtExit (ended_of 5 read-set-kinds.ps read-set-kinds.r) κs → Reply
-read_set_tells κs r (_, (_, (_, (out', (issue', (time', _)))))) = set_reply (set_told r out'.now issue'.now time'.now)
+abbrev pub read_set_before : ReadSetArgs → State → State
+read_set_before (sets, (arrivals, _)) s = set_lent s sets.now arrivals.now
+
+abbrev pub read_set_given : ReadSetArgs → Question
+read_set_given (_, (_, (prn, (out, _)))) = L.set prn out.now
+
+abbrev pub read_set_tells : ℕ → ReadSetArgs → Reply
+read_set_tells r (_, (_, (_, (out', (issue', (time', _)))))) = set_reply (set_told r out'.now issue'.now time'.now)
 
 abbrev pub ReadSetDid : State → Call → Reply → State → Type 0
 ReadSetDid =
-    Made 5 read-set-kinds.ps read-set-kinds.r read-set-reads.Learnt read_set_before (λ κs args. ask (read_set_given κs args))
-    (λ κs args last. read_set_before κs args) read_set_tells
+    Made ReadSetArgs ReadSetLearnt read_set_before (λ args. ask (read_set_given args))
+    (λ args last. read_set_before args) read_set_tells
 
 -- ---- the read of what waits writes no region
 
-abbrev pub read_offer_before : (κs : Lfts 7) → Dens κs read-message-kinds.ps → State → State
-read_offer_before κs (pubkeys, (offer, _)) s = offer_lent s pubkeys.now offer.now
+-- its parameters, at entry or at exit, and its clause
+abbrev pub ReadOfferArgs : Type 0
+ReadOfferArgs = Read × (Read × (Written × (Written × (Written × (Put × (Put × Unit {0}))))))
 
-abbrev pub read_offer_given : (κs : Lfts 7) → Dens κs read-message-kinds.ps → Question
-read_offer_given κs (_, (_, (message, (signature, (key, _))))) = L.offer message.now signature.now key.now
+abbrev pub ReadOfferLearnt : ReadOfferArgs → ℕ → ReadOfferArgs → Type 0
+ReadOfferLearnt (pubkeys, (offer, (message, (signature, (key, _))))) r (_, (_, (message', (signature', (key', (id', (kind', _))))))) =
+    (s : State) → offer_told r message'.now signature'.now key'.now id'.now kind'.now ≡ S.offer_read (offer_lent s pubkeys.now offer.now) message.now signature.now key.now
 
-abbrev pub read_offer_tells : (κs : Lfts 7) → ℕ → AtExit (ended_of 7 read-message-kinds.ps read-message-kinds.r) κs → Reply
-read_offer_tells κs r (_, (_, (message', (signature', (key', (id', (kind', _))))))) = offer_reply (offer_told r message'.now signature'.now key'.now id'.now kind'.now)
+abbrev pub read_offer_before : ReadOfferArgs → State → State
+read_offer_before (pubkeys, (offer, _)) s = offer_lent s pubkeys.now offer.now
+
+abbrev pub read_offer_given : ReadOfferArgs → Question
+read_offer_given (_, (_, (message, (signature, (key, _))))) = L.offer message.now signature.now key.now
+
+abbrev pub read_offer_tells : ℕ → ReadOfferArgs → Reply
+read_offer_tells r (_, (_, (message', (signature', (key', (id', (kind', _))))))) = offer_reply (offer_told r message'.now signature'.now key'.now id'.now kind'.now)
 
 abbrev pub ReadOfferDid : State → Call → Reply → State → Type 0
 ReadOfferDid =
-    Made 7 read-message-kinds.ps read-message-kinds.r read-message-reads.Learnt read_offer_before (λ κs args. ask (read_offer_given κs args))
-    (λ κs args last. read_offer_before κs args) read_offer_tells
+    Made ReadOfferArgs ReadOfferLearnt read_offer_before (λ args. ask (read_offer_given args))
+    (λ args last. read_offer_before args) read_offer_tells
 
 -- ---- the question for four satellites writes no region
 
-abbrev pub four_before : (κs : Lfts 3) → Dens κs four-kinds.ps → State → State
-four_before κs (clocks, (arrivals, _)) s = four_lent s clocks.now arrivals.now
+-- its parameters, at entry or at exit, and its clause
+abbrev pub FourArgs : Type 0
+FourArgs = Read × (Read × (ℕ × (Put × Unit {0})))
 
-abbrev pub four_given : (κs : Lfts 3) → Dens κs four-kinds.ps → Question
-four_given κs (_, (_, (limit, _))) = L.four limit
+abbrev pub FourLearnt : FourArgs → ℕ → FourArgs → Type 0
+FourLearnt (clocks, (arrivals, (limit, _))) r (_, (_, (_, (yes', _)))) =
+    (s : State) → four_told r yes'.now ≡ S.four_read (four_lent s clocks.now arrivals.now) limit
 
-abbrev pub four_tells : (κs : Lfts 3) → ℕ → AtExit (ended_of 3 four-kinds.ps four-kinds.r) κs → Reply
-four_tells κs r (_, (_, (_, (yes', _)))) = four_reply (four_told r yes'.now)
+abbrev pub four_before : FourArgs → State → State
+four_before (clocks, (arrivals, _)) s = four_lent s clocks.now arrivals.now
+
+abbrev pub four_given : FourArgs → Question
+four_given (_, (_, (limit, _))) = L.four limit
+
+abbrev pub four_tells : ℕ → FourArgs → Reply
+four_tells r (_, (_, (_, (yes', _)))) = four_reply (four_told r yes'.now)
 
 abbrev pub FourDid : State → Call → Reply → State → Type 0
 FourDid =
-    Made 3 four-kinds.ps four-kinds.r four-reads.Learnt four_before (λ κs args. ask (four_given κs args))
-    (λ κs args last. four_before κs args) four_tells
+    Made FourArgs FourLearnt four_before (λ args. ask (four_given args))
+    (λ args last. four_before args) four_tells
 
 -- ---- the question for the progress of messages writes no region
 
-abbrev pub progress_before : (κs : Lfts 3) → Dens κs progress-kinds.ps → State → State
-progress_before κs (blocks, (present, _)) s = progress_lent s blocks.now present.now
+-- its parameters, at entry or at exit, and its clause
+abbrev pub ProgressArgs : Type 0
+ProgressArgs = Read × (Read × (Written × Unit {0}))
 
-abbrev pub progress_given : (κs : Lfts 3) → Dens κs progress-kinds.ps → Question
-progress_given κs (_, (_, (out, _))) = L.progress out.now
+abbrev pub ProgressLearnt : ProgressArgs → ℕ → ProgressArgs → Type 0
+ProgressLearnt (blocks, (present, (out, _))) r (_, (_, (out', _))) =
+    (s : State) → progress_told r out'.now ≡ S.progress_read (progress_lent s blocks.now present.now) out.now
 
-abbrev pub progress_tells : (κs : Lfts 3) → ℕ → AtExit (ended_of 3 progress-kinds.ps progress-kinds.r) κs → Reply
-progress_tells κs r (_, (_, (out', _))) = progress_reply (progress_told r out'.now)
+abbrev pub progress_before : ProgressArgs → State → State
+progress_before (blocks, (present, _)) s = progress_lent s blocks.now present.now
+
+abbrev pub progress_given : ProgressArgs → Question
+progress_given (_, (_, (out, _))) = L.progress out.now
+
+abbrev pub progress_tells : ℕ → ProgressArgs → Reply
+progress_tells r (_, (_, (out', _))) = progress_reply (progress_told r out'.now)
 
 abbrev pub ProgressDid : State → Call → Reply → State → Type 0
 ProgressDid =
-    Made 3 progress-kinds.ps progress-kinds.r progress-reads.Learnt progress_before (λ κs args. ask (progress_given κs args))
-    (λ κs args last. progress_before κs args) progress_tells
+    Made ProgressArgs ProgressLearnt progress_before (λ args. ask (progress_given args))
+    (λ args last. progress_before args) progress_tells
 
 -- ---- a run
 
