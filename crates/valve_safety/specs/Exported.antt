@@ -1,22 +1,12 @@
--- Runs of the gate's exported calls, of which their contracts, and nothing else, say what each gave and left. `Learnt` is what the checker makes of a
--- function's `ensures`: all that a caller learns. For each call, from its parameters at entry (`args`) and at exit (`last`), of which `.0` is the first, `.1 .0`
+-- Runs of the gate's exported calls, of which their contracts, and nothing else, say what each gave and left. `..Learnt` is what the `ensures` of a call of
+-- `valve_gate` says, written out here, since a contract names nothing that the checker makes; proofs/Boundary.antt has that it is what the checker makes of
+-- that `ensures`: all that a caller learns. For each call, from its parameters at entry (`args`) and at exit (`last`), of which `.0` is the first, `.1 .0`
 -- the second and so on: the bytes that it was lent, the event, the bytes that it left, and its answer.
 use Rattle.std.specs.Prelude.{ℕ, ◌≡◌, List, [], ◌∷◌}
-use contract.Lifetimes.{Lfts}
-use borrow.Fn.Kinds.{ParamKind, ResultKind, Dens, ended_of}
-use denote.Triple.Clauses.{AtExit}
+use Rattle.std.specs.Borrow.{MutBor}
 use Rattle.valve_rules.specs.Claim.{Claim, Event, started, answered, subframe, decide, gate}
 use Rattle.valve_rules.specs.Gate.{free_valves, yes}
-use Rattle.valve_gate.proofs.valve_gate_state_begin.Reads as begin-reads
-use Rattle.valve_gate.proofs.valve_gate_state_begin.Kinds as begin-kinds
-use Rattle.valve_gate.proofs.valve_gate_state_started.Reads as started-reads
-use Rattle.valve_gate.proofs.valve_gate_state_started.Kinds as started-kinds
-use Rattle.valve_gate.proofs.valve_gate_state_answered.Reads as answered-reads
-use Rattle.valve_gate.proofs.valve_gate_state_answered.Kinds as answered-kinds
-use Rattle.valve_gate.proofs.valve_gate_state_subframe.Reads as subframe-reads
-use Rattle.valve_gate.proofs.valve_gate_state_subframe.Kinds as subframe-kinds
-use Rattle.valve_gate.proofs.valve_gate_state_decide.Reads as decide-reads
-use Rattle.valve_gate.proofs.valve_gate_state_decide.Kinds as decide-kinds
+use Rattle.valve_rules.specs.Gate as S
 
 -- what a call gives: its number, and the free valves of a decision
 pub record Answer : Type 0 where
@@ -28,45 +18,72 @@ answer n f = record { code = n; free = f }
 
 -- ---- a call that was made
 
--- Lent the bytes g, the call for the event e gave this answer and left g': its contract held. Of the exported function: lifetimes, kinds of its parameters
--- and result, and what is learnt; then how parameters are read
-pub record Made (n : ℕ) (ps : List (ParamKind n)) (r : ResultKind n)
-    (Learnt : (κs : Lfts n) → Dens κs ps → ℕ → AtExit (ended_of n ps r) κs → Type 0)
-    (lent : (κs : Lfts n) → Dens κs ps → List ℕ)
-    (event : (κs : Lfts n) → Dens κs ps → Event)
-    (left : (κs : Lfts n) → AtExit (ended_of n ps r) κs → List ℕ)
-    (told : (κs : Lfts n) → ℕ → AtExit (ended_of n ps r) κs → Answer)
+-- Lent the bytes g, the call for the event e gave this answer and left g': its contract held. Of the call: its parameters at entry and at exit, and what its
+-- contract says; then how parameters are read
+pub record Made (Args : Type 0)
+    (Learnt : Args → ℕ → Args → Type 0)
+    (lent : Args → List ℕ)
+    (event : Args → Event)
+    (left : Args → List ℕ)
+    (told : ℕ → Args → Answer)
     (g : List ℕ) (e : Event) (a : Answer) (g' : List ℕ)
     : Type 0 where
-  pub lifetimes : Lfts n
-  pub args : Dens lifetimes ps
+  pub args : Args
   pub result : ℕ
-  pub last : AtExit (ended_of n ps r) lifetimes
-  pub lent_is : lent lifetimes args ≡ g
-  pub event_is : event lifetimes args ≡ e
-  pub left_is : left lifetimes last ≡ g'
-  pub told_is : told lifetimes result last ≡ a
-  pub learnt : Learnt lifetimes args result last
+  pub last : Args
+  pub lent_is : lent args ≡ g
+  pub event_is : event args ≡ e
+  pub left_is : left last ≡ g'
+  pub told_is : told result last ≡ a
+  pub learnt : Learnt args result last
+
+-- the state of the gate, lent to be written
+abbrev pub Bytes : Type 0
+Bytes = MutBor (List ℕ)
+
+abbrev pub StartedArgs : Type 0
+StartedArgs = Bytes × (ℕ × Unit {0})
+
+abbrev pub StartedLearnt : StartedArgs → ℕ → StartedArgs → Type 0
+StartedLearnt (bytes, (number, _)) r (bytes', _) = S.shown r bytes'.now ≡ S.if_lent bytes.now (S.start_shown bytes.now number)
 
 abbrev pub StartedDid : List ℕ → Event → Answer → List ℕ → Type 0
 StartedDid =
-    Made 1 started-kinds.ps started-kinds.r started-reads.Learnt (λ κs args. args.0.now) (λ κs args. started args.1.0)
-    (λ κs last. last.0.now) (λ κs r last. answer r 0)
+    Made StartedArgs StartedLearnt (λ args. args.0.now) (λ args. started args.1.0)
+    (λ last. last.0.now) (λ r last. answer r 0)
+
+abbrev pub AnsweredArgs : Type 0
+AnsweredArgs = Bytes × (ℕ × Unit {0})
+
+abbrev pub AnsweredLearnt : AnsweredArgs → ℕ → AnsweredArgs → Type 0
+AnsweredLearnt (bytes, (number, _)) r (bytes', _) = S.shown r bytes'.now ≡ S.if_lent bytes.now (S.answer_shown bytes.now number)
 
 abbrev pub AnsweredDid : List ℕ → Event → Answer → List ℕ → Type 0
 AnsweredDid =
-    Made 1 answered-kinds.ps answered-kinds.r answered-reads.Learnt (λ κs args. args.0.now) (λ κs args. answered args.1.0)
-    (λ κs last. last.0.now) (λ κs r last. answer r 0)
+    Made AnsweredArgs AnsweredLearnt (λ args. args.0.now) (λ args. answered args.1.0)
+    (λ last. last.0.now) (λ r last. answer r 0)
+
+abbrev pub SubframeArgs : Type 0
+SubframeArgs = Bytes × (ℕ × (ℕ × Unit {0}))
+
+abbrev pub SubframeLearnt : SubframeArgs → ℕ → SubframeArgs → Type 0
+SubframeLearnt (bytes, (hkroot, (mack, _))) r (bytes', _) = S.shown r bytes'.now ≡ S.if_lent bytes.now (S.subframe_shown bytes.now hkroot mack)
 
 abbrev pub SubframeDid : List ℕ → Event → Answer → List ℕ → Type 0
 SubframeDid =
-    Made 1 subframe-kinds.ps subframe-kinds.r subframe-reads.Learnt (λ κs args. args.0.now) (λ κs args. subframe args.1.0 args.1.1.0)
-    (λ κs last. last.0.now) (λ κs r last. answer r 0)
+    Made SubframeArgs SubframeLearnt (λ args. args.0.now) (λ args. subframe args.1.0 args.1.1.0)
+    (λ last. last.0.now) (λ r last. answer r 0)
+
+abbrev pub DecideArgs : Type 0
+DecideArgs = Bytes × (ℕ × (ℕ × (MutBor ℕ × Unit {0})))
+
+abbrev pub DecideLearnt : DecideArgs → ℕ → DecideArgs → Type 0
+DecideLearnt (bytes, (met20, (met10, _))) r (bytes', (_, (_, (free', _)))) = S.decision r bytes'.now free'.now ≡ S.decide_call bytes.now met20 met10
 
 abbrev pub DecideDid : List ℕ → Event → Answer → List ℕ → Type 0
 DecideDid =
-    Made 2 decide-kinds.ps decide-kinds.r decide-reads.Learnt (λ κs args. args.0.now) (λ κs args. decide (yes args.1.0) (yes args.1.1.0))
-    (λ κs last. last.0.now) (λ κs r last. answer r last.1.1.1.0.now)
+    Made DecideArgs DecideLearnt (λ args. args.0.now) (λ args. decide (yes args.1.0) (yes args.1.1.0))
+    (λ last. last.0.now) (λ r last. answer r last.1.1.1.0.now)
 
 -- ---- a run
 
@@ -76,12 +93,17 @@ pub data Did (g : List ℕ) (e : Event) (a : Answer) (g' : List ℕ) : Type 0 wh
   subframe_shown : SubframeDid g e a g' → Did g e a g'
   decided : DecideDid g e a g' → Did g e a g'
 
+abbrev pub BeginArgs : Type 0
+BeginArgs = Bytes × Unit {0}
+
+abbrev pub BeginLearnt : BeginArgs → ℕ → BeginArgs → Type 0
+BeginLearnt (bytes, _) r (bytes', _) = S.shown r bytes'.now ≡ S.if_lent bytes.now S.begun
+
 -- a begin answered 0 left these bytes, whatever it was lent
 pub record Began (g : List ℕ) : Type 0 where
-  pub lifetimes : Lfts 1
-  pub args : Dens lifetimes begin-kinds.ps
-  pub last : AtExit (ended_of 1 begin-kinds.ps begin-kinds.r) lifetimes
-  pub learnt : begin-reads.Learnt lifetimes args 0 last
+  pub args : BeginArgs
+  pub last : BeginArgs
+  pub learnt : BeginLearnt args 0 last
   pub left_is : last.0.now ≡ g
 
 -- the bytes that events, newest first, leave; "Nobody else writes them"

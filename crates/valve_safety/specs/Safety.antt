@@ -1,9 +1,7 @@
 -- Core and gate in one run: every call goes to the core, the gate is shown its numbers, and a decision asks the core's two questions. Nothing else passes
 -- between them. Of both libraries the contracts of their exported functions are known, and nothing else.
 use Rattle.std.specs.Prelude.{ℕ, ◌/◌, ◌%◌, ◌^◌, ◌≤◌, ◌<◌, ◌≡◌, Bool, true, false, not, ◌&&◌, List, [], ◌∷◌}
-use contract.Lifetimes.{Lfts}
-use borrow.Fn.Kinds.{Dens, ended_of}
-use denote.Triple.Clauses.{AtExit}
+use Rattle.std.specs.Borrow.{Bor, MutBor}
 use Rattle.assurance.specs.Run as C
 use Rattle.rules.specs.Calls.{Start, four_read}
 use Rattle.rules.specs.Claim.{FourBacked}
@@ -12,10 +10,10 @@ use Rattle.rules.specs.Log.{Call, start, word, subframe, verdict, ask, four, Rep
 use Rattle.rules.specs.State.{State, stopped, four_lent}
 use Rattle.valve_rules.specs.Claim.{Event, decide, gate, mets_of}
 use Rattle.valve_rules.specs.Claim as G
+use Rattle.valve_gate.specs.Asked.{decide_asked}
 use Rattle.valve_rules.specs.Gate.{limit_of, stop_seen, free_valves, yes}
+use Rattle.valve_rules.specs.Gate as S
 use Rattle.valve_safety.specs.Exported.{Answer, answer, Did, DecideDid, Began}
-use Rattle.valve_gate.proofs.valve_gate_core_decide.Reads as ask-reads
-use Rattle.valve_gate.proofs.valve_gate_core_decide.Kinds as ask-kinds
 
 pub record Boom : Type 0 where
   -- what the core's regions hold, and its calls since its last accepted start
@@ -45,18 +43,26 @@ Shown (ask q) r g g' = g' ≡ g
 abbrev pub says_yes : State → ℕ → Bool
 says_yes s limit = yes (four_read s limit).yes
 
+-- parameters of a decision that asks the core, at entry or at exit, and its clause
+abbrev pub AskArgs : Type 0
+AskArgs = MutBor (List ℕ) × (Bor (List ℕ) × (Bor (List ℕ) × (MutBor ℕ × Unit {0})))
+
+abbrev pub AskLearnt : AskArgs → ℕ → AskArgs → Type 0
+AskLearnt (bytes, (clocks, (arrivals, _))) r (bytes', (_, (_, (free', _)))) =
+    (s : State) → S.decision r bytes'.now free'.now
+    ≡ decide_asked bytes.now (four_read (four_lent s clocks.now arrivals.now) 20) (four_read (four_lent s clocks.now arrivals.now) 10)
+
 -- a decision that asked the core in the state s: lent the bytes g, it gave this answer and left g'
 pub record Asked (s : State) (g : List ℕ) (a : Answer) (g' : List ℕ) : Type 0 where
-  pub lifetimes : Lfts 4
-  pub args : Dens lifetimes ask-kinds.ps
+  pub args : AskArgs
   pub result : ℕ
-  pub last : AtExit (ended_of 4 ask-kinds.ps ask-kinds.r) lifetimes
+  pub last : AskArgs
   -- it was lent the gate's bytes, and the core's clocks and arrivals
   pub gate_is : args.0.now ≡ g
   pub core_is : four_lent s args.1.0.now args.1.1.0.now ≡ s
   pub left_is : last.0.now ≡ g'
   pub told_is : answer result last.1.1.1.0.now ≡ a
-  pub learnt : ask-reads.Learnt lifetimes args result last
+  pub learnt : AskLearnt args result last
 
 -- ---- a decision
 
