@@ -6,7 +6,7 @@ use contract.Lifetimes.{Lfts}
 use Rattle.valve_rules.specs.Claim.{Event}
 use Rattle.valve_safety.specs.Exported.{Answer, DecideDid, Did, start_shown, answer_shown, subframe_shown, decided, Began, Run, begins, goes_on, ExportedGate}
 use Rattle.valve_safety.proofs.GateContracts as Made
-use Rattle.valve_safety.proofs.Boundary.{begin_only, started_only, answered_only, subframe_only, decide_only}
+use Rattle.valve_safety.proofs.Boundary.{begin_is, begin_only, started_is, started_only, answered_is, answered_only, subframe_is, subframe_only, decide_is, decide_only}
 use Rattle.valve_safety.proofs.GateFromContracts as GateFromContracts
 
 -- lifetimes: none is named
@@ -26,6 +26,19 @@ made g e a g' (decided d) = Made.decided (decide_made g e a g' d)
 
 pub began_made : (g : List ℕ) → Began g → Made.Began g
 began_made g d = record { lifetimes = none 1; args = d.args; last = d.last; learnt = begin_only (none 1) d.args 0 d.last d.learnt; left_is = d.left_is }
+
+-- and a call by its contract is one by its clause: no call that the contracts allow is left out
+pub decide_plain : (g : List ℕ) (e : Event) (a : Answer) (g' : List ℕ) → Made.DecideDid g e a g' → DecideDid g e a g'
+decide_plain g e a g' d = record { args = d.args; result = d.result; last = d.last; lent_is = d.lent_is; event_is = d.event_is; left_is = d.left_is; told_is = d.told_is; learnt = decide_is d.lifetimes d.args d.result d.last d.learnt }
+
+pub plain : (g : List ℕ) (e : Event) (a : Answer) (g' : List ℕ) → Made.Did g e a g' → Did g e a g'
+plain g e a g' (Made.start_shown d) = start_shown (record { args = d.args; result = d.result; last = d.last; lent_is = d.lent_is; event_is = d.event_is; left_is = d.left_is; told_is = d.told_is; learnt = started_is d.lifetimes d.args d.result d.last d.learnt })
+plain g e a g' (Made.answer_shown d) = answer_shown (record { args = d.args; result = d.result; last = d.last; lent_is = d.lent_is; event_is = d.event_is; left_is = d.left_is; told_is = d.told_is; learnt = answered_is d.lifetimes d.args d.result d.last d.learnt })
+plain g e a g' (Made.subframe_shown d) = subframe_shown (record { args = d.args; result = d.result; last = d.last; lent_is = d.lent_is; event_is = d.event_is; left_is = d.left_is; told_is = d.told_is; learnt = subframe_is d.lifetimes d.args d.result d.last d.learnt })
+plain g e a g' (Made.decided d) = decided (decide_plain g e a g' d)
+
+pub began_plain : (g : List ℕ) → Made.Began g → Began g
+began_plain g d = record { args = d.args; last = d.last; learnt = begin_is d.lifetimes d.args 0 d.last d.learnt; left_is = d.left_is }
 
 run_made : (es : List Event) (g : List ℕ) → Run es g → Made.Run es g
 run_made es g (begins d) = Made.begins (began_made g d)

@@ -10,7 +10,7 @@ use Rattle.valve_rules.specs.Claim as G
 use Rattle.valve_rules.specs.Gate.{yes}
 use Rattle.valve_safety.specs.Exported.{Answer}
 use Rattle.valve_safety.specs.Safety.{Boom, Shown, Asked, Says, answered, no, Decides, asking, told, Run, begins, called, decides, Safe}
-use Rattle.valve_safety.proofs.Boundary.{ask_only}
+use Rattle.valve_safety.proofs.Boundary.{ask_is, ask_only}
 use Rattle.valve_safety.proofs.Contracts as Made
 use Rattle.valve_safety.proofs.Exported.{none, made, decide_made, began_made}
 use Rattle.valve_safety.proofs.FromContracts as FromContracts
@@ -18,6 +18,10 @@ use Rattle.valve_safety.proofs.FromContracts as FromContracts
 -- a decision that asked, by its clause, is one by its contract
 asked_made : (s : State) (g : List ℕ) (a : Answer) (g' : List ℕ) → Asked s g a g' → Made.Asked s g a g'
 asked_made s g a g' d = record { lifetimes = none 4; args = d.args; result = d.result; last = d.last; gate_is = d.gate_is; core_is = d.core_is; left_is = d.left_is; told_is = d.told_is; learnt = ask_only (none 4) d.args d.result d.last d.learnt }
+
+-- and one by its contract is one by its clause
+pub asked_plain : (s : State) (g : List ℕ) (a : Answer) (g' : List ℕ) → Made.Asked s g a g' → Asked s g a g'
+asked_plain s g a g' d = record { args = d.args; result = d.result; last = d.last; gate_is = d.gate_is; core_is = d.core_is; left_is = d.left_is; told_is = d.told_is; learnt = ask_is d.lifetimes d.args d.result d.last d.learnt }
 
 shown-made : (c : Call) (r : Reply) (g g' : List ℕ) → Shown c r g g' → Made.Shown c r g g'
 shown-made (start x) r g g' d = (d.0, made g (G.started r.code) d.0 g' d.1)
