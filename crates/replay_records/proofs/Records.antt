@@ -1,6 +1,6 @@
 -- A record brings at most 270 tag records (A73), and they fit the area: 256 waiting tags and the 14 fields of a section, each with one record of 12
 -- bytes at most. Assumes nothing.
-use mathlib.Core.Path.{◌≡◌, refl, sym, subst, ◌∙◌}
+use mathlib.Core.Path.{◌≡◌, refl, sym, subst}
 use mathlib.Core.Bool.{Bool, true, false, cond, not, ◌||◌}
 use mathlib.Core.Logic.{⊎_elim}
 use mathlib.Core.List.{List, []}
@@ -28,7 +28,6 @@ use Rattle.rules.specs.State.{State, shaped, ns_of, waiting_count, area_length}
 use Rattle.rules.specs.Navdata.{set_of}
 use Rattle.rules.specs.Tags.{Section, Work, told, kept, tag_entry, entry_at, entry_tag, entry_set, is_due, tag_matches, due_judged, dues_judged, own_tag, own_outcome, own_judged}
 use Rattle.rules.specs.declared.Chain.{Chain}
-use Rattle.rules.specs.declared.Tag.{Tag}
 use Rattle.replay_answers.specs.Answers.{gave}
 use Rattle.replay_records.specs.Written.{room}
 

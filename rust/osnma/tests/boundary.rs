@@ -55,7 +55,7 @@ fn exports_of(wanted: impl Fn(&str) -> bool) -> Declarations {
 }
 
 const BOUNDARY: &str = "crates/assurance/proofs/Boundary.antt";
-const RUN: &str = "crates/assurance/specs/Run.antt";
+const RUN: &str = "crates/assurance/proofs/Contracts.antt";
 
 /// The calls of crates/osnma that crates/assurance holds to the rules and has in its runs.
 fn covered() -> BTreeSet<String> {

@@ -1,5 +1,5 @@
 -- `replay_records::replay_piece` meets its contract: after k turns what stands in the slice, and what is kept, is that of the first k records.
-use Prim.Native.Nat.{◌+◌, ◌-◌, ◌≤◌}
+use Prim.Native.Nat.{◌+◌, ◌≤◌}
 use lib.ListN.{length}
 use native.Mathlib.Omega.{arith}
 use borrow.Author.Rules.{rules}
@@ -12,7 +12,7 @@ pub loop-k-init : goal.loop-k-init
 loop-k-init c = none_read _ _ _
 
 pub overflow_mul-k : goal.overflow_mul-k
-overflow_mul-k c = omega (arith, in_piece _ _ c.loop-k.invariant.few, c.well-formed.1.1.1.1.1.1.1.1.1.1.1.1.1.1.1.1.1.1.1.0.1)
+overflow_mul-k c = omega (arith, in_piece _ _ c.loop-k.invariant.few, c.well_formed)
 
 pub overflow_mul-at : goal.overflow_mul-at
 overflow_mul-at c = search rules
@@ -46,10 +46,10 @@ replay_record-filled-requires c =
 pub overflow_add-filled : goal.overflow_add-filled
 overflow_add-filled c =
     let h = left (goal.at.overflow_add-filled c).In-loop-k in
-    omega (arith, c.replay_record-filled.ensures.1, c.well-formed.1.1.1.1.1.1.1.1.1.1.1.1.1.1.1.1.1.1.1.1.0.1, c.loop-k.invariant.long)
+    omega (arith, c.replay_record-filled.ensures.upper_bound, c.well_formed, c.loop-k.invariant.long)
 
 pub overflow_add-k : goal.overflow_add-k
-overflow_add-k c = omega (arith, c.loop-k-test.true, c.well-formed.1.1.1.1.1.1.1.1.1.1.1.1.1.1.1.1.1.1.1.0.1)
+overflow_add-k c = omega (arith, c.loop-k-test.true, c.well_formed)
 
 pub loop-k-smaller : goal.loop-k-smaller
 loop-k-smaller c =
@@ -59,10 +59,12 @@ pub loop-k-preserved : goal.loop-k-preserved
 loop-k-preserved c =
     let f = c.replay_record-filled in
     read_on _ _ _ _ _ _ _ c.loop-k.invariant _ _ _ _ c.loop-k-test.true c.requires.room_in_bounds
-    c.record_end-end.ensures f.ensures.0 f.ensures.1 c.replay_record-filled.auto.out
+    c.record_end-end.ensures f.ensures.place_after f.ensures.upper_bound c.replay_record-filled.auto.out
 
 pub shape_of-out : goal.shape_of-out
 shape_of-out c = c.loop-k.invariant.long
 
 pub returns : goal.returns
-returns c = read_all _ _ _ _ _ _ _ c.loop-k.invariant c.loop-k-test.false c.requires.room_in_bounds
+returns c =
+    let r = read_all _ _ _ _ _ _ _ c.loop-k.invariant c.loop-k-test.false c.requires.room_in_bounds in
+    record { place_after = r.0; upper_bound = r.1 }

@@ -1,4 +1,5 @@
-//! The calls of crates/osnma that crates/assurance holds to the rules (proofs/Boundary.antt) and has in its runs (specs/Run.antt).
+//! The calls of crates/osnma that crates/assurance holds to the rules (proofs/Boundary.antt) and has in its runs (proofs/Contracts.antt, from which the
+//! claim of specs/Run.antt follows).
 
 use std::collections::{BTreeMap, BTreeSet};
 
