@@ -10,7 +10,7 @@ use Rattle.rules.specs.Log.{Call, start, Reply, plain, History}
 use Rattle.rules.specs.State.{State}
 use Rattle.assurance.specs.Run.{Did, started, worded, subframed, judged, set_read, offer_read, four_asked, progress_asked, Done, Run, history_of, ExportedClaim}
 use Rattle.assurance.proofs.Contracts as Made
-use Rattle.assurance.proofs.Boundary.{start_only, word_only, subframe_only, verdict_only, read_set_only, read_message_only, four_only, progress_only}
+use Rattle.assurance.proofs.Boundary.{start_is, start_only, word_is, word_only, subframe_is, subframe_only, verdict_is, verdict_only, read_set_is, read_set_only, read_message_is, read_message_only, four_is, four_only, progress_is, progress_only}
 use Rattle.assurance.proofs.Exported as Exported
 
 -- lifetimes: none is named
@@ -28,6 +28,17 @@ made s s' c r (set_read d) = Made.set_read (record { lifetimes = none 5; args = 
 made s s' c r (offer_read d) = Made.offer_read (record { lifetimes = none 7; args = d.args; result = d.result; last = d.last; before_is = d.before_is; call_is = d.call_is; after_is = d.after_is; reply_is = d.reply_is; learnt = read_message_only (none 7) d.args d.result d.last d.learnt })
 made s s' c r (four_asked d) = Made.four_asked (record { lifetimes = none 3; args = d.args; result = d.result; last = d.last; before_is = d.before_is; call_is = d.call_is; after_is = d.after_is; reply_is = d.reply_is; learnt = four_only (none 3) d.args d.result d.last d.learnt })
 made s s' c r (progress_asked d) = Made.progress_asked (record { lifetimes = none 3; args = d.args; result = d.result; last = d.last; before_is = d.before_is; call_is = d.call_is; after_is = d.after_is; reply_is = d.reply_is; learnt = progress_only (none 3) d.args d.result d.last d.learnt })
+
+-- and a call by its contract is one by its clause: no call that the contracts allow is left out
+pub by_clause : (s s' : State) (c : Call) (r : Reply) → Made.Did s c r s' → Did s c r s'
+by_clause s s' c r (Made.started d) = started (record { args = d.args; result = d.result; last = d.last; before_is = d.before_is; call_is = d.call_is; after_is = d.after_is; reply_is = d.reply_is; learnt = start_is d.lifetimes d.args d.result d.last d.learnt })
+by_clause s s' c r (Made.worded d) = worded (record { args = d.args; result = d.result; last = d.last; before_is = d.before_is; call_is = d.call_is; after_is = d.after_is; reply_is = d.reply_is; learnt = word_is d.lifetimes d.args d.result d.last d.learnt })
+by_clause s s' c r (Made.subframed d) = subframed (record { args = d.args; result = d.result; last = d.last; before_is = d.before_is; call_is = d.call_is; after_is = d.after_is; reply_is = d.reply_is; learnt = subframe_is d.lifetimes d.args d.result d.last d.learnt })
+by_clause s s' c r (Made.judged d) = judged (record { args = d.args; result = d.result; last = d.last; before_is = d.before_is; call_is = d.call_is; after_is = d.after_is; reply_is = d.reply_is; learnt = verdict_is d.lifetimes d.args d.result d.last d.learnt })
+by_clause s s' c r (Made.set_read d) = set_read (record { args = d.args; result = d.result; last = d.last; before_is = d.before_is; call_is = d.call_is; after_is = d.after_is; reply_is = d.reply_is; learnt = read_set_is d.lifetimes d.args d.result d.last d.learnt })
+by_clause s s' c r (Made.offer_read d) = offer_read (record { args = d.args; result = d.result; last = d.last; before_is = d.before_is; call_is = d.call_is; after_is = d.after_is; reply_is = d.reply_is; learnt = read_message_is d.lifetimes d.args d.result d.last d.learnt })
+by_clause s s' c r (Made.four_asked d) = four_asked (record { args = d.args; result = d.result; last = d.last; before_is = d.before_is; call_is = d.call_is; after_is = d.after_is; reply_is = d.reply_is; learnt = four_is d.lifetimes d.args d.result d.last d.learnt })
+by_clause s s' c r (Made.progress_asked d) = progress_asked (record { args = d.args; result = d.result; last = d.last; before_is = d.before_is; call_is = d.call_is; after_is = d.after_is; reply_is = d.reply_is; learnt = progress_is d.lifetimes d.args d.result d.last d.learnt })
 
 -- calls and what came of them
 abbrev listed : List Done → List Made.Done
