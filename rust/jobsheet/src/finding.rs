@@ -1,16 +1,15 @@
 //! What a run comes to, in a few plain sentences: read first, and without the papers.
 
+use crate::boom::{minutes, LIMITS, NEEDED};
 use crate::data::{Data, Unproved};
 use crate::gathering::{refused_told, Gathered, Then};
 use crate::history::{Event, Mark, Run, What, WrongTags};
 use crate::refused::Part;
-use crate::shut;
 use crate::time::{self, Clock, SUBFRAME};
 use crate::vouched::Keys;
 use crate::words::{capital, count, issues, satellites, which};
 use osnma::{Gst, Refusal, AUTHENTIC_BITS};
 use std::collections::{BTreeMap, BTreeSet};
-use valve_gate::OUTER_LIMIT;
 
 /// Seconds after which a satellite that is not heard is called silent.
 const LONG: u64 = 120;
@@ -82,7 +81,6 @@ fn stopped(run: &Run, clock: Clock) -> Option<Finding> {
         }
     )];
     text.extend(wrong_title(run, clock));
-    text.push(shut::told(&run.boom, clock));
     Some(Finding::bad(
         format!(
             "STOPPED at {} by the system's emergency message.",
@@ -144,7 +142,7 @@ fn wrong(run: &Run, clock: Clock) -> Option<Finding> {
     }
     text.extend(withdrawn(run, clock).map(|finding| finding.title));
     text.extend(out_of_date(run, clock).map(|finding| finding.title));
-    text.push(shut::told(&run.boom, clock));
+    text.push(boom(run, clock));
     Some(Finding::bad(title, text, where_from(run)))
 }
 
@@ -233,7 +231,6 @@ fn no_keys(run: &Run, clock: Clock) -> Option<Finding> {
             clock.say(since)
         ));
     }
-    text.push(shut::told(&run.boom, clock));
     Some(Finding::bad(
         format!("NOTHING WAS JUDGED: {title}"),
         text,
@@ -292,7 +289,7 @@ fn withdrawn(run: &Run, clock: Clock) -> Option<Finding> {
                 "THE SYSTEM WITHDREW ITS KEYS{}, and no new ones came.",
                 since(event)
             ),
-            "do not rely on older marks. Leave the receiver on until new keys are in force.",
+            "do not rely on older marks. Leave the receiver on until new keys are in force.".into(),
         ),
         Some(new) => (
             format!(
@@ -300,11 +297,13 @@ fn withdrawn(run: &Run, clock: Clock) -> Option<Finding> {
                 since(event),
                 since(new)
             ),
-            // Light on the page, F in the text; a narrow stretch of the page has no word.
-            "before you spray, see that both rows of the boom below end in free (light, or F).",
+            // Light on the page, y in the text; a narrow stretch of the page has no word.
+            format!(
+                "before you spray, see that the first row below ends in yes (light, or y): {NEEDED} satellites or more."
+            ),
         ),
     };
-    text.push(shut::told(&run.boom, clock));
+    text.push(boom(run, clock));
     Some(Finding::bad(title, text, to_do))
 }
 
@@ -334,7 +333,7 @@ fn out_of_date(run: &Run, clock: Clock) -> Option<Finding> {
             count(run.heard.len() as u64, "satellite"),
             satellites(&prns)
         ),
-        vec![text, shut::told(&run.boom, clock)],
+        vec![text, boom(run, clock)],
         "look at the antenna and its view of the sky.",
     ))
 }
@@ -415,9 +414,9 @@ fn spans(
     (!by_span.is_empty()).then(|| format!("{some}{others}"))
 }
 
-/// Whether data came for longer than a mark may be old for the outer valves and was not marked.
+/// Whether data came for longer than a mark may be old and was not marked.
 fn is_long(unproved: &Unproved) -> bool {
-    unproved.longest > u64::from(OUTER_LIMIT) * SUBFRAME
+    unproved.longest > u64::from(LIMITS[0]) * SUBFRAME
 }
 
 fn not_proved(run: &Run, clock: Clock) -> Option<Finding> {
@@ -462,7 +461,7 @@ fn not_proved(run: &Run, clock: Clock) -> Option<Finding> {
     }
     let of = |prn, unproved: &Unproved| is_long(unproved) && !unmarked.contains(&prn);
     text.extend(unproved(run, of, clock));
-    text.push(shut::told(&run.boom, clock));
+    text.push(boom(run, clock));
     (!prns.is_empty()).then(|| Finding::bad(title, text, to_do))
 }
 
@@ -477,16 +476,16 @@ fn authentic(run: &Run, clock: Clock) -> Finding {
         false => "All data that was judged was authentic.",
     };
     text.push(marked_told(run));
-    text.push(shut::told(&run.boom, clock));
-    match shut::title(&run.boom) {
+    text.push(boom(run, clock));
+    match too_few(run, clock) {
         None => Finding {
             good: true,
             title: title.into(),
             text,
             to_do: "nothing. Clip this sheet to the job.".into(),
         },
-        Some(shut) => Finding::bad(
-            format!("{title} {shut}"),
+        Some(few) => Finding::bad(
+            format!("{title} {few}"),
             text,
             "look at the antenna and its view of the sky.",
         ),
@@ -513,9 +512,46 @@ fn marked_told(run: &Run) -> String {
     marked + &others
 }
 
+/// Where the boom had too few satellites.
+fn too_few(run: &Run, clock: Clock) -> Option<String> {
+    let when = match run.watch[0].kept() {
+        None => ", all the time".into(),
+        Some(kept) => {
+            let (_, first, last) = kept.short?;
+            format!(" {}", clock.span(first, last))
+        }
+    };
+    Some(format!("TOO FEW SATELLITES for the boom{when}."))
+}
+
+/// What the boom goes by: that there were four, or not, is the core's answer.
+fn boom(run: &Run, clock: Clock) -> String {
+    let marks = format!("a mark of the last {} minutes", minutes(LIMITS[0]));
+    let Some(kept) = run.watch[0].kept() else {
+        return format!(
+            "At no time did {NEEDED} satellites have {marks}; the boom needs {NEEDED}."
+        );
+    };
+    match kept.short {
+        None => format!(
+            "From {} on never fewer than {} satellites had {marks}; the boom needs {NEEDED}.",
+            clock.say(kept.since),
+            kept.fewest
+        ),
+        Some((n, first, last)) => format!(
+            "The boom needs {NEEDED} satellites with {marks}: it had them from {} on, but in {} {} \
+             fewer, {} at the least.",
+            clock.say(kept.since),
+            count(n, "half minute"),
+            clock.span(first, last),
+            kept.fewest
+        ),
+    }
+}
+
 /// Satellites whose data was heard, but nothing in the last two minutes, each with its last half minute.
 pub fn silent(run: &Run) -> Vec<(u8, Gst)> {
-    let Some(&end) = run.heard.values().max() else {
+    let Some((_, end)) = run.timeline.span() else {
         return Vec::new();
     };
     let is = |(_, last): &(&u8, &Gst)| time::seconds(**last) + LONG <= time::seconds(end);

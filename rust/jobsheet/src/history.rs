@@ -8,14 +8,13 @@
 //! However long a recording is, what is kept of it is bounded: a timeline of so many columns, sums,
 //! and so many of what has a line of its own. Where lines are left out their number is kept.
 
-use crate::boom::{self, Account, ByGroup, Decided, Lately};
+use crate::boom::{self, Watch};
 use crate::candidate::{Candidate, Candidates};
 use crate::data::Data;
 use crate::gathering::{Came, Gathering, Then, Wanting};
 use crate::receiver::Answer;
 use crate::recording::{Cut, Record};
 use crate::refused::{Part, Refusals};
-use crate::time::{self, SUBFRAME};
 use crate::timeline::{Said, Timeline, COLUMNS};
 use crate::vouched::{Change, Keys, Root, Vouch, Vouched};
 use osnma::{
@@ -38,15 +37,14 @@ pub const EVENTS: usize = 128;
 /// Changes of data under waiting tags that are kept: the first ones of a run.
 pub const CHANGES: usize = 256;
 
-/// Gaps between half minutes that are kept: the first ones of a run.
-pub const GAPS: usize = 64;
-
 /// What is asked of the core after a record.
 pub trait Reads {
     /// A satellite's authentic set.
     fn set(&self, prn: u8) -> Option<AuthenticSet>;
     /// The message that waits for the signature chip.
     fn message(&self) -> Option<WaitingMessage>;
+    /// Whether four satellites have a set that is at most `limit` sub-frames old.
+    fn four(&self, limit: u32) -> bool;
     /// How far along the message of each DSM ID is.
     fn progress(&self) -> Vec<Progress>;
 }
@@ -58,6 +56,10 @@ impl Reads for Core {
 
     fn message(&self) -> Option<WaitingMessage> {
         self.read_message().ok()
+    }
+
+    fn four(&self, limit: u32) -> bool {
+        Core::four(self, limit)
     }
 
     fn progress(&self) -> Vec<Progress> {
@@ -269,35 +271,6 @@ struct Waiting {
     changes: Vec<usize>,
 }
 
-/// Half minutes in which nothing came, between others.
-#[derive(Clone, Debug, Default)]
-pub struct Gaps {
-    /// What was decided in each gap, in order; the first [`GAPS`].
-    pub kept: Vec<Vec<Decided>>,
-    /// How many came after them.
-    pub left_out: u64,
-    /// The last half minute of the last gap.
-    last: Option<Gst>,
-}
-
-impl Gaps {
-    fn add(&mut self, decided: Decided) {
-        let next = |last: Gst| time::at(time::seconds(last) + SUBFRAME);
-        let goes_on = self.last.map(next) == Some(decided.first);
-        self.last = Some(decided.last());
-        match (goes_on, self.left_out) {
-            (true, 0) => self
-                .kept
-                .last_mut()
-                .into_iter()
-                .for_each(|gap| gap.push(decided)),
-            (true, _) => {}
-            (false, _) if self.kept.len() < GAPS => self.kept.push(vec![decided]),
-            (false, _) => self.left_out += 1,
-        }
-    }
-}
-
 /// What came of one accepted start.
 #[derive(Clone, Debug)]
 pub struct Run {
@@ -346,10 +319,8 @@ pub struct Run {
     pub refused: Refusals,
     /// Place and time of the sub-frame that stopped the core.
     pub stopped: Option<(u64, Gst)>,
-    /// What each group of the boom's valves did.
-    pub boom: ByGroup<Account>,
-    /// Half minutes in which nothing came, between others.
-    pub gaps: Gaps,
+    /// What the boom found, by each of its limits.
+    pub watch: [Watch; boom::LIMITS.len()],
     /// How messages were gathered.
     pub gathering: Gathering,
     /// The last record's place.
@@ -358,10 +329,6 @@ pub struct Run {
     message: Option<(Box<WaitingMessage>, Gst)>,
     waiting: Vec<Waiting>,
     last_subframe: Option<Gst>,
-    /// The latest half minute that a sub-frame told, noted or refused by a stop.
-    now: Option<Gst>,
-    /// Marks after the last sub-frame that was noted.
-    lately: Option<(Gst, Lately)>,
 }
 
 impl Run {
@@ -389,15 +356,12 @@ impl Run {
             said_no: None,
             refused: Refusals::default(),
             stopped: None,
-            boom: Default::default(),
-            gaps: Gaps::default(),
+            watch: [Watch::default(); boom::LIMITS.len()],
             gathering: Gathering::default(),
             last_place: place,
             message: None,
             waiting: Vec::new(),
             last_subframe: None,
-            now: None,
-            lately: None,
         }
     }
 
@@ -543,15 +507,11 @@ impl Run {
             if [WrongLength, OutOfRange, Stopped, OutOfOrder].contains(&both) {
                 // Its time is not noted, and may be none.
                 self.refuse(Part::Subframe, both, Some(prn), None);
-                if both == Stopped {
-                    self.stays_stopped(at);
-                }
                 return Vec::new();
             }
         }
         self.hear(prn, at);
         self.last_subframe = Some(at);
-        self.now = Some(at);
         self.counts.0 += 1;
         if answer.first == Ok(()) && answer.second == Err(Stopped) {
             self.stopped = Some((self.last_place, at));
@@ -562,17 +522,8 @@ impl Run {
         let judged = Vec::from_iter(answer.tags.iter().map(|tag| self.tag(*tag, at)));
         self.marks(&judged, at, reads);
         self.gather(at, fields, answer, reads);
-        self.count_lately(at);
+        self.ask_for_four(at, reads);
         judged
-    }
-
-    /// A sub-frame came to a stopped core. Its time is one (01: 2 comes before 4), in whatever order; a later half minute has a
-    /// column, in which nothing is heard.
-    fn stays_stopped(&mut self, at: Gst) {
-        if self.now.is_none_or(|now| at > now) {
-            self.now = Some(at);
-            self.timeline.at(at);
-        }
     }
 
     /// The refused halves of a sub-frame that was noted.
@@ -594,39 +545,15 @@ impl Run {
         }
     }
 
-    /// How many satellites are marked lately, now.
-    fn count_lately(&mut self, at: Gst) {
+    /// Whether four satellites are marked lately, now, and how many are.
+    fn ask_for_four(&mut self, at: Gst, reads: &dyn Reads) {
         let tags = self.marked.values().filter_map(|sets| sets.kept.back());
         let tags = tags.map(|set| set.last.record.time);
-        let lately = boom::lately(at, tags);
-        self.timeline.at(at).marked_lately.note(at, lately.counts);
-        self.lately = Some((at, lately));
-    }
-
-    /// The gate decided. What it decided between two starts, before anything came, is of neither part.
-    fn decide(&mut self, decided: &Decided) {
-        if self.now.is_none() {
-            return;
+        let lately = boom::lately(at, |limit| reads.four(limit), tags);
+        self.timeline.at(at).marked_lately.note(at, lately);
+        for (watch, lately) in self.watch.iter_mut().zip(lately) {
+            watch.note(at, lately);
         }
-        self.timeline.decide(decided);
-        if !decided.recorded {
-            self.gaps.add(*decided);
-        }
-        let lately = self.lately.map(|(_, lately)| lately);
-        let counts = self.lately_at(decided).map(|lately| lately.counts);
-        for (n, account) in self.boom.iter_mut().enumerate() {
-            let (count, fourth) = (
-                counts.map(|counts| counts[n]),
-                lately.and_then(|of| of.fourth),
-            );
-            account.note(decided, decided.valves[n], count, fourth);
-        }
-    }
-
-    /// The marks of the half minute that was decided, where a sub-frame was noted in it.
-    fn lately_at(&self, decided: &Decided) -> Option<Lately> {
-        let of = self.lately.filter(|(at, _)| *at == decided.first);
-        of.map(|(_, lately)| lately)
     }
 
     /// How far along each message is, now, and whether another waits for the chip.
@@ -932,9 +859,6 @@ pub struct History {
     pub left_out: LeftOut,
     /// The tag records of the last record.
     pub judged: Vec<Judged>,
-    /// What was decided before the last record, or at the end, each with the place of its start and the
-    /// marks of its half minute.
-    pub decided: Vec<(u64, Decided, Option<Lately>)>,
     /// The record that the recording ends in, where it is not whole.
     pub cut: Option<Cut>,
     /// SHA-256 of the recording.
@@ -946,7 +870,6 @@ impl History {
     pub fn note(&mut self, record: &Record, answer: &Answer, reads: &dyn Reads) {
         self.records += 1;
         self.judged.clear();
-        self.decide(&answer.decided);
         let place = self.records;
         if let (Record::Start(settings), Ok(())) = (record, answer.first) {
             return self.begin(Run::new(place, (**settings).clone()));
@@ -985,24 +908,6 @@ impl History {
             (Record::Start(_), Err(refusal)) => run.refuse(Part::Start, refusal, None, None),
             (Record::Other(_), Err(refusal)) => run.refuse(Part::Kind, refusal, None, None),
             (Record::Start(_) | Record::Other(_), Ok(())) => {}
-        }
-    }
-
-    /// The recording has ended, and with it its last half minute.
-    pub fn end(&mut self, decided: Option<Decided>) {
-        self.judged.clear();
-        self.decide(decided.as_slice());
-    }
-
-    fn decide(&mut self, all: &[Decided]) {
-        self.decided.clear();
-        let Some(run) = self.runs.last_mut() else {
-            return;
-        };
-        for decided in all {
-            let lately = run.lately_at(decided);
-            self.decided.push((run.place, *decided, lately));
-            run.decide(decided);
         }
     }
 

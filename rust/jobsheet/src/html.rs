@@ -1,10 +1,8 @@
 //! The sheet as one page of HTML: no network, no script, prints on A4.
 
-use crate::boom::Valves;
-use crate::boom_svg;
 use crate::finding::Finding;
 use crate::phone;
-use crate::sheet::{EventLine, MarkedSet, RunSheet, Sheet, Strips, RESTS_ON};
+use crate::sheet::{EventLine, MarkedSet, RunSheet, Sheet, RESTS_ON};
 use crate::strip_svg::{sign, strips, DETAIL_ROWS, FRONT_ROWS, SIGNS};
 use crate::time::Clock;
 use crate::timeline::{Cell, Said};
@@ -40,10 +38,8 @@ pub fn page(sheet: &Sheet) -> String {
     let mut out = format!(
         "<!DOCTYPE html>\n<html lang=\"en\">\n<head>\n<meta charset=\"utf-8\">\n\
          <meta name=\"viewport\" content=\"width=device-width, initial-scale=1\">\n\
-         <title>Job sheet: {name}</title>\n<style>\n{}{STYLE}</style>\n</head>\n<body>\n\
-         <svg width=\"0\" height=\"0\" aria-hidden=\"true\"><defs>\n{SIGNS}{}</defs></svg>\n",
-        paper_foot(sheet),
-        boom_svg::SIGNS
+         <title>Job sheet: {name}</title>\n<style>\n{}{STYLE}</style>\n</head>\n<body>\n{SIGNS}",
+        paper_foot(sheet)
     );
     for (n, run) in sheet.runs.iter().enumerate() {
         out.push_str("<main>\n");
@@ -304,20 +300,6 @@ fn key(out: &mut String, name: &str, what: &str, more: &str) {
     );
 }
 
-/// What the boom's rows show.
-fn boom_legend(out: &mut String, strips: &Strips) {
-    let heads = strips.columns.iter();
-    let after = heads.clone().flat_map(|head| &head.after);
-    let gaps = after.map(|decided| decided.valves);
-    let shown = Vec::from_iter(heads.filter_map(|head| head.valves).chain(gaps).flatten());
-    for valves in Valves::ALL {
-        if shown.contains(&valves) {
-            let (what, more) = valves.words();
-            key(out, &boom_svg::sign(valves), what, more);
-        }
-    }
-}
-
 fn legend(out: &mut String, run: &RunSheet) {
     let strips = &run.overview;
     let (several, least) = match strips.step {
@@ -329,11 +311,10 @@ fn legend(out: &mut String, run: &RunSheet) {
         "<p class=\"how\">A tag is a short code that the system sends. Data that tags of {AUTHENTIC_BITS} \
          bits together match is the system\u{2019}s own, and is marked; with fewer they only agree. A \
          cell is {} with what the tags for that satellite said{several}; slow tags are judged later. Over the cells: since when data is marked, with \
-         its issue number. Under them: when the satellite was heard. Of the boom: what was decided at \
-         the end of each half minute{several}, and how many satellites had such marks{least}.</p>\n<ul class=\"legend\">",
+         its issue number. Under them: when the satellite was heard. Figures of the first rows: how many \
+         satellites had such marks{least}.</p>\n<ul class=\"legend\">",
         strips.cell_told()
     );
-    boom_legend(out, strips);
     let cells = || strips.rows.iter().flat_map(|strip| &strip.cells);
     for said in Said::ALL {
         if cells().any(|cell| cell.said() == said) {

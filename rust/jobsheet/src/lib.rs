@@ -4,21 +4,18 @@
 //! The proved core (`osnma`) decides everything: its answers and reads are followed ([`history`])
 //! and shown ([`sheet`], then [`html`], [`text`] or [`csv`]). What it does not export, the
 //! parameters of the chain and the slots of keys, is read from the messages of verdicts that it
-//! answered 0 ([`vouched`]); how many bits agree on data that is not marked yet ([`candidate`]) is
-//! counted. What the boom's valves did is decided by the proved gate (`valve_gate`), half minute by
-//! half minute beside the core ([`gate`]); how many satellites were marked lately ([`boom`]) is
+//! answered 0 ([`vouched`]); how many bits agree on data that is not marked yet ([`candidate`]), and
+//! how many satellites were marked lately beside the core's answer whether four were ([`boom`]), is
 //! counted.
 
 #![forbid(unsafe_code)]
 #![warn(missing_docs)]
 
 pub mod boom;
-mod boom_svg;
 pub mod candidate;
 pub mod csv;
 pub mod data;
 pub mod finding;
-pub mod gate;
 pub mod gathering;
 pub mod history;
 pub mod html;
@@ -28,7 +25,6 @@ pub mod receiver;
 pub mod recording;
 pub mod refused;
 pub mod sheet;
-mod shut;
 mod strip_svg;
 pub mod text;
 pub mod time;
@@ -62,7 +58,6 @@ pub fn replay(input: impl Read, mut each: impl FnMut(&History)) -> Result<Histor
         history.note(&record, &answer, receiver.core());
         each(&history);
     }
-    history.end(receiver.end());
     history.cut = reader.cut();
     history.sha256 = reader.sha256();
     match (history.records, history.cut) {

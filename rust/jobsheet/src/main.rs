@@ -1,8 +1,8 @@
-//! `jobsheet RECORDING [-o FILE] [--text | --csv | --boom] [--zone ZONE]`: the job sheet of a recording.
+//! `jobsheet RECORDING [-o FILE] [--text | --csv] [--zone ZONE]`: the job sheet of a recording.
 
 #![forbid(unsafe_code)]
 
-use jobsheet::csv::{Kind, Rows};
+use jobsheet::csv::Rows;
 use jobsheet::history::History;
 use jobsheet::sheet::Sheet;
 use jobsheet::time::Zone;
@@ -16,16 +16,14 @@ use std::process::ExitCode;
 use std::time::{Duration, Instant};
 
 const USAGE: &str = "\
-Usage: jobsheet RECORDING [-o FILE] [--text | --csv | --boom] [--zone ZONE]
+Usage: jobsheet RECORDING [-o FILE] [--text | --csv] [--zone ZONE]
 
-Shows which data of which satellite was authentic when, what each mark rests on, and when
-the boom's valves were free.
+Shows which data of which satellite was authentic when, and what each mark rests on.
 RECORDING has the 256-byte records of the replay program.
 
   (neither)     one page of HTML, to RECORDING with the ending .html
   --text        the same as text, to standard output
   --csv         every tag record, to standard output
-  --boom        what the valve gate decided, half minute by half minute, in the same form
   -o FILE       to this file instead; - is standard output. Links are followed, a device
                 or pipe is written into; a file is whole or as before, and keeps its mode
   --zone ZONE   times of the sheet in local time: UTC, +2, +02:00, -0330. Without it they
@@ -50,7 +48,7 @@ const CUT_SHORT: u8 = 3;
 enum Form {
     Html,
     Text,
-    Rows(Kind),
+    Csv,
 }
 
 struct Options {
@@ -84,8 +82,7 @@ fn options(args: impl Iterator<Item = OsString>) -> Result<Options, Failure> {
                 zone.replace(given.ok_or_else(|| bad(needed))?).is_some()
             }
             Some("--text") => form.replace(Form::Text).is_some(),
-            Some("--csv") => form.replace(Form::Rows(Kind::Tags)).is_some(),
-            Some("--boom") => form.replace(Form::Rows(Kind::Boom)).is_some(),
+            Some("--csv") => form.replace(Form::Csv).is_some(),
             Some(other) if other.starts_with('-') => {
                 return Err(bad(format!("no option {other}\n{USAGE}")))
             }
@@ -164,11 +161,10 @@ impl Options {
         Failure(NOT_WRITTEN, format!("{what} cannot be written: {error}"))
     }
 
-    /// Writes tag records or decisions as they come.
-    fn rows(&self, kind: Kind) -> Result<History, Failure> {
-        let mut rows = Rows::new(BufWriter::new(self.open()?), kind);
+    /// Writes the tag records as they come.
+    fn rows(&self) -> Result<History, Failure> {
+        let mut rows = Rows::new(BufWriter::new(self.open()?));
         let history = self.read(|history| rows.note(history))?;
-        rows.note(&history);
         let output = rows.finish().and_then(|rows| Ok(rows.into_inner()?));
         let written = output.and_then(Output::finish);
         written.map_err(|error| self.not_written(error))?;
@@ -210,7 +206,7 @@ fn run() -> Result<u8, Failure> {
         ));
     }
     let history = match options.form {
-        Form::Rows(kind) => options.rows(kind),
+        Form::Csv => options.rows(),
         Form::Html | Form::Text => options.sheet(),
     }?;
     if let Some(path) = &options.output {

@@ -1,9 +1,7 @@
-//! The proved core, called as the replay program calls it, and the proved gate beside it.
+//! The proved core, called as the replay program calls it.
 
-use crate::boom::Decided;
-use crate::gate::Boom;
 use crate::recording::Record;
-use osnma::{Core, Gst, Marks, Records, Refusal, Settings, TagRecord, FIELDS_LEN, NO_RECORDS};
+use osnma::{Core, Records, Refusal, TagRecord, NO_RECORDS};
 
 /// What a record was answered.
 #[derive(Clone, Debug, PartialEq, Eq)]
@@ -14,8 +12,6 @@ pub struct Answer {
     pub second: Result<(), Refusal>,
     /// The tags that were judged.
     pub tags: Vec<TagRecord>,
-    /// What the gate decided before it, of half minutes that have ended.
-    pub decided: Vec<Decided>,
 }
 
 impl Answer {
@@ -24,7 +20,6 @@ impl Answer {
             first,
             second: Ok(()),
             tags: Vec::new(),
-            decided: Vec::new(),
         }
     }
 
@@ -36,12 +31,11 @@ impl Answer {
     }
 }
 
-/// The core with its area for tag records, and the gate.
+/// The core with its area for tag records.
 pub struct Receiver {
     core: Box<Core>,
     area: Box<Records>,
     started: bool,
-    boom: Boom,
 }
 
 impl Receiver {
@@ -51,7 +45,6 @@ impl Receiver {
             core: Box::new(Core::new()),
             area: Box::new(NO_RECORDS),
             started: false,
-            boom: Boom::default(),
         }
     }
 
@@ -60,78 +53,42 @@ impl Receiver {
         &self.core
     }
 
-    /// The end of the recording, and so of its last half minute.
-    pub fn end(&mut self) -> Option<Decided> {
-        self.boom.ends(&self.core)
-    }
-
-    /// Lends a record to the core, and shows its answer to the gate. Before an accepted start the
-    /// replay program itself answers 11, and to another kind 2 (01, The replay program).
+    /// Lends a record to the core. Before an accepted start the replay program itself answers 11,
+    /// and to another kind 2 (01, The replay program).
     pub fn answer(&mut self, record: &Record) -> Answer {
         match record {
-            Record::Start(settings) => self.start(settings),
+            Record::Start(settings) => {
+                let answer = self.core.start(settings);
+                self.started |= answer.is_ok();
+                Answer::one(answer)
+            }
             Record::Other(_) => Answer::one(Err(Refusal::OutOfRange)),
             Record::Subframe { .. } if !self.started => Answer::both(Refusal::NotInForce),
             _ if !self.started => Answer::one(Err(Refusal::NotInForce)),
-            Record::Word { prn, time, word } => {
-                let answer = self.core.word(*prn, *time, word);
-                self.answered(answer)
-            }
+            Record::Word { prn, time, word } => Answer::one(self.core.word(*prn, *time, word)),
             Record::Subframe {
                 prn,
                 time,
                 marks,
                 fields,
-            } => self.subframe((*prn, *time), *marks, fields),
+            } => {
+                let answer = self
+                    .core
+                    .subframe_marked(*prn, *time, *marks, fields, &mut self.area);
+                Answer {
+                    first: answer.hkroot,
+                    second: answer.mack,
+                    tags: answer.tags.collect(),
+                }
+            }
             // The binding takes yes or no; row 2 of the table refuses every other byte.
-            Record::Verdict { good: 2.., .. } => self.answered(Err(Refusal::OutOfRange)),
+            Record::Verdict { good: 2.., .. } => Answer::one(Err(Refusal::OutOfRange)),
             Record::Verdict {
                 good,
                 key_id,
                 message,
                 signature,
-            } => {
-                let answer = self.core.verdict(*good == 1, *key_id, message, signature);
-                self.answered(answer)
-            }
-        }
-    }
-
-    /// An accepted start ends the half minute: the core knows nothing of it any more.
-    fn start(&mut self, settings: &Settings) -> Answer {
-        let before = self.core.clone();
-        let answer = self.core.start(settings);
-        self.started |= answer.is_ok();
-        let ends = answer.is_ok().then(|| self.boom.ends(&before)).flatten();
-        self.boom.gate.started(&answer);
-        Answer {
-            decided: ends.into_iter().collect(),
-            ..Answer::one(answer)
-        }
-    }
-
-    /// Of a word or a verdict.
-    fn answered(&mut self, answer: Result<(), Refusal>) -> Answer {
-        self.boom.gate.answered(&answer);
-        Answer::one(answer)
-    }
-
-    fn subframe(
-        &mut self,
-        (prn, time): (u8, Gst),
-        marks: Marks,
-        fields: &[u8; FIELDS_LEN],
-    ) -> Answer {
-        let decided = self.boom.hears(prn, time, &self.core);
-        let answer = self
-            .core
-            .subframe_marked(prn, time, marks, fields, &mut self.area);
-        self.boom.gate.subframe(&answer);
-        Answer {
-            first: answer.hkroot,
-            second: answer.mack,
-            tags: answer.tags.collect(),
-            decided,
+            } => Answer::one(self.core.verdict(*good == 1, *key_id, message, signature)),
         }
     }
 }

@@ -1,7 +1,7 @@
 //! What the sheet shows, for every form of it: each figure is a core's answer or read, or comes
 //! from the message of a verdict that it answered 0.
 
-use crate::boom::{ByGroup, Counts, Decided, Valves};
+use crate::boom::ByLimit;
 use crate::finding::{self, Finding};
 use crate::history::{History, Judged, Marked, Run, What};
 use crate::phone::check_value;
@@ -17,15 +17,13 @@ use std::sync::Arc;
 
 /// Version of this program.
 pub const PROGRAM: &str = env!("CARGO_PKG_VERSION");
-/// Version of the core's library.
+/// Version of the library.
 pub const LIBRARY: &str = osnma::VERSION;
-/// Version of the gate's.
-pub const GATE: &str = valve_gate::VERSION;
 
 /// Columns of the front's strips at most.
 pub const FRONT_COLUMNS: usize = 60;
 
-/// The first half minute and the last of a column, and what the boom's valves were.
+/// The first half minute and the last of a column, and the satellites that were marked lately.
 #[derive(Clone, Debug, PartialEq, Eq)]
 pub struct ColumnHead {
     /// The first half minute.
@@ -34,12 +32,8 @@ pub struct ColumnHead {
     pub last: Gst,
     /// How many came.
     pub half_minutes: u32,
-    /// What the boom's valves were; of several half minutes the worst.
-    pub valves: Option<ByGroup<Valves>>,
-    /// How many satellites were marked within each group's limit; of several half minutes the least.
-    pub marked_lately: Option<Counts>,
-    /// What was decided between it and the next column, where half minutes lie between.
-    pub after: Vec<Decided>,
+    /// By each of the boom's limits; of several half minutes the least.
+    pub marked_lately: Option<ByLimit>,
 }
 
 /// A satellite's half minutes.
@@ -66,22 +60,13 @@ pub struct Strips {
     pub rows: Vec<Strip>,
 }
 
-impl ColumnHead {
-    /// Whether the receiver was stopped all the time: it may have heard satellites, but took nothing.
-    pub fn is_stopped(&self) -> bool {
-        self.marked_lately.is_none() && self.valves == Some([Valves::Stopped; 2])
-    }
-}
-
 impl Strips {
     fn of(run: &Run, timeline: &Timeline, prns: &BTreeSet<u8>) -> Strips {
         let head = |column: &crate::timeline::Column| ColumnHead {
             first: column.first,
             last: column.last,
             half_minutes: column.half_minutes,
-            valves: column.valves,
-            marked_lately: column.marked_lately.counts(),
-            after: column.after.clone(),
+            marked_lately: column.marked_lately.by_limit(),
         };
         let strip = |&prn: &u8| {
             let cells = timeline
@@ -100,12 +85,6 @@ impl Strips {
             columns: timeline.columns().map(head).collect(),
             rows: prns.iter().map(strip).collect(),
         }
-    }
-
-    /// Columns up to the last in which the receiver was not stopped.
-    pub fn working(&self) -> usize {
-        let stopped = self.columns.iter().rev();
-        self.columns.len() - stopped.take_while(|head| head.is_stopped()).count()
     }
 
     /// What a cell is: `a half minute`, `5 minutes`, `2 hours`.
@@ -318,9 +297,9 @@ impl Sheet {
         }
     }
 
-    /// The program and the libraries that made it.
+    /// The program and the library that made it.
     pub fn made_by() -> String {
-        format!("jobsheet {PROGRAM}, osnma {LIBRARY}, valve_gate {GATE}")
+        format!("jobsheet {PROGRAM}, osnma {LIBRARY}")
     }
 }
 
@@ -614,7 +593,7 @@ mod tests {
         assert_eq!(steps.map(told), right);
     }
 
-    // The libraries' versions are those that this program is built with.
+    // The library's version is the one that this program is built with.
     #[test]
     fn versions() {
         let lock = include_str!("../../Cargo.lock");
@@ -624,7 +603,6 @@ mod tests {
                 .unwrap();
             rest.split_once('"').unwrap().0
         };
-        let right = ["jobsheet", "osnma", "valve_gate"].map(of);
-        assert_eq!([PROGRAM, LIBRARY, GATE], right);
+        assert_eq!((PROGRAM, LIBRARY), (of("jobsheet"), of("osnma")));
     }
 }

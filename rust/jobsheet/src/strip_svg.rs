@@ -1,8 +1,7 @@
 //! Strips as a drawing: it prints as it is, whatever a browser does with backgrounds, and its signs
 //! differ without colour.
 
-use crate::boom::{GROUPS, NEEDED};
-use crate::boom_svg;
+use crate::boom::{minutes, Lately, LIMITS, NEEDED};
 use crate::sheet::{ColumnHead, RunSheet, Strip, Strips};
 use crate::time::{self, Clock, SUBFRAME};
 use crate::timeline::{Cell, Said};
@@ -16,13 +15,11 @@ const COLUMNS: usize = 60;
 const WIDTH: f64 = 1900.0;
 const LEFT: f64 = 106.0;
 const CELLS: f64 = 1480.0;
-/// Where time jumps.
-pub const GAP: f64 = 16.0;
+const GAP: f64 = 10.0;
+const LATELY: f64 = 36.0;
+/// Room for a letter in a row of the boom's.
+const LETTER: f64 = 12.0;
 const AXIS: f64 = 34.0;
-/// Where its labels stand.
-const LABEL: f64 = 22.0;
-/// Room between the strips and the boom's rows.
-const BOOM: f64 = 4.0;
 const ISSUE: f64 = 1676.0;
 const CHECK: f64 = 1900.0;
 /// Cells at the end of a strip in which its satellite is not heard, so that it is said.
@@ -64,8 +61,9 @@ impl Heights {
     }
 }
 
-/// The signs of the strips, once a page. A cell is 20 by 24 here.
-pub const SIGNS: &str = r##"<symbol id="authentic" viewBox="0 0 20 24" preserveAspectRatio="none"><rect width="20" height="24" fill="#66b0a8"/></symbol>
+/// The signs, once a page. A cell is 20 by 24 here.
+pub const SIGNS: &str = r##"<svg width="0" height="0" aria-hidden="true"><defs>
+<symbol id="authentic" viewBox="0 0 20 24" preserveAspectRatio="none"><rect width="20" height="24" fill="#66b0a8"/></symbol>
 <symbol id="agrees" viewBox="0 0 20 24" preserveAspectRatio="none"><rect x=".6" y=".6" width="18.8" height="22.8" fill="#fff" stroke="#2c7a70" stroke-width="1.2"/><path d="M.6 .6L19.4 23.4H.6Z" fill="#66b0a8"/></symbol>
 <symbol id="wrong" viewBox="0 0 20 24" preserveAspectRatio="none"><rect width="20" height="24" fill="#9c1118"/><path d="M4 5L16 19M16 5L4 19" stroke="#fff" stroke-width="3.6" fill="none"/></symbol>
 <symbol id="waits" viewBox="0 0 20 24" preserveAspectRatio="none"><rect x=".6" y=".6" width="18.8" height="22.8" fill="#fdeec2" stroke="#8a7a45" stroke-width="1.2"/><circle cx="10" cy="12" r="3.4" fill="#4a4024"/></symbol>
@@ -80,6 +78,7 @@ pub const SIGNS: &str = r##"<symbol id="authentic" viewBox="0 0 20 24" preserveA
 <symbol id="isbad" viewBox="0 0 40 40"><path d="M20 2L39 37H1Z" fill="#9c1118"/><path d="M20 14V25M20 29V33" stroke="#fff" stroke-width="4" fill="none"/></symbol>
 <symbol id="isgood" viewBox="0 0 40 40"><circle cx="20" cy="20" r="17" fill="none" stroke="#2c7a70" stroke-width="3.4"/><path d="M11 21L18 28L30 13" fill="none" stroke="#2c7a70" stroke-width="4.4"/></symbol>
 <symbol id="changed" viewBox="0 0 20 20"><path d="M1 3H19L10 19Z" fill="#000"/></symbol>
+</defs></svg>
 "##;
 
 /// The name of a sign.
@@ -99,37 +98,25 @@ pub fn sign(said: Said) -> &'static str {
 }
 
 /// Where the columns of a drawing stand; a jump in time is a gap.
-pub struct Columns<'a> {
-    /// The columns.
-    pub heads: &'a [ColumnHead],
-    /// Where each begins.
-    pub x: Vec<f64>,
-    /// How wide each is.
-    pub width: f64,
-    /// Whether time jumps before it.
-    pub jumps: Vec<bool>,
+struct Columns<'a> {
+    heads: &'a [ColumnHead],
+    x: Vec<f64>,
+    width: f64,
 }
 
 impl Columns<'_> {
     fn of(heads: &[ColumnHead], step: u64) -> Columns<'_> {
         let number = |head: &ColumnHead| time::seconds(head.first) / (SUBFRAME * step);
-        let jump = |pair: &[ColumnHead]| number(&pair[0]) + 1 != number(&pair[1]);
-        let mut jumps = vec![false];
-        jumps.extend(heads.windows(2).map(jump));
-        let gaps = jumps.iter().filter(|jump| **jump).count();
+        let jumps = |pair: &[ColumnHead]| number(&pair[0]) + 1 != number(&pair[1]);
+        let gaps = heads.windows(2).filter(|pair| jumps(pair)).count();
         let width = (CELLS - GAP * gaps as f64) / COLUMNS as f64;
         let mut x = vec![LEFT];
         let mut here = LEFT;
-        for jump in &jumps[1..] {
-            here += width + if *jump { GAP } else { 0.0 };
+        for pair in heads.windows(2) {
+            here += width + if jumps(pair) { GAP } else { 0.0 };
             x.push(here);
         }
-        Columns {
-            heads,
-            x,
-            width,
-            jumps,
-        }
+        Columns { heads, x, width }
     }
 
     /// Where the last column ends.
@@ -139,12 +126,13 @@ impl Columns<'_> {
 
     /// The first column and its x, after it those after a jump.
     fn after_jumps(&self) -> impl Iterator<Item = (usize, f64)> + '_ {
+        let jump = |n: usize| n == 0 || self.x[n] > self.x[n - 1] + self.width + GAP / 2.0;
         let all = self.x.iter().copied().enumerate();
-        all.filter(|(n, _)| *n == 0 || self.jumps[*n])
+        all.filter(move |(n, _)| jump(*n))
     }
 
     /// Times over the first column and after a jump, and round times where there is room.
-    fn axis(&self, out: &mut String, clock: Clock) {
+    fn axis(&self, out: &mut String, clock: Clock, y: f64) {
         let every = self.round();
         let mut marks: Vec<(f64, String)> = self
             .after_jumps()
@@ -167,8 +155,10 @@ impl Columns<'_> {
             if x >= free {
                 let _ = writeln!(
                     out,
-                    "<path d=\"M{x:.1} {AXIS:.1}v-7\" stroke=\"#555\" stroke-width=\"1.5\"/>\
-                     <text x=\"{x:.1}\" y=\"{LABEL:.1}\" class=\"axis\">{label}</text>"
+                    "<path d=\"M{x:.1} {:.1}v-7\" stroke=\"#555\" stroke-width=\"1.5\"/>\
+                     <text x=\"{x:.1}\" y=\"{:.1}\" class=\"axis\">{label}</text>",
+                    y + AXIS,
+                    y + 22.0
                 );
                 free = x + 14.0 * label.len() as f64 + 20.0;
             }
@@ -197,26 +187,32 @@ pub fn strips(out: &mut String, run: &RunSheet, strips: &Strips, most: f64) {
 fn panel(out: &mut String, clock: Clock, strips: &Strips, range: Range<usize>, heights: Heights) {
     let columns = Columns::of(&strips.columns[range.clone()], strips.step);
     let last = range.end == strips.columns.len();
-    let under = AXIS + heights.row * strips.rows.len() as f64 + BOOM;
-    let height = under + boom_svg::ROW * GROUPS.len() as f64;
+    let top = LATELY * LIMITS.len() as f64 + AXIS;
+    let height = top + heights.row * strips.rows.len() as f64 + 4.0;
     let (first, end) = (&columns.heads[0], &columns.heads[columns.heads.len() - 1]);
     let _ = writeln!(
         out,
-        "<figure class=\"panel\"><figcaption>{}. Last rows: the boom\u{2019}s valves, and how many satellites, of \
-         {NEEDED} needed, had marks at most {} and {} minutes old.</figcaption>\n\
+        "<figure class=\"panel\"><figcaption>{}. First rows: did {NEEDED} satellites, as the boom needs, \
+         have marks at most {} and {} minutes old? Light yes, dark no.</figcaption>\n\
          <div><svg class=\"strips\" viewBox=\"0 0 {WIDTH} {height:.0}\" role=\"img\" \
-         aria-label=\"Strips of the satellites and the boom\u{2019}s valves; a cell is {}\">",
+         aria-label=\"Strips of the satellites; a cell is {}\">",
         clock.dated().range(first.first, end.last),
-        GROUPS[0].minutes(),
-        GROUPS[1].minutes(),
+        minutes(LIMITS[0]),
+        minutes(LIMITS[1]),
         strips.cell_told()
     );
-    columns.axis(out, clock);
+    for (n, limit) in LIMITS.iter().enumerate() {
+        let cells = columns.heads.iter();
+        let cells = Vec::from_iter(cells.map(|head| Some(head.marked_lately?[n])));
+        lately(out, *limit, &columns, &cells, LATELY * n as f64);
+    }
+    columns.axis(out, clock, top - AXIS);
     if last {
+        let y = top - AXIS + 22.0;
         let _ = writeln!(
             out,
-            "<text x=\"{ISSUE}\" y=\"{LABEL}\" class=\"axis\" text-anchor=\"end\">issue</text>\
-             <text x=\"{CHECK}\" y=\"{LABEL}\" class=\"axis\" text-anchor=\"end\">check value</text>"
+            "<text x=\"{ISSUE}\" y=\"{y}\" class=\"axis\" text-anchor=\"end\">issue</text>\
+             <text x=\"{CHECK}\" y=\"{y}\" class=\"axis\" text-anchor=\"end\">check value</text>"
         );
     }
     for (n, strip) in strips.rows.iter().enumerate() {
@@ -225,17 +221,15 @@ fn panel(out: &mut String, clock: Clock, strips: &Strips, range: Range<usize>, h
             columns: &columns,
             range: &range,
             heights,
-            y: AXIS + heights.row * n as f64,
-            working: strips.working(),
+            y: top + heights.row * n as f64,
         };
         row.draw(out, clock, last);
     }
-    boom_svg::rows(out, &columns, under);
     out.push_str("</svg></div></figure>\n");
 }
 
 /// Stretches of neighbours that are equal: the first, how many, and what they are.
-pub fn stretches<T: PartialEq + Copy>(all: &[T]) -> Vec<(usize, usize, T)> {
+fn stretches<T: PartialEq + Copy>(all: &[T]) -> Vec<(usize, usize, T)> {
     let mut out: Vec<(usize, usize, T)> = Vec::new();
     for (n, &one) in all.iter().enumerate() {
         match out.last_mut() {
@@ -246,6 +240,48 @@ pub fn stretches<T: PartialEq + Copy>(all: &[T]) -> Vec<(usize, usize, T)> {
     out
 }
 
+/// A row of the boom's: whether four satellites were marked lately, and how many. Where there is room it
+/// is said in words.
+fn lately(out: &mut String, limit: u32, columns: &Columns, cells: &[Option<Lately>], y: f64) {
+    let _ = writeln!(
+        out,
+        "<g data-lately=\"{limit}\"><text x=\"0\" y=\"{:.1}\" class=\"limit\">\u{2264} {} min</text>",
+        y + 24.0,
+        minutes(limit)
+    );
+    for (from, len, lately) in stretches(cells) {
+        let x = columns.x[from];
+        let width = columns.x[from + len - 1] + columns.width - x - 2.0;
+        let (class, answer) = match lately {
+            None => ("none", ""),
+            Some(lately) if !lately.four => ("few", "no"),
+            Some(lately) if lately.count == NEEDED => ("just", "yes"),
+            Some(_) => ("enough", "yes"),
+        };
+        let count = lately.map_or(String::new(), |lately| lately.count.to_string());
+        let words = format!("{answer}, {count}");
+        let fits = LETTER * words.len() as f64 + 8.0 <= width;
+        let told = if lately.is_some() && fits {
+            &words
+        } else {
+            &count
+        };
+        let (size, anchor, inset) = match len {
+            1 => (20, "middle", (columns.width - 2.0) / 2.0),
+            _ => (25, "start", 6.0),
+        };
+        let _ = writeln!(
+            out,
+            "<rect x=\"{x:.1}\" y=\"{y:.1}\" width=\"{width:.1}\" height=\"30\" class=\"{class}\" \
+             data-cells=\"{len}\" data-four=\"{answer}\" data-count=\"{count}\"/>\
+             <text x=\"{:.1}\" y=\"{:.1}\" class=\"{class}\" font-size=\"{size}\" text-anchor=\"{anchor}\">{told}</text>",
+            x + inset,
+            y + 23.5
+        );
+    }
+    out.push_str("</g>\n");
+}
+
 /// A satellite's strip in a drawing.
 struct Row<'a> {
     strip: &'a Strip,
@@ -253,8 +289,6 @@ struct Row<'a> {
     range: &'a Range<usize>,
     heights: Heights,
     y: f64,
-    /// Columns up to the last in which the receiver was not stopped.
-    working: usize,
 }
 
 impl Row<'_> {
@@ -316,7 +350,7 @@ impl Row<'_> {
             let to = sets.get(n + 1).map_or(columns.end(), |next| next.1);
             let _ = write!(
                 out,
-                "<path d=\"M{x:.1} {line:.1}H{:.1}\" class=\"marked\"/>",
+                "<path d=\"M{x:.1} {line:.1}H{:.1}\" class=\"held\"/>",
                 to - 4.0
             );
             if x >= free {
@@ -334,7 +368,7 @@ impl Row<'_> {
     /// Over the cells from which on a marked satellite is not heard any more, where there is room.
     fn silent(&self, out: &mut String) {
         const ROOM: f64 = 140.0;
-        let cells = &self.strip.cells[..self.working];
+        let cells = &self.strip.cells;
         let silent = cells
             .iter()
             .rev()

@@ -1,16 +1,15 @@
 //! The sheet as text for a terminal.
 
-use crate::boom::{Valves, GROUPS, NEEDED};
+use crate::boom::{minutes, Lately, LIMITS, NEEDED};
 use crate::finding::Finding;
 use crate::html::grouped;
 use crate::phone;
-use crate::sheet::{ColumnHead, MarkedSet, RunSheet, Sheet, Strip, Strips, RESTS_ON};
+use crate::sheet::{MarkedSet, RunSheet, Sheet, Strip, Strips, RESTS_ON};
 use crate::time::Clock;
 use crate::timeline::{Cell, Said};
 use crate::warnings::{Grade, Table, Warning};
 use crate::words::count;
 use std::fmt::Write;
-use std::ops::Range;
 
 /// Columns of a line of text.
 const WIDTH: usize = 96;
@@ -206,13 +205,12 @@ fn shown(out: &mut String, clock: Clock, strips: &Strips) {
     );
     let sign = |said: Said| format!("{} {}", letter(said), said.words().0);
     out.push_str(&Said::ALL.map(sign).join("  "));
-    out.push_str("\n  . no tag, but heard   v data changed while a slow tag waited\n");
-    let [centre, outer] = GROUPS.map(|group| group.minutes());
+    let [few, more] = LIMITS.map(minutes);
     let _ = writeln!(
         out,
-        "  ctr, out: the boom's centre and outer valves. F free; shut: n fewer than {NEEDED} satellites had a\n  \
-         mark at most {centre} (ctr) or {outer} (out) minutes old, h enough again, but once shut it waits,\n  \
-         S stopped. Under it how many had (+ ten and more)"
+        "\n  . no tag, but heard   v data changed while a slow tag waited\n  \
+         {few}m, {more}m: whether {NEEDED} satellites, as the boom needs, had a mark at most so old (y yes, n no),\n  \
+         and under it how many had (+ ten and more)"
     );
     for from in (0..strips.columns.len()).step_by(CELLS) {
         let to = (from + CELLS).min(strips.columns.len());
@@ -223,43 +221,30 @@ fn shown(out: &mut String, clock: Clock, strips: &Strips) {
                 .dated()
                 .range(strips.columns[from].first, strips.columns[to - 1].last)
         );
-        boom(out, strips, from, to);
+        lately(out, strips, from, to);
         for strip in &strips.rows {
-            row(out, clock, strips, strip, from..to);
+            row(out, clock, strip, from, to, to == strips.columns.len());
         }
     }
 }
 
-/// The letter of what valves were.
-fn valve(valves: Valves) -> char {
-    match valves {
-        Valves::Free => 'F',
-        Valves::Unmet => 'n',
-        Valves::Held => 'h',
-        Valves::Stopped => 'S',
-    }
-}
-
-/// What the boom's valves were, a letter each, and how many satellites were marked lately, a digit each.
-fn boom(out: &mut String, strips: &Strips, from: usize, to: usize) {
-    let digit = |count: u8| char::from_digit(count.into(), 10).unwrap_or('+');
-    let columns = || strips.columns[from..to].iter();
-    for ((n, group), name) in GROUPS.iter().enumerate().zip(["ctr", "out"]) {
-        let valves = columns().map(|head| head.valves.map_or(' ', |all| valve(all[n])));
-        // Marks do not help a receiver that is stopped.
-        let of = |head: &ColumnHead| match head.valves {
-            Some(valves) if valves[n] == Valves::Stopped => None,
-            _ => head.marked_lately,
+/// Whether four satellites were marked lately, a letter each, and how many, a digit each.
+fn lately(out: &mut String, strips: &Strips, from: usize, to: usize) {
+    let yes = |lately: Lately| if lately.four { 'y' } else { 'n' };
+    let digit = |lately: Lately| char::from_digit(lately.count.into(), 10).unwrap_or('+');
+    for (n, limit) in LIMITS.iter().enumerate() {
+        let columns = strips.columns[from..to].iter();
+        let columns = columns.map(|column| column.marked_lately.map(|all| all[n]));
+        let signs = |sign: fn(Lately) -> char| -> String {
+            columns.clone().map(|one| one.map_or(' ', sign)).collect()
         };
-        let counts = columns().map(|head| of(head).map_or(' ', |all| digit(all[n])));
+        let limit = minutes(*limit);
         let _ = writeln!(
             out,
-            "  {name}  {}  {} valves\n       {}  marked, {} min",
-            valves.collect::<String>(),
-            group.name,
-            counts.collect::<String>(),
-            group.minutes()
+            "  {limit:>2}m  {}  {NEEDED} marked, {limit} min",
+            signs(yes)
         );
+        let _ = writeln!(out, "       {}  so many", signs(digit));
     }
 }
 
@@ -271,17 +256,15 @@ fn of_cell(cell: &Cell) -> char {
     }
 }
 
-fn row(out: &mut String, clock: Clock, strips: &Strips, strip: &Strip, range: Range<usize>) {
-    let last = range.end == strips.columns.len();
-    let cells = &strip.cells[range];
+fn row(out: &mut String, clock: Clock, strip: &Strip, from: usize, to: usize, last: bool) {
+    let cells = &strip.cells[from..to];
     let line: String = cells.iter().map(of_cell).collect();
     if cells.iter().any(|cell| cell.changed) {
         let sign = |changed| if changed { 'v' } else { ' ' };
         let marks: String = cells.iter().map(|cell| sign(cell.changed)).collect();
         let _ = writeln!(out, "       {}", marks.trim_end());
     }
-    let working = strip.cells[..strips.working()].last();
-    let silent = working.is_some_and(|cell| cell.heard == 0);
+    let silent = strip.cells.last().is_some_and(|cell| cell.heard == 0);
     let mut end = String::new();
     if let (true, Some((iodnav, check))) = (last, &strip.at_end) {
         end = format!("  issue {iodnav:>4}  {check}");

@@ -2,7 +2,7 @@
 //! long the run is. Where there would be more, columns of two half minutes are made of columns of one,
 //! then of four, and so on.
 
-use crate::boom::{worst, ByGroup, Decided, Least, Valves};
+use crate::boom::Least;
 use crate::time::{self, SUBFRAME};
 use osnma::{Gst, Outcome, AUTHENTIC_BITS};
 use std::collections::BTreeMap;
@@ -195,12 +195,8 @@ pub struct Column {
     pub last: Gst,
     /// How many came.
     pub half_minutes: u32,
-    /// How many satellites were marked lately, at the least.
+    /// Whether four satellites were marked lately in all of them, and how many at the least.
     pub marked_lately: Least,
-    /// What the boom's valves were at the worst; none where the gate did not decide.
-    pub valves: Option<ByGroup<Valves>>,
-    /// What was decided after it, in half minutes that have no column.
-    pub after: Vec<Decided>,
     cells: BTreeMap<u8, Cell>,
 }
 
@@ -211,8 +207,6 @@ impl Column {
             last: at,
             half_minutes: 1,
             marked_lately: Least::default(),
-            valves: None,
-            after: Vec::new(),
             cells: BTreeMap::new(),
         }
     }
@@ -245,7 +239,6 @@ impl Column {
         self.last = later.last;
         self.half_minutes += later.half_minutes;
         self.marked_lately.join(&later.marked_lately);
-        self.valves = worst(self.valves, later.valves);
         for (prn, cell) in later.cells {
             self.cell(prn).join(&cell);
         }
@@ -281,16 +274,7 @@ impl Timeline {
         while self.columns.len() == COLUMNS && new(&self.columns, self.number(at)) {
             *self = self.in_steps(self.step * 2);
         }
-        let number = self.number(at);
-        // Words may come late, of half minutes that were decided without a column.
-        let mut decided = Vec::new();
-        if new(&self.columns, number) {
-            let before = self.columns.range_mut(..number).next_back();
-            decided.extend(before.map(|(_, before)| std::mem::take(&mut before.after)));
-            self.columns.insert(number, Column::new(at));
-        }
-        decided.iter().flatten().for_each(|of| self.decide(of));
-        let column = self.columns.entry(number);
+        let column = self.columns.entry(self.number(at));
         let column = column.or_insert_with(|| Column::new(at));
         column.come(at);
         column
@@ -301,56 +285,19 @@ impl Timeline {
         self.columns.get_mut(&self.number(at))
     }
 
-    /// Decisions of half minutes: each goes to its column or, where there is none, stands after the one
-    /// before it.
-    pub fn decide(&mut self, decided: &Decided) {
-        let mut at = time::seconds(decided.first) / SUBFRAME;
-        let end = at + decided.half_minutes;
-        while at < end {
-            let number = at / self.step;
-            let next = self.columns.range(number + 1..).next();
-            let next = next.map_or(end, |(next, _)| next * self.step);
-            let before = self.columns.range_mut(..=number).next_back();
-            let to = match before {
-                Some((&own, column)) if own == number => {
-                    column.valves = worst(column.valves, Some(decided.valves));
-                    (number + 1) * self.step
-                }
-                Some((_, column)) => {
-                    column.after.push(Decided {
-                        first: time::at(at * SUBFRAME),
-                        half_minutes: end.min(next) - at,
-                        ..*decided
-                    });
-                    next
-                }
-                None => next,
-            };
-            at = to;
-        }
-    }
-
     /// The same in columns of so many half minutes, a multiple of the present step.
     fn in_steps(&self, step: u64) -> Timeline {
         let mut columns: BTreeMap<u64, Column> = BTreeMap::new();
         for (number, column) in &self.columns {
             let number = number * self.step / step;
-            let column = Column {
-                after: Vec::new(),
-                ..column.clone()
-            };
             match columns.get_mut(&number) {
-                Some(before) => before.join(column),
+                Some(before) => before.join(column.clone()),
                 None => {
-                    columns.insert(number, column);
+                    columns.insert(number, column.clone());
                 }
             }
         }
-        let mut all = Timeline { step, columns };
-        for decided in self.columns().flat_map(|column| &column.after) {
-            all.decide(decided);
-        }
-        all
+        Timeline { step, columns }
     }
 
     /// The same in at most so many columns, of a step that is easy to read.
@@ -461,65 +408,5 @@ mod tests {
         assert!(few.columns().all(|column| column.half_minutes == 10));
         assert_eq!(all.overview(500).step(), 1);
         assert_eq!(all.overview(1).len(), 1);
-    }
-
-    fn decided(first: u64, half_minutes: u64, valves: Valves) -> Decided {
-        Decided {
-            first: gst(first),
-            half_minutes,
-            recorded: half_minutes == 1,
-            valves: [valves; 2],
-        }
-    }
-
-    /// A column's half minute, its worst, and what stands after it: first half minutes and how many.
-    type Told = (Gst, Option<Valves>, Vec<(Gst, u64)>);
-
-    fn told(all: &Timeline) -> Vec<Told> {
-        let of = |column: &Column| {
-            let after = column.after.iter().map(|of| (of.first, of.half_minutes));
-            (
-                column.first,
-                column.valves.map(|all| all[0]),
-                after.collect(),
-            )
-        };
-        all.columns().map(of).collect()
-    }
-
-    // Decisions of half minutes without a column stand after the one before; where a column comes late, it takes its own.
-    #[test]
-    fn decisions() {
-        let mut all = Timeline::default();
-        all.decide(&decided(3, 2, Valves::Free));
-        all.at(gst(5));
-        all.decide(&decided(5, 1, Valves::Free));
-        all.at(gst(40));
-        all.decide(&decided(6, 34, Valves::Held));
-        all.decide(&decided(40, 1, Valves::Unmet));
-        let gap = (gst(6), 34);
-        let (free, unmet) = (Some(Valves::Free), Some(Valves::Unmet));
-        assert_eq!(
-            told(&all),
-            [(gst(5), free, vec![gap]), (gst(40), unmet, vec![])]
-        );
-        all.at(gst(9));
-        let (a, b) = ((gst(6), 3), (gst(10), 30));
-        let held = Some(Valves::Held);
-        let right = [
-            (gst(5), free, vec![a]),
-            (gst(9), held, vec![b]),
-            (gst(40), unmet, vec![]),
-        ];
-        assert_eq!(told(&all), right);
-        // In cells of ten those of a cell's own time are its own, with the worst.
-        let right = [
-            (gst(5), held, vec![(gst(10), 30)]),
-            (gst(40), unmet, vec![]),
-        ];
-        assert_eq!(told(&all.in_steps(10)), right);
-        let right = [(gst(5), held, vec![]), (gst(40), unmet, vec![])];
-        assert_eq!(told(&all.in_steps(40)), right);
-        assert_eq!(told(&all.in_steps(50)), [(gst(5), unmet, vec![])]);
     }
 }

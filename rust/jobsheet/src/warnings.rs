@@ -1,11 +1,9 @@
 //! What somebody should look at: on the front in the fitter's words, on the back in the engineer's.
 
-use crate::boom::{Decided, Valves};
 use crate::finding::{self, STORY};
 use crate::gathering::{self, Row, Wanting, LONG};
 use crate::history::{Became, Run, Tally, WordsChanged, WrongTags};
 use crate::refused::{Part, Refused};
-use crate::shut;
 use crate::time::Clock;
 use crate::vouched::Keys;
 use crate::words::{capital, count, issue, issues, span, which};
@@ -59,9 +57,6 @@ impl Warning {
 /// Lines of blocks on the front, the last; where there are more, all stand on the back.
 const FRONT_BLOCKS: usize = 10;
 
-/// Lines of half minutes in which nothing came, the first.
-const FRONT_GAPS: usize = 8;
-
 /// Satellites whose data changes are said one by one; with more, those of one time are joined.
 const SINGLE_ROWS: usize = 16;
 
@@ -82,7 +77,6 @@ pub fn front(run: &Run, clock: Clock) -> Vec<Warning> {
     all.extend(others_refused(run));
     all.extend(without_keys(run, clock));
     all.extend(silent(run, clock));
-    all.extend(nothing_came(run, clock));
     all.extend(pages_lost(run, clock));
     all.extend(no_place(run, clock));
     all.extend(long_messages(run, clock));
@@ -369,62 +363,6 @@ fn silent(run: &Run, clock: Clock) -> Option<Warning> {
             },
         )
     })
-}
-
-/// Half minutes in which nothing came, with what the boom did meanwhile.
-fn nothing_came(run: &Run, clock: Clock) -> Option<Warning> {
-    let gaps = &run.gaps;
-    let rows = gaps.kept.iter().take(FRONT_GAPS).map(|gap| {
-        let (first, last) = (gap.first()?.first, gap.last()?.last());
-        let half_minutes = gap.iter().map(|decided| decided.half_minutes).sum();
-        let when = match first == last {
-            true => clock.say(first),
-            false => clock.range(first, last),
-        };
-        let valves = |n: usize| valves_in(gap, n);
-        Some(vec![
-            when,
-            shut::minutes(half_minutes),
-            valves(0),
-            valves(1),
-        ])
-    });
-    let rows: Vec<Vec<String>> = rows.flatten().collect();
-    let others = match gaps.kept.len() as u64 + gaps.left_out - rows.len() as u64 {
-        0 => String::new(),
-        n => format!(" {n} more are not shown."),
-    };
-    (!rows.is_empty()).then(|| Warning {
-        table: Some(Table {
-            head: vec!["Nothing came", "For", "Centre valves", "Outer valves"],
-            rows,
-            bar: None,
-        }),
-        ..Warning::new(
-            Grade::Note,
-            "Nothing came for a while.".into(),
-            format!("The boom decides on, and marks get older meanwhile.{others}"),
-        )
-    })
-}
-
-/// What a group of valves was in a gap: `free`, or `shut 1 minute, then free`.
-fn valves_in(gap: &[Decided], n: usize) -> String {
-    let mut parts: Vec<(Valves, u64)> = Vec::new();
-    for decided in gap {
-        match parts.last_mut() {
-            Some((valves, sum)) if *valves == decided.valves[n] => *sum += decided.half_minutes,
-            _ => parts.push((decided.valves[n], decided.half_minutes)),
-        }
-    }
-    let told = |(k, (valves, half_minutes)): (usize, &(Valves, u64))| {
-        let word = valves.words().0;
-        match k + 1 == parts.len() {
-            true => word.into(),
-            false => format!("{word} for {}", shut::minutes(*half_minutes)),
-        }
-    };
-    Vec::from_iter(parts.iter().enumerate().map(told)).join(", then ")
 }
 
 /// Sub-frames of which fields were lost: both halves in one.

@@ -3,7 +3,6 @@
 mod common;
 
 use common::{history, recording, recordings};
-use jobsheet::csv::Kind;
 use jobsheet::history::{History, WordsChanged, EVENTS};
 use jobsheet::receiver::{Answer, Receiver};
 use jobsheet::recording::{Record, RECORD_LEN};
@@ -171,8 +170,7 @@ fn findings() {
         &[
             "WRONG DATA came in from 00:12:30 to 00:17:00 for 4 of 12 satellites (E04, E11, E19 and E27). \
              It was not taken: what was marked before stayed.",
-            "All valves were free from 00:01:00 on: never fewer than 12 satellites had marks of the last 5 \
-             minutes, and 4 are needed.",
+            "From 00:01:00 on never fewer than 12 satellites had a mark of the last 5 minutes; the boom needs 4.",
             "Do: keep the recording.",
             "repeater",
         ],
@@ -203,9 +201,8 @@ fn findings() {
         &[
             "THE SYSTEM WITHDREW ITS KEYS at 2017-10-20 00:02:00. New ones were taken at 2017-10-20 00:04:30.",
             "3 satellites with data, all marked. E01 to E08 sent none.",
-            "All valves stayed shut all the time (66.5 minutes): at no time did 4 satellites have marks of the \
-             last 10 minutes.",
-            "Do: before you spray, see that both rows of the boom below end in free (light, or F).",
+            "At no time did 4 satellites have a mark of the last 5 minutes; the boom needs 4.",
+            "Do: before you spray, see that the first row below ends in yes (light, or y): 4 satellites or more.",
         ],
     );
     let fitter = records("fitter");
@@ -275,7 +272,7 @@ fn findings() {
         &[
             "DATA OUT OF DATE for 1 of 12 satellites (E09). Not heard any more when the system sent newer \
              data, since 00:20:30",
-            "never fewer than 11 satellites had marks of the last 5 minutes",
+            "never fewer than 11 satellites",
         ],
     );
     assert!(!few[0].contains("WRONG"), "{few:?}");
@@ -329,61 +326,11 @@ fn findings() {
     // All data right, but of two satellites.
     says(
         &boxes(&recording("week_change")),
-        &["All data heard was authentic. THE BOOM STAYED SHUT."],
+        &["All data heard was authentic. TOO FEW SATELLITES for the boom, all the time."],
     );
     // Words without a tag for them.
     let few: Vec<u8> = fitter[..140].concat();
     says(&boxes(&few), &["NO DATA WAS PROVED."]);
-}
-
-// What the box says of the boom, for each cause.
-#[test]
-fn boom() {
-    let whole = |bytes: &[u8]| boxes(bytes).concat();
-    let sky = whole(&common::lost_sky(16..46));
-    let told = "All data heard was authentic. THE BOOM SHUT for 10 minutes. 12 satellites with data, all marked. All \
-        valves were free from 00:01:00 on, then shut again. Centre valves were shut for 5 minutes, from 00:18:00 to \
-        00:22:30: fewer than 4 satellites had marks of the last 10 minutes. Outer valves were shut for 10 minutes, from \
-        00:13:00 to 00:22:30: fewer than 4 satellites had marks of the last 5 minutes. The fourth satellite had last been \
-        confirmed at 00:07:30; centre valves go on for 10 minutes from then, outer ones for 5. Do: look at the antenna";
-    assert!(sky.starts_with(told), "{sky}");
-    let back = whole(&common::lost_sky(16..37));
-    let told = "Centre valves were shut for 1.5 minutes, from 00:18:00 to 00:19:00: for half a minute fewer than 4 \
-        satellites had marks of the last 10 minutes; for 1 minute enough had them again, but a valve that shut stays shut \
-        for two further decisions. Outer valves were shut for 5.5 minutes, from 00:13:00 to 00:18:00: fewer than";
-    assert!(back.contains(told), "{back}");
-    let stop = whole(&common::stop_in_between());
-    let told = "All valves were free from 00:01:00 on, then shut again. All valves were shut for 15 minutes, from 00:15:00 \
-        to the end: the receiver was stopped. Do: do not spray";
-    assert!(stop.contains(told), "{stop}");
-    let twice = whole(&common::lost_sky_twice());
-    let told = "THE BOOM'S OUTER VALVES SHUT for 3.5 minutes.";
-    assert!(twice.contains(told), "{twice}");
-    let told = "All valves were free from 00:01:00 on: never fewer than 12 satellites had marks of the last 10 minutes, and 4 \
-        are needed. Outer valves were shut for 3.5 minutes, 2 times, the longest from 00:06:30 to 00:08:00: fewer than 4 \
-        satellites had marks of the last 5 minutes. The fourth satellite had last been confirmed at 00:01:00; they go on \
-        for 5 minutes from then.";
-    assert!(twice.contains(told), "{twice}");
-    let late = whole(&common::late_keys());
-    let told = "All valves were free from 00:04:30 on: never fewer";
-    assert!(late.contains(told), "{late}");
-    let keyless = whole(&common::without_block(7));
-    let told = "All valves stayed shut all the time (30 minutes): at no time did 4 satellites have marks of the last 10 minutes.";
-    assert!(keyless.contains(told), "{keyless}");
-    let full = whole(&recording("full_sky"));
-    let told = "All valves were free from 00:00:30 on: never fewer than 36 satellites had marks of the last 5 minutes";
-    assert!(full.contains(told), "{full}");
-    // The part after a start has its own sentence: it begins shut.
-    let again = boxes(&common::start_in_between());
-    let told = "All valves were free from 00:11:30 on: never fewer";
-    assert!(again[1].contains(told), "{again:?}");
-    // What is said is said once.
-    for words in [sky, back, stop, twice, late, keyless, full] {
-        let (_, text) = words.split_once("All valves").unwrap();
-        let mut parts = Vec::from_iter(text.split(". "));
-        parts.sort();
-        assert!(parts.windows(2).all(|two| two[0] != two[1]), "{words}");
-    }
 }
 
 // The box does not call data authentic that could be compared with nothing.
@@ -509,21 +456,11 @@ fn legend() {
         let key = |part: &str| part.split_once('"').unwrap().0.to_string();
         Vec::from_iter(legend.split("href=\"#").skip(1).map(key))
     };
-    let valves = ["valvefree", "valveunmet"];
-    let signs = ["authentic", "wrong", "refused", "changed", "selfheard"];
-    assert_eq!(keys("fitter"), [&valves[..], &signs].concat());
+    assert_eq!(
+        keys("fitter"),
+        ["authentic", "wrong", "refused", "changed", "selfheard"]
+    );
     assert!(keys("lost_keys").contains(&"missing".into()));
-    let of = |bytes: &[u8]| {
-        let page = html::page(&Sheet::of("x", &history(bytes), None));
-        let parts = Vec::from_iter(page.split("href=\"#valve").skip(1));
-        Vec::from_iter(
-            parts
-                .iter()
-                .map(|part| part.split_once('"').unwrap().0.to_string()),
-        )
-    };
-    assert_eq!(of(&common::lost_sky(16..37)), ["free", "unmet", "held"]);
-    assert_eq!(of(&common::stop_in_between()), ["free", "unmet", "stopped"]);
 }
 
 // A tag that matches data which others call wrong: the page does not call that data proved. One of the
@@ -619,7 +556,6 @@ fn many_events() {
                 first: Err(Refusal::VerdictBad),
                 second: Ok(()),
                 tags: Vec::new(),
-                decided: Vec::new(),
             };
             (0..200).for_each(|_| all.note(&record, &no, receiver.core()));
         }
@@ -747,7 +683,7 @@ fn lost_fields() {
         let page = html::page(&sheet);
         assert!(page.contains("with bits missing</dd>"), "{name}");
         assert!(text::sheet(&sheet).contains(": missing"));
-        let csv = common::rows(&recording(name), Kind::Tags);
+        let csv = common::rows(&recording(name));
         assert!(csv.contains(",8,bits missing,"), "{name}");
     }
     // In a strip such a tag shows where no other came.
@@ -908,7 +844,7 @@ fn several_starts() {
     assert!(sheet("nominal").all_parts.is_none());
     // Neighbours that come to the same have one line.
     let thrice = Sheet::of("x", &history(&recording("week_change").repeat(3)), None);
-    let told = "Parts 1 to 3: All data heard was authentic. THE BOOM STAYED SHUT.";
+    let told = "Parts 1 to 3: All data heard was authentic. TOO FEW SATELLITES for the boom, all the time.";
     assert_eq!(thrice.all_parts.unwrap().text[1..], [told]);
 }
 
@@ -988,7 +924,7 @@ fn hash_of_the_recording() {
             .collect();
         assert_eq!(sheet.sha256, right);
         let foot = format!(
-            "jobsheet {0}, osnma {0}, valve_gate {0} \u{b7} recording's SHA-256 {right}",
+            "jobsheet {0}, osnma {0} \u{b7} recording's SHA-256 {right}",
             env!("CARGO_PKG_VERSION")
         );
         let page = html::page(&sheet);

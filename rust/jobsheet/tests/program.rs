@@ -3,7 +3,6 @@
 mod common;
 
 use common::{history, recording, rows};
-use jobsheet::csv::Kind;
 use jobsheet::sheet::Sheet;
 use jobsheet::{html, text};
 use std::fs::{self, File};
@@ -54,10 +53,7 @@ fn forms_and_outputs() {
     let output = jobsheet(&folder, &["--csv", "run.rec", "-o", "tags.csv"]);
     assert!(output.status.success());
     let written = fs::read_to_string(folder.join("tags.csv")).unwrap();
-    assert_eq!(written, rows(&bytes, Kind::Tags));
-    let output = jobsheet(&folder, &["--boom", "run.rec"]);
-    assert!(output.status.success());
-    assert_eq!(output.stdout, rows(&bytes, Kind::Boom).as_bytes());
+    assert_eq!(written, rows(&bytes));
     let output = jobsheet(&folder, &["run.rec", "--text", "--zone", "-3"]);
     let local = Sheet::of("run.rec", &all, "-3".parse().ok());
     assert_eq!(output.stdout, text::sheet(&local).as_bytes());
@@ -170,7 +166,7 @@ fn cut_short() {
     let output = jobsheet(&folder, &["cut.rec", "--csv"]);
     assert_eq!(
         (output.status.code(), output.stdout),
-        (Some(3), rows(cut, Kind::Tags).into_bytes())
+        (Some(3), rows(cut).into_bytes())
     );
     let output = jobsheet(&folder, &["cut.rec", "--text"]);
     assert_eq!(output.status.code(), Some(3));
@@ -299,10 +295,7 @@ fn devices_and_pipes() {
     for name in ["pipe", "to_pipe"] {
         for (form, right) in [
             (&[][..], &page),
-            (
-                &["--csv"],
-                &rows(&recording("nominal"), Kind::Tags).into_bytes(),
-            ),
+            (&["--csv"], &rows(&recording("nominal")).into_bytes()),
         ] {
             let args = [&["run.rec", "-o", name], form].concat();
             let mut child = as_ordinary_user(&folder, &args)
@@ -333,7 +326,6 @@ fn closed_pipe() {
     for args in [
         &["run.rec", "--text"][..],
         &["run.rec", "--csv"],
-        &["run.rec", "--boom"],
         &["run.rec", "-o", "-"],
         &["--help"],
     ] {
@@ -398,7 +390,7 @@ fn bounded_memory() {
 #[test]
 fn usage() {
     let folder = folder("usage");
-    let wrong: [&[&str]; 10] = [
+    let wrong: [&[&str]; 9] = [
         &["a", "--zone"],
         &["a", "--zone", "CET"],
         &["a", "--zone", "+1", "--zone", "+2"],
@@ -407,7 +399,6 @@ fn usage() {
         &["a", "-o"],
         &["a", "--pdf"],
         &["a", "--text", "--csv"],
-        &["a", "--boom", "--csv"],
         &["a", "-o", "x", "-o", "y"],
     ];
     for args in wrong {

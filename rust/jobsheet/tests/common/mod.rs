@@ -3,7 +3,7 @@
 // Each test file uses some of this.
 #![allow(dead_code)]
 
-use jobsheet::csv::{Kind, Rows};
+use jobsheet::csv::Rows;
 use jobsheet::history::History;
 use jobsheet::recording::RECORD_LEN;
 use jobsheet::sheet::{RunSheet, Sheet};
@@ -17,7 +17,6 @@ use second_receiver::verdict::WaitingMessage;
 use second_receiver::Receiver;
 use signal::scenario::{self, SEED};
 use std::collections::BTreeMap;
-use std::ops::Range;
 use std::sync::{Arc, OnceLock};
 
 /// Chains of a million slots and more, which other tests walk.
@@ -45,15 +44,6 @@ fn built() -> Vec<(String, Vec<u8>)> {
             ("late again".to_string(), late_again()),
             ("no new keys".to_string(), withdrawn(Some(6))),
             ("new keys denied".to_string(), withdrawn(None)),
-            ("lost sky".to_string(), lost_sky(16..46)),
-            ("sky back at once".to_string(), lost_sky(16..37)),
-            ("lost sky twice".to_string(), lost_sky_twice()),
-            ("nothing comes".to_string(), nothing_comes(16..46)),
-            ("gap while held".to_string(), gap_while_held()),
-            ("stop in between".to_string(), stop_in_between()),
-            ("start in between".to_string(), start_in_between()),
-            ("start after stop".to_string(), start_after_stop()),
-            ("gap after start".to_string(), gap_after_start()),
         ])
         .map(|(name, mut bytes)| {
             bytes.truncate(bytes.len() / RECORD_LEN * RECORD_LEN);
@@ -139,16 +129,11 @@ pub fn late_keys() -> Vec<u8> {
         _ => false,
     };
     let kept = records().filter(|r| r[0] == 1 || [2, 3].contains(&r[0]) && heard(r));
-    with_verdict(&Vec::from_iter(kept.flatten().copied()))
-}
-
-/// Records of the fitter's half hour without a verdict, and after the message with the keys is whole a good one.
-fn with_verdict(kept: &[u8]) -> Vec<u8> {
-    let held = Held::after_each(kept);
+    let kept: Vec<u8> = kept.flatten().copied().collect();
+    let held = Held::after_each(&kept);
     let whole = held.iter().position(|held| held.message.is_some()).unwrap() + 1;
     let (before, after) = kept.split_at(whole * RECORD_LEN);
-    let fitter = recording("fitter");
-    let verdict = fitter.chunks_exact(RECORD_LEN).find(|r| r[0] == 4).unwrap();
+    let verdict = records().find(|r| r[0] == 4).unwrap();
     [before, verdict, after].concat()
 }
 
@@ -203,110 +188,6 @@ pub fn withdrawn(subframes: Option<usize>) -> Vec<u8> {
     bytes
 }
 
-/// The half minute of a record of the fitter's half hour, from 0.
-fn half_minute(r: &[u8]) -> u32 {
-    (subframe_time(r) - (947 << 20 | 432_000)) / 30
-}
-
-/// The fitter's half hour in which nothing of the sky is received in these half minutes: one satellite's fields are all
-/// marked as lost, and no word comes.
-pub fn lost_sky(when: Range<u32>) -> Vec<u8> {
-    lost_in(&recording("fitter"), when)
-}
-
-fn lost_in(bytes: &[u8], when: Range<u32>) -> Vec<u8> {
-    let records = bytes.chunks_exact(RECORD_LEN);
-    let lost = |r: &[u8]| [2, 3].contains(&r[0]) && when.contains(&half_minute(r));
-    let kept = records.filter(|r| !lost(r) || r[..2] == [3, 1]);
-    let marked = kept.flat_map(|r| {
-        let mut r = r.to_vec();
-        if lost(&r) {
-            r[0] = 6;
-            r[6..].fill(0);
-        }
-        r
-    });
-    marked.collect()
-}
-
-/// The same twice, the second time shorter.
-pub fn lost_sky_twice() -> Vec<u8> {
-    lost_in(&lost_sky(3..17), 23..36)
-}
-
-/// The fitter's half hour in which nothing is recorded in these half minutes.
-pub fn nothing_comes(when: Range<u32>) -> Vec<u8> {
-    without(&recording("fitter"), when)
-}
-
-fn without(bytes: &[u8], when: Range<u32>) -> Vec<u8> {
-    let records = bytes.chunks_exact(RECORD_LEN);
-    let kept = records.filter(|r| ![2, 3, 6].contains(&r[0]) || !when.contains(&half_minute(r)));
-    kept.flatten().copied().collect()
-}
-
-/// The sky is lost and comes back for a half minute, then nothing is recorded: valves that wait are freed meanwhile.
-pub fn gap_while_held() -> Vec<u8> {
-    without(&lost_sky(5..16), 17..40)
-}
-
-/// The fitter's half hour in which an emergency message comes in the 31st half minute, a block from each satellite.
-pub fn stop_in_between() -> Vec<u8> {
-    let (mut bytes, other) = (recording("fitter"), recording("four_stopped"));
-    // The other tree's root, under which the message is proved, and the 14 bytes of HKROOT after its header.
-    bytes[33..65].copy_from_slice(&other[33..65]);
-    let hkroot = |r: &[u8]| Vec::from_iter((1..15).map(|n| r[6 + 5 * n]));
-    let blocks = other
-        .chunks_exact(RECORD_LEN)
-        .filter(|r| r[0] == 3 && r[11] >> 4 >= 12);
-    let mut blocks = blocks.map(hkroot);
-    for r in bytes.chunks_exact_mut(RECORD_LEN) {
-        if r[0] == 3 && half_minute(r) == 30 {
-            for (n, byte) in (1..15).zip(blocks.next().into_iter().flatten()) {
-                r[6 + 5 * n] = byte;
-            }
-        }
-    }
-    assert_eq!(blocks.next(), None);
-    bytes
-}
-
-/// A recording of the fitter's half hour with its start again before a half minute, and a verdict on the keys' message after
-/// it.
-fn started_again(bytes: &[u8], at: u32) -> Vec<u8> {
-    let start = &bytes[..RECORD_LEN];
-    let records = || bytes.chunks_exact(RECORD_LEN);
-    let middle = records().position(|r| [2, 3].contains(&r[0]) && half_minute(r) == at);
-    let (before, after) = bytes.split_at(middle.unwrap() * RECORD_LEN);
-    [before, &with_verdict(&[start, after].concat())].concat()
-}
-
-/// The fitter's half hour with another start in its middle.
-pub fn start_in_between() -> Vec<u8> {
-    started_again(&recording("fitter"), 20)
-}
-
-/// The same after an emergency message; a refused start comes before it.
-pub fn start_after_stop() -> Vec<u8> {
-    let bytes = started_again(&stop_in_between(), 40);
-    let records = || bytes.chunks_exact(RECORD_LEN);
-    let again = records().skip(1).position(|r| r[0] == 1).unwrap() + 1;
-    let mut refused = bytes[..RECORD_LEN].to_vec();
-    refused[1] = 37;
-    let (before, after) = bytes.split_at(again * RECORD_LEN);
-    [before, &refused, after].concat()
-}
-
-/// The fitter's half hour with a start in it after which nothing is recorded for four minutes.
-pub fn gap_after_start() -> Vec<u8> {
-    let bytes = started_again(&recording("fitter"), 20);
-    let records = bytes.chunks_exact(RECORD_LEN).enumerate();
-    let again = records.clone().skip(1).find(|(_, r)| r[0] == 1).unwrap().0;
-    let kept =
-        records.filter(|(n, r)| *n <= again || ![2, 3].contains(&r[0]) || half_minute(r) >= 28);
-    kept.flat_map(|(_, r)| r).copied().collect()
-}
-
 /// The fitter's half hour in which the chip says no whenever the message with the keys is whole.
 pub fn chip_says_no() -> Vec<u8> {
     let bytes = recording("fitter");
@@ -342,10 +223,9 @@ pub fn history(recording: &[u8]) -> History {
 }
 
 /// The rows of a recording, through the program's own library.
-pub fn rows(recording: &[u8], kind: Kind) -> String {
-    let mut rows = Rows::new(Vec::new(), kind);
-    let history = jobsheet::replay(recording, |history| rows.note(history)).unwrap();
-    rows.note(&history);
+pub fn rows(recording: &[u8]) -> String {
+    let mut rows = Rows::new(Vec::new());
+    jobsheet::replay(recording, |history| rows.note(history)).unwrap();
     String::from_utf8(rows.finish().unwrap()).unwrap()
 }
 

@@ -539,6 +539,10 @@ impl Reads for Contrary<'_> {
         self.0.message()
     }
 
+    fn four(&self, limit: u32) -> bool {
+        self.0.four(limit)
+    }
+
     fn progress(&self) -> Vec<Progress> {
         let contrary = |of: Progress| match of.missing {
             Some(missing) => Progress {

@@ -2,7 +2,6 @@
 //! the tag records, the reads, the strips as they stand in the page, and the chain in force.
 
 mod back;
-mod boom;
 #[path = "../common/mod.rs"]
 mod common;
 mod gathering;
@@ -60,7 +59,7 @@ fn csv_has_every_tag_record() {
     let mut records = 0;
     let mut sums: BTreeMap<&str, usize> = BTreeMap::new();
     for (name, bytes, _) in shown() {
-        let text = rows(bytes, csv::Kind::Tags);
+        let text = rows(bytes);
         let mut rows = text.lines();
         assert_eq!(rows.next(), Some(csv::HEAD));
         for line in lines(name) {
@@ -185,6 +184,10 @@ impl Reads for Given {
         None
     }
 
+    fn four(&self, _: u32) -> bool {
+        false
+    }
+
     fn progress(&self) -> Vec<Progress> {
         Vec::new()
     }
@@ -219,7 +222,6 @@ fn same_iodnav_other_bits() {
         first: Ok(()),
         second: Ok(()),
         tags: vec![*record.unwrap()],
-        decided: Vec::new(),
     };
     all.note(&subframe, &answer, &Given(other.clone()));
     let sets = &all.runs[0].marked[&18].kept;
@@ -475,8 +477,6 @@ struct Expected {
 impl Expected {
     fn of(lines: &[Line], run: &[u8]) -> Expected {
         let mut all = Expected::default();
-        // The latest sub-frame that was noted or came to a stopped core.
-        let mut now = None;
         for (line, bytes) in lines.iter().zip(run.chunks_exact(RECORD_LEN)) {
             for t in &line.tags {
                 let time = u32::from_be_bytes([t[8], t[9], t[10], t[11]]);
@@ -484,7 +484,6 @@ impl Expected {
             }
             match Record::of(bytes.try_into().unwrap()) {
                 Record::Subframe { prn, time, .. } if ![2, 3, 4].contains(&line.first) => {
-                    now = Some(time);
                     all.times.insert(time.bits());
                     all.heard.insert((prn, time.bits()));
                     if ![0, 4].contains(&line.second) {
@@ -493,10 +492,6 @@ impl Expected {
                     let sets = line.after.sets.iter();
                     let marked = sets.map(|(prn, set)| (*prn, set.1)).collect();
                     all.marked.insert(time.bits(), marked);
-                }
-                Record::Subframe { time, .. } if line.first == 4 && Some(time) > now => {
-                    now = Some(time);
-                    all.times.insert(time.bits());
                 }
                 Record::Word { prn, time, .. } if line.first == 0 => {
                     all.times.insert(time.bits());
@@ -627,6 +622,146 @@ fn attribute(text: &str, name: &str) -> Option<usize> {
         .0
         .parse()
         .ok()
+}
+
+/// A row over the strips, as it is drawn: of each cell how many satellites were marked lately, and whether four.
+fn drawn_lately(drawings: &str, limit: u64) -> Vec<Option<(usize, bool)>> {
+    let mut shown = Vec::new();
+    let mut rest = drawings;
+    while let Some((row, after)) = between(rest, &format!("data-lately=\"{limit}\""), "</g>") {
+        for rect in row.split("<rect ").skip(1) {
+            let count = attribute(rect, "data-count");
+            let four = between(rect, "data-four=\"", "\"").unwrap().0;
+            // Dark, light or with a border; in words where there is room.
+            let class = between(rect, "class=\"", "\"").unwrap().0;
+            let classes: &[&str] = match four {
+                "no" => &["few"],
+                "yes" => &["just", "enough"],
+                _ => &["none"],
+            };
+            assert!(classes.contains(&class), "{rect}");
+            assert_eq!(class == "just", four == "yes" && count == Some(4), "{rect}");
+            let told = between(rect, "<text ", "</text>").unwrap().0;
+            let told = told.split_once('>').unwrap().1;
+            let figure = count.map_or(String::new(), |n| n.to_string());
+            let cells = attribute(rect, "data-cells").unwrap();
+            let in_words = count.is_some() && told == format!("{four}, {figure}");
+            let in_short = (cells < 5 || count.is_none()) && told == figure;
+            assert!(in_words || in_short, "{rect}");
+            shown.extend(vec![count.map(|n| (n, four == "yes")); cells]);
+        }
+        rest = after;
+    }
+    shown
+}
+
+/// The same in the text.
+fn written_lately(text: &str, minutes: u64) -> (String, String) {
+    let (mut yes, mut figures) = (String::new(), String::new());
+    let mut lines = text.lines();
+    while let Some(line) = lines.next() {
+        let Some(row) = line.strip_prefix(&format!("  {minutes:>2}m  ")) else {
+            continue;
+        };
+        let end = format!("  4 marked, {minutes} min");
+        yes.push_str(row.strip_suffix(&end).unwrap());
+        let row = lines.next().unwrap().strip_prefix("       ").unwrap();
+        figures.push_str(row.strip_suffix("  so many").unwrap());
+    }
+    (yes, figures)
+}
+
+// The rows over the strips: whether four satellites were marked in the last 5 and 10 minutes, and how many. The core
+// says yes exactly where there are four by the second receiver's reads.
+#[test]
+fn marked_lately() {
+    let mut seen = BTreeSet::new();
+    for (name, bytes, all) in shown() {
+        for run in 0..all.runs.len() {
+            let right = Expected::of_run(name, bytes, all, run);
+            let (page, text) = run_page(name, all, run);
+            let step = sheet_of(name, all, run).runs[0].overview.step;
+            let (front, detail) = drawings(&page);
+            for limit in [10, 20] {
+                for (drawings, step) in [(front, step), (detail, 1)] {
+                    let with_four = |count: Option<usize>| count.map(|n| (n, n >= 4));
+                    let right = right.lately(limit, step).into_iter().map(with_four);
+                    let right = Vec::from_iter(right);
+                    let shown = drawn_lately(drawings, limit);
+                    assert_eq!(shown, right, "{name}, run {run}, {limit}");
+                    seen.extend(shown);
+                }
+                // Several half minutes a cell, then each.
+                let right = match step {
+                    1 => right.lately(limit, 1),
+                    _ => [right.lately(limit, step), right.lately(limit, 1)].concat(),
+                };
+                let sign = |count: &Option<usize>| match count {
+                    None => ' ',
+                    Some(0..4) => 'n',
+                    Some(_) => 'y',
+                };
+                let digit = |n: usize| char::from_digit(n as u32, 10).unwrap_or('+');
+                let figure = |count: &Option<usize>| count.map_or(' ', digit);
+                let right = (
+                    right.iter().map(sign).collect(),
+                    right.iter().map(figure).collect(),
+                );
+                assert_eq!(written_lately(&text, limit / 2), right, "{name}, run {run}");
+            }
+        }
+    }
+    assert!(seen.len() > 8, "{seen:?}");
+    assert!(seen.contains(&Some((3, false))) && seen.contains(&Some((4, true))));
+}
+
+/// A core that says the contrary of four satellites.
+struct Contrary<'a>(&'a osnma::Core);
+
+impl Reads for Contrary<'_> {
+    fn set(&self, prn: u8) -> Option<AuthenticSet> {
+        self.0.set(prn)
+    }
+
+    fn message(&self) -> Option<WaitingMessage> {
+        self.0.message()
+    }
+
+    fn four(&self, limit: u32) -> bool {
+        !self.0.four(limit)
+    }
+
+    fn progress(&self) -> Vec<Progress> {
+        self.0.progress().collect()
+    }
+}
+
+// Yes and no are the core's, not the count's: where the core says the contrary, rows and box say it too.
+#[test]
+fn four_is_the_cores_answer() {
+    let bytes = recording("fitter");
+    let (mut receiver, mut all) = (Receiver::new(), History::default());
+    for record in Reader::new(&bytes[..]) {
+        let record = record.unwrap();
+        let answer = receiver.answer(&record);
+        all.note(&record, &answer, &Contrary(receiver.core()));
+    }
+    let right = history(&bytes);
+    let (page, text) = run_page("fitter", &all, 0);
+    let (right_page, right_text) = run_page("fitter", &right, 0);
+    for limit in [10, 20] {
+        let row = drawn_lately(drawings(&page).0, limit).into_iter();
+        let contrary = row.map(|cell| cell.map(|(n, four)| (n, !four)));
+        let right = drawn_lately(drawings(&right_page).0, limit);
+        assert_eq!(Vec::from_iter(contrary), right);
+        let (yes, figures) = written_lately(&text, limit / 2);
+        let (right_yes, right_figures) = written_lately(&right_text, limit / 2);
+        let contrary = yes.replace('y', "-").replace('n', "y").replace('-', "n");
+        assert_eq!((contrary, figures), (right_yes, right_figures));
+    }
+    let words = sheet_of("fitter", &all, 0).runs[0].finding.text.join(" ");
+    let told = "it had them from 00:00:00 on, but in 58 half minutes";
+    assert!(words.contains(told), "{words}");
 }
 
 // The line under the cells: when the satellite was heard itself.
@@ -842,6 +977,77 @@ fn stories(lines: &[Line], run: &[u8]) -> (Story, Story) {
     wrong.at_end = marked.clone();
     old.at_end = marked.clone();
     (wrong, old)
+}
+
+// What the box says of the boom: the counts of the first row, at the end of each half minute.
+#[test]
+fn box_counts_for_the_boom() {
+    let (mut never, mut always, mut short) = (0, 0, 0);
+    for (name, bytes, all) in shown() {
+        for run in 0..all.runs.len() {
+            let right = Expected::of_run(name, bytes, all, run);
+            let shown = &sheet_of(name, all, run).runs[0];
+            let words = shown.finding.text.join(" ");
+            if !words.contains("the boom needs 4") && !words.contains("The boom needs 4") {
+                continue;
+            }
+            // Where all data is right, the title says it too.
+            let titled = |few: Option<String>| {
+                let title = &shown.finding.title;
+                let told = title.split_once(" TOO FEW SATELLITES for the boom");
+                let told = told.map(|(_, when)| when.trim_end_matches('.').to_string());
+                assert!(
+                    !title.starts_with("All data") || told == few,
+                    "{name}: {title}"
+                );
+            };
+            let times = right.marked.keys().map(|time| Gst::from_bits(*time));
+            let counts = right.lately(10, 1).into_iter().flatten();
+            let all: Vec<(Gst, usize)> = times.zip(counts).collect();
+            let Some(since) = all.iter().position(|(_, n)| *n >= 4) else {
+                assert!(
+                    words.contains("At no time did 4 satellites have a mark"),
+                    "{name}: {words}"
+                );
+                titled(Some(", all the time".into()));
+                never += 1;
+                continue;
+            };
+            let fewest = all[since..].iter().map(|(_, n)| *n).min().unwrap();
+            let few: Vec<Gst> = all[since..]
+                .iter()
+                .filter(|(_, n)| *n < 4)
+                .map(|(at, _)| *at)
+                .collect();
+            let from = shown.clock.say(all[since].0);
+            match (few.first(), few.last()) {
+                (Some(first), Some(last)) => {
+                    let span = shown.clock.span(*first, *last);
+                    let told = format!("from {from} on, but in {} half minute", few.len());
+                    assert!(
+                        words.contains(&told) && words.contains(&span),
+                        "{name}: {words}"
+                    );
+                    assert!(
+                        words.contains(&format!("fewer, {fewest} at the least")),
+                        "{name}: {words}"
+                    );
+                    titled(Some(format!(" {span}")));
+                    short += 1;
+                }
+                _ => {
+                    let told = format!("From {from} on never fewer than {fewest} satellites");
+                    assert!(words.contains(&told), "{name}: {words}");
+                    titled(None);
+                    always += 1;
+                }
+            }
+        }
+    }
+    assert!(
+        never > 0 && always > 0 && short > 0,
+        "{never}, {always}, {short}"
+    );
 }
 
 // Events: from verdicts and sub-frames by the second receiver's answers.

@@ -184,7 +184,7 @@ fn head_and_strips() {
             let marked: Vec<Option<u16>> = strip.cells.iter().map(|cell| cell.marked).collect();
             assert_eq!(marked, begins, "{name}, {e}");
             let begins = || begins.iter().flatten();
-            let lines = row.matches("class=\"marked\"").count();
+            let lines = row.matches("class=\"held\"").count();
             assert_eq!(lines, begins().count(), "{name}, {e}");
             // Where there is no room for two numbers the first stands.
             let labels = texts(row, "set");
