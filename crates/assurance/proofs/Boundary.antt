@@ -28,7 +28,7 @@ use Rattle.osnma.proofs.osnma_regions_four.Reads as four-reads
 use Rattle.osnma.proofs.osnma_regions_four.Kinds as four-kinds
 use Rattle.osnma.proofs.osnma_regions_progress.Reads as progress-reads
 use Rattle.osnma.proofs.osnma_regions_progress.Kinds as progress-kinds
-use Rattle.assurance.proofs.Contracts.{word_before, word_given, word_after, verdict_before, verdict_given, verdict_after}
+use Rattle.assurance.specs.Run.{word_before, word_given, word_after, verdict_before, verdict_given, verdict_after}
 
 -- ---- start: its number, and all sixteen regions at exit
 
@@ -52,7 +52,7 @@ pub word_asks_nothing : (κs : Lfts 5) (args : Dens κs word-kinds.ps) → word-
 word_asks_nothing κs args = tt
 
 abbrev word_rule : (κs : Lfts 5) (args : Dens κs word-kinds.ps) (r : ℕ) (last : AtExit (ended_of 5 word-kinds.ps word-kinds.r) κs) → Type 0
-word_rule κs args r last = (s : State) → told r (word_after κs args last s) ≡ word_call (word_before κs args s) (word_given κs args)
+word_rule κs args r last = (s : State) → told r (word_after args last s) ≡ word_call (word_before args s) (word_given args)
 
 pub word_is : (κs : Lfts 5) (args : Dens κs word-kinds.ps) (r : ℕ) (last : AtExit (ended_of 5 word-kinds.ps word-kinds.r) κs) → word-reads.Learnt κs args r last → word_rule κs args r last
 word_is κs args r last d = d
@@ -82,7 +82,7 @@ pub verdict_asks_nothing : (κs : Lfts 10) (args : Dens κs verdict-kinds.ps) �
 verdict_asks_nothing κs args = tt
 
 abbrev verdict_rule : (κs : Lfts 10) (args : Dens κs verdict-kinds.ps) (r : ℕ) (last : AtExit (ended_of 10 verdict-kinds.ps verdict-kinds.r) κs) → Type 0
-verdict_rule κs args r last = (s : State) → told r (verdict_after κs args last s) ≡ verdict_call (verdict_before κs args s) (verdict_given κs args)
+verdict_rule κs args r last = (s : State) → told r (verdict_after args last s) ≡ verdict_call (verdict_before args s) (verdict_given args)
 
 pub verdict_is : (κs : Lfts 10) (args : Dens κs verdict-kinds.ps) (r : ℕ) (last : AtExit (ended_of 10 verdict-kinds.ps verdict-kinds.r) κs) → verdict-reads.Learnt κs args r last → verdict_rule κs args r last
 verdict_is κs args r last d = d

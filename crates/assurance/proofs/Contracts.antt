@@ -7,17 +7,15 @@ use Rattle.std.specs.Prelude.{ℕ, ◌≡◌, List, [], ◌∷◌}
 use contract.Lifetimes.{Lfts}
 use borrow.Fn.Kinds.{ParamKind, ResultKind, Dens, ended_of}
 use denote.Triple.Clauses.{AtExit}
-use Rattle.call_reads.specs.Reads.{set_told, offer_told, four_told, progress_told}
-use Rattle.rules.specs.Calls.{Start, Word, Subframe}
+use Rattle.rules.specs.Calls.{Start}
 use Rattle.rules.specs.Claim.{FairHistory, Refused}
 use Rattle.rules.specs.FourLaws.{FourSatellites}
 use Rattle.rules.specs.ProgressLaws.{MessageProgress}
-use Rattle.rules.specs.Log.{Call, start, word, subframe, verdict, ask, Question, Reply, plain, subframe_reply, set_reply, offer_reply, four_reply, progress_reply, History, advanced, step}
-use Rattle.rules.specs.Log as L
-use Rattle.rules.specs.State.{State, state, word_lent, verdict_lent, set_lent, offer_lent, four_lent, progress_lent}
-use Rattle.rules.specs.Verdict.{Verdict}
+use Rattle.rules.specs.Log.{Call, start, word, subframe, verdict, ask, Reply, plain, step}
+use Rattle.rules.specs.State.{State}
 use Rattle.rules.specs.Sizes.{TagSizes}
 use Rattle.rules.specs.Whole.{LostFields}
+use Rattle.assurance.specs.Run.{Done, history_of, start_before, start_given, start_after, word_before, word_given, word_after, subframe_before, subframe_given, subframe_after, subframe_tells, verdict_before, verdict_given, verdict_after, read_set_before, read_set_given, read_set_tells, read_offer_before, read_offer_given, read_offer_tells, four_before, four_given, four_tells, progress_before, progress_given, progress_tells}
 use Rattle.osnma.proofs.osnma_regions_start.Reads as start-reads
 use Rattle.osnma.proofs.osnma_regions_start.Kinds as start-kinds
 use Rattle.osnma.proofs.osnma_regions_word.Reads as word-reads
@@ -59,134 +57,59 @@ pub record Made (n : ℕ) (ps : List (ParamKind n)) (r : ResultKind n)
 
 -- ---- start: all sixteen regions are written
 
-abbrev pub start_before : (κs : Lfts 19) → Dens κs start-kinds.ps → State → State
-start_before κs (config, (clocks, (words, (stamps, (blocks, (headers, (present, (since, (pubkeys, (offer, (chain, (numbers, (heldkey, (waiting, (sets, (arrivals, _)))))))))))))))) s = state config.now clocks.now words.now stamps.now blocks.now headers.now present.now since.now pubkeys.now offer.now chain.now numbers.now heldkey.now waiting.now sets.now arrivals.now
-
-abbrev pub start_given : (κs : Lfts 19) → Dens κs start-kinds.ps → Start
-start_given κs (_, (_, (_, (_, (_, (_, (_, (_, (_, (_, (_, (_, (_, (_, (_, (_, (ns, (id, (kind, (maclt, (marks, (root, (pubkey, _))))))))))))))))))))))) = record { ns = ns; id = id; type = kind; maclt = maclt; marks = marks.now; root = root.now; key = pubkey.now }
-
-abbrev pub start_after : (κs : Lfts 19) → Dens κs start-kinds.ps → AtExit (ended_of 19 start-kinds.ps start-kinds.r) κs → State → State
-start_after κs _ (config', (clocks', (words', (stamps', (blocks', (headers', (present', (since', (pubkeys', (offer', (chain', (numbers', (heldkey', (waiting', (sets', (arrivals', _)))))))))))))))) s = state config'.now clocks'.now words'.now stamps'.now blocks'.now headers'.now present'.now since'.now pubkeys'.now offer'.now chain'.now numbers'.now heldkey'.now waiting'.now sets'.now arrivals'.now
-
 abbrev pub StartDid : State → Call → Reply → State → Type 0
 StartDid =
-    Made 19 start-kinds.ps start-kinds.r start-reads.Learnt start_before (λ κs args. start (start_given κs args))
-    start_after (λ κs r last. plain r)
+    Made 19 start-kinds.ps start-kinds.r start-reads.Learnt (λ κs. start_before) (λ κs args. start (start_given args))
+    (λ κs. start_after) (λ κs r last. plain r)
 
 -- ---- word: of its four regions clocks, words and stamps are written
 
-abbrev pub word_before : (κs : Lfts 5) → Dens κs word-kinds.ps → State → State
-word_before κs (config, (clocks, (words, (stamps, _)))) s = word_lent s config.now clocks.now words.now stamps.now
-
-abbrev pub word_given : (κs : Lfts 5) → Dens κs word-kinds.ps → Word
-word_given κs (_, (_, (_, (_, (prn, (time, (bytes, _))))))) = record { prn = prn; time = time; bytes = bytes.now }
-
-abbrev pub word_after : (κs : Lfts 5) → Dens κs word-kinds.ps → AtExit (ended_of 5 word-kinds.ps word-kinds.r) κs → State → State
-word_after κs (config, _) (_, (clocks', (words', (stamps', _)))) s = word_lent s config.now clocks'.now words'.now stamps'.now
-
 abbrev pub WordDid : State → Call → Reply → State → Type 0
 WordDid =
-    Made 5 word-kinds.ps word-kinds.r word-reads.Learnt word_before (λ κs args. word (word_given κs args))
-    word_after (λ κs r last. plain r)
+    Made 5 word-kinds.ps word-kinds.r word-reads.Learnt (λ κs. word_before) (λ κs args. word (word_given args))
+    (λ κs. word_after) (λ κs r last. plain r)
 
 -- ---- sub-frame: all regions but words, stamps and chain are written, and the record area
 
-abbrev pub subframe_before : (κs : Lfts 20) → Dens κs subframe-kinds.ps → State → State
-subframe_before κs (config, (clocks, (words, (stamps, (blocks, (headers, (present, (since, (pubkeys, (offer, (chain, (numbers, (heldkey, (waiting, (sets, (arrivals, _)))))))))))))))) s = state config.now clocks.now words.now stamps.now blocks.now headers.now present.now since.now pubkeys.now offer.now chain.now numbers.now heldkey.now waiting.now sets.now arrivals.now
-
-abbrev pub subframe_given : (κs : Lfts 20) → Dens κs subframe-kinds.ps → List ℕ × Subframe
-subframe_given κs (_, (_, (_, (_, (_, (_, (_, (_, (_, (_, (_, (_, (_, (_, (_, (_, (area, (prn, (time, (marks, (bytes, _))))))))))))))))))))) = (area.now, record { prn = prn; time = time; marks = marks; bytes = bytes.now })
-
-abbrev pub subframe_after : (κs : Lfts 20) → Dens κs subframe-kinds.ps → AtExit (ended_of 20 subframe-kinds.ps subframe-kinds.r) κs → State → State
-subframe_after κs (_, (_, (words, (stamps, (_, (_, (_, (_, (_, (_, (chain, _))))))))))) (config', (clocks', (_, (_, (blocks', (headers', (present', (since', (pubkeys', (offer', (_, (numbers', (heldkey', (waiting', (sets', (arrivals', _)))))))))))))))) s = state config'.now clocks'.now words.now stamps.now blocks'.now headers'.now present'.now since'.now pubkeys'.now offer'.now chain.now numbers'.now heldkey'.now waiting'.now sets'.now arrivals'.now
-
-abbrev pub subframe_tells : (κs : Lfts 20) → ℕ → AtExit (ended_of 20 subframe-kinds.ps subframe-kinds.r) κs → Reply
-subframe_tells κs r (_, (_, (_, (_, (_, (_, (_, (_, (_, (_, (_, (_, (_, (_, (_, (_, (area', (_, (_, (_, (_, (hkroot', (mack', _))))))))))))))))))))))) = subframe_reply hkroot'.now mack'.now r area'.now
-
 abbrev pub SubframeDid : State → Call → Reply → State → Type 0
 SubframeDid =
-    Made 20 subframe-kinds.ps subframe-kinds.r subframe-reads.Learnt subframe_before (λ κs args. subframe (subframe_given κs args).0 (subframe_given κs args).1)
-    subframe_after subframe_tells
+    Made 20 subframe-kinds.ps subframe-kinds.r subframe-reads.Learnt (λ κs. subframe_before) (λ κs args. subframe (subframe_given args).0 (subframe_given args).1)
+    (λ κs. subframe_after) (λ κs. subframe_tells)
 
 -- ---- verdict: of its eight regions all but the settings are written
 
-abbrev pub verdict_before : (κs : Lfts 10) → Dens κs verdict-kinds.ps → State → State
-verdict_before κs (config, (pubkeys, (offer, (chain, (numbers, (heldkey, (waiting, (arrivals, _)))))))) s = verdict_lent s config.now pubkeys.now offer.now chain.now numbers.now heldkey.now waiting.now arrivals.now
-
-abbrev pub verdict_given : (κs : Lfts 10) → Dens κs verdict-kinds.ps → Verdict
-verdict_given κs (_, (_, (_, (_, (_, (_, (_, (_, (good, (id, (message, (signature, _)))))))))))) = record { good = good; id = id; message = message.now; signature = signature.now }
-
-abbrev pub verdict_after : (κs : Lfts 10) → Dens κs verdict-kinds.ps → AtExit (ended_of 10 verdict-kinds.ps verdict-kinds.r) κs → State → State
-verdict_after κs (config, _) (_, (pubkeys', (offer', (chain', (numbers', (heldkey', (waiting', (arrivals', _)))))))) s = verdict_lent s config.now pubkeys'.now offer'.now chain'.now numbers'.now heldkey'.now waiting'.now arrivals'.now
-
 abbrev pub VerdictDid : State → Call → Reply → State → Type 0
 VerdictDid =
-    Made 10 verdict-kinds.ps verdict-kinds.r verdict-reads.Learnt verdict_before (λ κs args. verdict (verdict_given κs args))
-    verdict_after (λ κs r last. plain r)
+    Made 10 verdict-kinds.ps verdict-kinds.r verdict-reads.Learnt (λ κs. verdict_before) (λ κs args. verdict (verdict_given args))
+    (λ κs. verdict_after) (λ κs r last. plain r)
 
 -- ---- the read of an authentic set writes no region
 
-abbrev pub read_set_before : (κs : Lfts 5) → Dens κs read-set-kinds.ps → State → State
-read_set_before κs (sets, (arrivals, _)) s = set_lent s sets.now arrivals.now
-
-abbrev pub read_set_given : (κs : Lfts 5) → Dens κs read-set-kinds.ps → Question
-read_set_given κs (_, (_, (prn, (out, _)))) = L.set prn out.now
-
-abbrev pub read_set_tells : (κs : Lfts 5) → ℕ → AtExit (ended_of 5 read-set-kinds.ps read-set-kinds.r) κs → Reply
-read_set_tells κs r (_, (_, (_, (out', (issue', (time', _)))))) = set_reply (set_told r out'.now issue'.now time'.now)
-
 abbrev pub ReadSetDid : State → Call → Reply → State → Type 0
 ReadSetDid =
-    Made 5 read-set-kinds.ps read-set-kinds.r read-set-reads.Learnt read_set_before (λ κs args. ask (read_set_given κs args))
-    (λ κs args last. read_set_before κs args) read_set_tells
+    Made 5 read-set-kinds.ps read-set-kinds.r read-set-reads.Learnt (λ κs. read_set_before) (λ κs args. ask (read_set_given args))
+    (λ κs args last. read_set_before args) (λ κs. read_set_tells)
 
 -- ---- the read of what waits writes no region
 
-abbrev pub read_offer_before : (κs : Lfts 7) → Dens κs read-message-kinds.ps → State → State
-read_offer_before κs (pubkeys, (offer, _)) s = offer_lent s pubkeys.now offer.now
-
-abbrev pub read_offer_given : (κs : Lfts 7) → Dens κs read-message-kinds.ps → Question
-read_offer_given κs (_, (_, (message, (signature, (key, _))))) = L.offer message.now signature.now key.now
-
-abbrev pub read_offer_tells : (κs : Lfts 7) → ℕ → AtExit (ended_of 7 read-message-kinds.ps read-message-kinds.r) κs → Reply
-read_offer_tells κs r (_, (_, (message', (signature', (key', (id', (kind', _))))))) = offer_reply (offer_told r message'.now signature'.now key'.now id'.now kind'.now)
-
 abbrev pub ReadOfferDid : State → Call → Reply → State → Type 0
 ReadOfferDid =
-    Made 7 read-message-kinds.ps read-message-kinds.r read-message-reads.Learnt read_offer_before (λ κs args. ask (read_offer_given κs args))
-    (λ κs args last. read_offer_before κs args) read_offer_tells
+    Made 7 read-message-kinds.ps read-message-kinds.r read-message-reads.Learnt (λ κs. read_offer_before) (λ κs args. ask (read_offer_given args))
+    (λ κs args last. read_offer_before args) (λ κs. read_offer_tells)
 
 -- ---- the question for four satellites writes no region
 
-abbrev pub four_before : (κs : Lfts 3) → Dens κs four-kinds.ps → State → State
-four_before κs (clocks, (arrivals, _)) s = four_lent s clocks.now arrivals.now
-
-abbrev pub four_given : (κs : Lfts 3) → Dens κs four-kinds.ps → Question
-four_given κs (_, (_, (limit, _))) = L.four limit
-
-abbrev pub four_tells : (κs : Lfts 3) → ℕ → AtExit (ended_of 3 four-kinds.ps four-kinds.r) κs → Reply
-four_tells κs r (_, (_, (_, (yes', _)))) = four_reply (four_told r yes'.now)
-
 abbrev pub FourDid : State → Call → Reply → State → Type 0
 FourDid =
-    Made 3 four-kinds.ps four-kinds.r four-reads.Learnt four_before (λ κs args. ask (four_given κs args))
-    (λ κs args last. four_before κs args) four_tells
+    Made 3 four-kinds.ps four-kinds.r four-reads.Learnt (λ κs. four_before) (λ κs args. ask (four_given args))
+    (λ κs args last. four_before args) (λ κs. four_tells)
 
 -- ---- the question for the progress of messages writes no region
 
-abbrev pub progress_before : (κs : Lfts 3) → Dens κs progress-kinds.ps → State → State
-progress_before κs (blocks, (present, _)) s = progress_lent s blocks.now present.now
-
-abbrev pub progress_given : (κs : Lfts 3) → Dens κs progress-kinds.ps → Question
-progress_given κs (_, (_, (out, _))) = L.progress out.now
-
-abbrev pub progress_tells : (κs : Lfts 3) → ℕ → AtExit (ended_of 3 progress-kinds.ps progress-kinds.r) κs → Reply
-progress_tells κs r (_, (_, (out', _))) = progress_reply (progress_told r out'.now)
-
 abbrev pub ProgressDid : State → Call → Reply → State → Type 0
 ProgressDid =
-    Made 3 progress-kinds.ps progress-kinds.r progress-reads.Learnt progress_before (λ κs args. ask (progress_given κs args))
-    (λ κs args last. progress_before κs args) progress_tells
+    Made 3 progress-kinds.ps progress-kinds.r progress-reads.Learnt (λ κs. progress_before) (λ κs args. ask (progress_given args))
+    (λ κs args last. progress_before args) (λ κs. progress_tells)
 
 -- ---- a run
 
@@ -201,21 +124,10 @@ pub data Did (s : State) (c : Call) (reply : Reply) (s' : State) : Type 0 where
   four_asked : FourDid s c reply s' → Did s c reply s'
   progress_asked : ProgressDid s c reply s' → Did s c reply s'
 
--- a call, its reply, and the state that it left
-pub record Done : Type 0 where
-  pub call : Call
-  pub reply : Reply
-  pub left : State
-
 -- "Each call gets the state that the last one, or the accepted start, left; nobody else writes it"
 abbrev pub Run : State → List Done → Type 0
 Run s [] = Unit {0}
 Run s (d ∷ ds) = Did s d.call d.reply d.left × Run d.left ds
-
--- the history that it adds to
-abbrev pub history_of : History → List Done → History
-history_of h [] = h
-history_of h (d ∷ ds) = history_of (advanced h d.call d.reply.code d.reply d.left) ds
 
 -- ---- the claim of the exported calls
 

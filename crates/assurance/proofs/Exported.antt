@@ -14,7 +14,8 @@ use Rattle.rules.proofs.MessageProgress.{message_progress}
 use Rattle.rules.proofs.Sound.{claim, four_satellites}
 use Rattle.rules.proofs.Sizes.{tag_sizes}
 use Rattle.rules.proofs.Whole.{lost_fields}
-use Rattle.assurance.proofs.Contracts.{Made, StartDid, WordDid, SubframeDid, VerdictDid, ReadSetDid, ReadOfferDid, FourDid, ProgressDid, Did, started, worded, subframed, judged, set_read, offer_read, four_asked, progress_asked, Done, Run, history_of, ExportedClaim, read_set_before, read_offer_before, four_before, progress_before}
+use Rattle.assurance.specs.Run.{Done, history_of, read_set_before, read_offer_before, four_before, progress_before}
+use Rattle.assurance.proofs.Contracts.{Made, StartDid, WordDid, SubframeDid, VerdictDid, ReadSetDid, ReadOfferDid, FourDid, ProgressDid, Did, started, worded, subframed, judged, set_read, offer_read, four_asked, progress_asked, Run, ExportedClaim}
 
 abbrev Steps : State → Call → Reply → State → Type 0
 Steps s c r s' = step s c ≡ record { reply = r; state = s' }
@@ -52,19 +53,19 @@ verdict_steps = made_steps _ _ _ _ _ _ _ _ (λ κs args r last s d. ap (λ (t : 
 
 read_set-steps : (s s' : State) (c : Call) (r : Reply) → ReadSetDid s c r s' → Steps s c r s'
 unfolding step asked
-read_set-steps = made_steps _ _ _ _ _ _ _ _ (λ κs args r last s d. ap (λ (t : SetRead). record { reply = set_reply t; state = read_set_before κs args s }) (sym (d s)))
+read_set-steps = made_steps _ _ _ _ _ _ _ _ (λ κs args r last s d. ap (λ (t : SetRead). record { reply = set_reply t; state = read_set_before args s }) (sym (d s)))
 
 read_message-steps : (s s' : State) (c : Call) (r : Reply) → ReadOfferDid s c r s' → Steps s c r s'
 unfolding step asked
-read_message-steps = made_steps _ _ _ _ _ _ _ _ (λ κs args r last s d. ap (λ (t : OfferRead). record { reply = offer_reply t; state = read_offer_before κs args s }) (sym (d s)))
+read_message-steps = made_steps _ _ _ _ _ _ _ _ (λ κs args r last s d. ap (λ (t : OfferRead). record { reply = offer_reply t; state = read_offer_before args s }) (sym (d s)))
 
 four_steps : (s s' : State) (c : Call) (r : Reply) → FourDid s c r s' → Steps s c r s'
 unfolding step asked
-four_steps = made_steps _ _ _ _ _ _ _ _ (λ κs args r last s d. ap (λ (t : FourRead). record { reply = four_reply t; state = four_before κs args s }) (sym (d s)))
+four_steps = made_steps _ _ _ _ _ _ _ _ (λ κs args r last s d. ap (λ (t : FourRead). record { reply = four_reply t; state = four_before args s }) (sym (d s)))
 
 progress_steps : (s s' : State) (c : Call) (r : Reply) → ProgressDid s c r s' → Steps s c r s'
 unfolding step asked
-progress_steps = made_steps _ _ _ _ _ _ _ _ (λ κs args r last s d. ap (λ (t : ProgressRead). record { reply = progress_reply t; state = progress_before κs args s }) (sym (d s)))
+progress_steps = made_steps _ _ _ _ _ _ _ _ (λ κs args r last s d. ap (λ (t : ProgressRead). record { reply = progress_reply t; state = progress_before args s }) (sym (d s)))
 
 pub steps : (s s' : State) (c : Call) (r : Reply) → Did s c r s' → Steps s c r s'
 steps s s' c r (started d) = start-steps s s' c r d

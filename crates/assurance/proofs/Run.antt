@@ -1,14 +1,11 @@
 -- The claim of exported calls, with the clauses of their contracts written out, from the claim of proofs/Exported.antt, of what the checker makes of these
 -- contracts. Assumes nothing.
 use Prim.Native.Nat.{ℕ, zero, suc}
-use mathlib.Core.Path.{◌≡◌, refl}
 use mathlib.Core.List.{List, [], ◌∷◌}
 use contract.Lifetimes.{Lfts}
-use Rattle.rules.specs.Calls.{Start}
-use Rattle.rules.specs.Claim.{FairHistory}
-use Rattle.rules.specs.Log.{Call, start, Reply, plain, History}
+use Rattle.rules.specs.Log.{Call, start, Reply, plain}
 use Rattle.rules.specs.State.{State}
-use Rattle.assurance.specs.Run.{Did, started, worded, subframed, judged, set_read, offer_read, four_asked, progress_asked, Done, Run, history_of, ExportedClaim}
+use Rattle.assurance.specs.Run.{Did, started, worded, subframed, judged, set_read, offer_read, four_asked, progress_asked, Done, Run, ExportedClaim}
 use Rattle.assurance.proofs.Contracts as Made
 use Rattle.assurance.proofs.Boundary.{start_is, start_only, word_is, word_only, subframe_is, subframe_only, verdict_is, verdict_only, read_set_is, read_set_only, read_message_is, read_message_only, four_is, four_only, progress_is, progress_only}
 use Rattle.assurance.proofs.Exported as Exported
@@ -40,29 +37,16 @@ by_clause s s' c r (Made.offer_read d) = offer_read (record { args = d.args; res
 by_clause s s' c r (Made.four_asked d) = four_asked (record { args = d.args; result = d.result; last = d.last; before_is = d.before_is; call_is = d.call_is; after_is = d.after_is; reply_is = d.reply_is; learnt = four_is d.lifetimes d.args d.result d.last d.learnt })
 by_clause s s' c r (Made.progress_asked d) = progress_asked (record { args = d.args; result = d.result; last = d.last; before_is = d.before_is; call_is = d.call_is; after_is = d.after_is; reply_is = d.reply_is; learnt = progress_is d.lifetimes d.args d.result d.last d.learnt })
 
--- calls and what came of them
-abbrev listed : List Done → List Made.Done
-listed [] = []
-listed (d ∷ ds) = record { call = d.call; reply = d.reply; left = d.left } ∷ listed ds
-
-run_made : (s : State) (ds : List Done) → Run s ds → Made.Run s (listed ds)
+run_made : (s : State) (ds : List Done) → Run s ds → Made.Run s ds
 run_made s [] u = tt
 run_made s (d ∷ ds) u = (made s d.left d.call d.reply u.0, run_made d.left ds u.1)
-
-same_history : (h : History) (ds : List Done) → Made.history_of h (listed ds) ≡ history_of h ds
-same_history h [] = refl
-same_history h (d ∷ ds) = same_history _ ds
-
-fair : (s began : State) (x : Start) → Did s (start x) (plain 0) began → (ds : List Done) → Run began ds → FairHistory (history_of (record { origin = x; began = began; log = [] }) ds)
-fair s began x d ds u =
-    rw same_history at (Exported.exported_claim.fair s began x (made s began (start x) (plain 0) d) (listed ds) (run_made began ds u))
 
 pub exported_claim : ExportedClaim
 exported_claim =
     let e = Exported.exported_claim in
     record {
       steps = λ s s' c r d. e.steps s s' c r (made s s' c r d);
-      fair = fair;
+      fair = λ s began x d ds u. e.fair s began x (made s began (start x) (plain 0) d) ds (run_made began ds u);
       begins = λ s s' left left' x d d'. e.begins s s' left left' x (made s left (start x) (plain 0) d) (made s' left' (start x) (plain 0) d');
       refused = e.refused;
       lost_fields = e.lost_fields;
