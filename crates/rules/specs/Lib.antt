@@ -19,6 +19,7 @@ pub mod Progress
 pub mod Calls
 pub mod Whole
 pub mod Outcomes
+pub mod Refusals
 pub mod Log
 pub mod Sizes
 pub mod FourLaws
