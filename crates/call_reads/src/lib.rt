@@ -31,12 +31,7 @@ pub struct SignedBy {
 }
 
 // A satellite's authentic set into 69 lent bytes.
-pub fn read_set(
-    sets: &[u8],
-    arrivals: &[u32],
-    prn: u8,
-    out: &mut [u8],
-) -> Result<SetRead, Refusal>
+pub fn read_set(sets: &[u8], arrivals: &[u32], prn: u8, out: &mut [u8]) -> Result<SetRead, Refusal>
     requires { ((length sets.now ≡ sets_length) × (length arrivals.now ≡ arrivals_length)) × (length out.old ≡ 69) }
     ensures { (s : State) →
         set_answered result out.new ≡ set_read (set_lent s sets.now arrivals.now) prn out.old }
@@ -100,7 +95,7 @@ pub fn four_met(clocks: &[u32], arrivals: &[u32], limit: u32) -> bool
         return false;
     }
     let last = times::seconds_of(clock - 1);
-    let mut met = 0;
+    let mut met: u32 = 0;
     for i in 0..36 {
         if recent(last, limit, arrivals[i]) {
             if met == 3 {
@@ -125,13 +120,12 @@ fn missing_of(total: u8, held: u8) -> u8
 }
 
 // How far along the message of a DSM ID is.
-#[tactic(auto, unfolding(rules::specs::Progress::progress_of))]
 fn progress_of(blocks: &[u8], present: &[u16], id: usize) -> Progress
     requires { ((length blocks.now ≡ blocks_length) × (length present.now ≡ dsm_ids)) × (id < 16) }
     ensures { (s : State) → result ≡ P.progress_of (progress_lent s blocks.now present.now).store id }
 {
     let marks = present[id];
-    let held = u16::count_ones(marks) as u8;
+    let held = marks.count_ones() as u8;
     if !gather::marked(marks, 0) {
         return Progress::Unknown(held);
     }
