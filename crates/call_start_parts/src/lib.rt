@@ -23,6 +23,7 @@ ghost use Rattle.call_start_parts.specs.Blank.{settings, no_words, no_blocks, no
 // ---- what refuses a start
 
 // NS, key ID, key type or a mark out of range.
+#[tactic(auto, unfolding(rules::specs::Calls::start_unfit))]
 pub fn start_unfit(ns: u8, id: u8, kind: u8, marks: &[u8]) -> bool
     requires { length marks.now ≡ 28 }
     ensures { ((maclt : ℕ) (root key : List ℕ) →
@@ -42,6 +43,7 @@ fn marks_unfit(marks: &[u8]) -> bool
 }
 
 // Each mark is in range.
+#[tactic(auto, unfolding(rules::specs::Calls::marks_valid))]
 fn marks_valid(marks: &[u8]) -> bool
     requires { length marks.now ≡ 28 }
     ensures { result ≡ marks_valid marks.now 28 }
@@ -50,6 +52,7 @@ fn marks_valid(marks: &[u8]) -> bool
 }
 
 // 0 to 15, an ADKD; or 255, flexible.
+#[tactic(auto, unfolding(rules::specs::Calls::mark_valid))]
 fn mark_valid(mark: u8) -> bool
     ensures { result ≡ mark_valid mark }
 {
@@ -103,6 +106,7 @@ pub fn hold_key(pubkeys: &mut [u8], id: u8, kind: u8, pubkey: &[u8])
 }
 
 // No message waits, and no chain was put in force.
+#[tactic(auto, unfolding(rules::specs::Kroot::no_offer))]
 pub fn clear_message(offer: &mut [u8], chain: &mut [u8])
     requires { (length offer.old ≡ offer_length) × (length chain.old ≡ chain_length) }
     ensures { (offer.new ≡ no_offer) × (chain.new ≡ replicate chain_length 0) }
