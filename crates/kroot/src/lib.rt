@@ -23,7 +23,13 @@ use rules::{Chain, Refusal};
 // ---- a complete DSM-KROOT
 
 // Refused (7, 8 or 6), or it waits for a verdict, in place of one that waited.
-pub fn kroot_judge(pubkeys: &[u8], config: &[u8], offer: &mut [u8], header: u8, d: &[u8]) -> Result<(), Refusal>
+pub fn kroot_judge(
+    pubkeys: &[u8],
+    config: &[u8],
+    offer: &mut [u8],
+    header: u8,
+    d: &[u8],
+) -> Result<(), Refusal>
     requires { ((length pubkeys.now ≡ pubkeys_length) × (length config.now ≡ config_length))
         × ((length offer.old ≡ offer_length) × (91 ≤ length d.now)) }
     ensures { (answer_number result ≡ (S.kroot_judged pubkeys.now config.now offer.old header d.now).code)

@@ -11,8 +11,7 @@ use Rattle.hkroot_half.proofs.complete.Goals as goal
 
 pub returns-in_err-kroot_judge : goal.returns-in_err-kroot_judge
 returns-in_err-kroot_judge c =
-    let p = err_from_is_err_and c.from_residual.result c.from_residual.ensures.1 in
-    (
+    let p = err_from_is_err_and c.from_residual.result c.from_residual.ensures.1 in (
       λ s left ec ek eo.
           let g = c.args in
           rw (
