@@ -20,6 +20,13 @@ use Rattle.rules.specs.PublicKeys.{without_lower}
 use Rattle.rules.specs.Kroot.{kroot_of, root_seconds_of, chain_contents, in_force}
 use Rattle.rules.specs.State.{State, Tesla, Auth, verdict_shaped, stopped, with_auth, waiting_count, entry_length}
 use Rattle.rules.specs.State.{config_length, pubkeys_length, offer_length, chain_length, numbers_length, heldkey_length, waiting_length, arrivals_length}
+use Rattle.rules.specs.contracts.RefusalPartialEq.TheImpl.{eq-value as refusal_eq}
+use Rattle.rules.specs.declared.Refusal.{Refusal}
+use Rattle.rules.specs.declared.Refusal.TheVariants.{NotWaiting}
+use Rattle.rules.specs.Refusals.{answer_number, refusal_number}
+use Rattle.std.proofs.Common.{Result, Err}
+use Rattle.std.specs.Result.{result_eq}
+use Rattle.std.specs.contracts.prelude.UnitPartialEq.TheImpl.{eq-value as unit_eq}
 use Rattle.rules.proofs.Lengths.{verdict_shaped_lem}
 use Rattle.rules.specs.Verdict as S
 use Rattle.regions.specs.Tesla.{tesla}
@@ -98,6 +105,14 @@ module _ (s : State) (v : S.Verdict) (pubkeys chain : List ℕ) (ts : Tesla) (k 
       go false = refl
 
 -- ---- a verdict against what waits
+
+-- equal to the refusal of a verdict that nothing waits for: 14
+pub none_waits : (r : Result (Unit {0}) Refusal) → result_eq unit_eq.it refusal_eq.it r (Err NotWaiting) ≡ true → answer_number r ≡ 14
+none_waits r e = grind arith
+
+-- another refusal is neither 0 nor 14
+pub another : (r : Refusal) → refusal_eq.it r NotWaiting ≡ false → (refusal_number r ≡ 0 → ⊥) × (refusal_number r ≡ 14 → ⊥)
+another r e = grind arith
 
 pub kept : (s : State) (v : S.Verdict) → s ≡ S.judged_verdict s v 14
 unfolding S.judged_verdict

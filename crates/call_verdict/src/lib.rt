@@ -3,7 +3,7 @@
 // A verdict of the signature chip (01, "Verdicts"), over the lent regions that it reads or writes. The caller has seen that every length is right.
 //   judge_verdict    the call: any bytes and numbers
 //   judge_named      the same for a verdict in range, of a core that is not stopped
-//   vouch            what a verdict that is answered 0 changes
+//   vouch            what a verdict that is not refused changes
 // `c` are the contents of a message (its bytes after the NMA header).
 ghost use Rattle.std.specs.Prelude.{◌≡◌, cond, List, [], ◌∷◌, ℕ, ◌*◌, ◌≤◌, ◌<◌, length};
 ghost use Rattle.regions.specs.Told.{told};
@@ -12,11 +12,17 @@ ghost use Rattle.laws.specs.Refusal.{first_refusal};
 ghost use Rattle.rules.specs.Bits.{filled};
 ghost use Rattle.rules.specs.Calls.{verdict_call};
 ghost use Rattle.rules.specs.Kroot.{kroot_of, no_offer};
+ghost use Rattle.rules.specs.Refusals.{answer_number};
 ghost use Rattle.rules.specs.State.{State, verdict_lent, with_auth, waiting_count, entry_length, contents_length};
 ghost use Rattle.rules.specs.State.{config_length, pubkeys_length, offer_length, chain_length, numbers_length, heldkey_length, waiting_length, arrivals_length};
 ghost use Rattle.rules.specs.Verdict as S;
 ghost use Rattle.regions.specs.Tesla.{tesla};
 ghost use Rattle.authentic_sets.specs.Regions.{auth};
+
+use rules::Refusal;
+
+// Public keys have the IDs up to this one.
+const LAST_ID: u8 = 15;
 
 // A verdict: 1 (good) or 0, key ID, message (45 bytes) and signature (132). Out of range, or of a stopped core, it changes nothing.
 pub fn judge_verdict(
@@ -32,27 +38,24 @@ pub fn judge_verdict(
     id: u8,
     message: &[u8],
     signature: &[u8],
-) -> u32
+) -> Result<(), Refusal>
     requires config_len { (((length config.now ≡ config_length) × (length pubkeys.old ≡ pubkeys_length))
         × ((length offer.old ≡ offer_length) × (length chain.old ≡ chain_length)))
         × (((length numbers.old ≡ numbers_length) × (length heldkey.old ≡ heldkey_length))
         × ((length waiting.old ≡ waiting_length) × ((length message.now ≡ 45) × (length signature.now ≡ 132)))) }
     requires arrivals_len { length arrivals.old ≡ arrivals_length }
     ensures { (s : State) →
-        told result (verdict_lent s config.now pubkeys.new offer.new chain.new
+        told (answer_number result) (verdict_lent s config.now pubkeys.new offer.new chain.new
         numbers.new heldkey.new waiting.new arrivals.new)
         ≡ verdict_call (verdict_lent s config.now pubkeys.old offer.old chain.old
         numbers.old heldkey.old waiting.old arrivals.old)
         (record { good = good; id = id; message = message.now; signature = signature.now }) }
 {
-    if 1 < good {
-        return 2;
-    }
-    if 15 < id {
-        return 2;
+    if 1 < good || LAST_ID < id {
+        return Err(Refusal::OutOfRange);
     }
     if regions::stopped(config) {
-        return 4;
+        return Err(Refusal::Stopped);
     }
     judge_named(
         config, pubkeys, offer, chain, numbers, heldkey, waiting, arrivals, good, id, message,
@@ -60,7 +63,7 @@ pub fn judge_verdict(
     )
 }
 
-// A verdict in range: 14 leaves all as before, 15, 11 and 9 drop the waiting message, and 0 does what the message says.
+// A verdict in range: 14 leaves all as before, 15, 11 and 9 drop the waiting message; not refused, it does what the message says.
 fn judge_named(
     config: &[u8],
     pubkeys: &mut [u8],
@@ -74,36 +77,34 @@ fn judge_named(
     id: u8,
     message: &[u8],
     signature: &[u8],
-) -> u32
+) -> Result<(), Refusal>
     requires id_bound { (id < 16) × (length config.now ≡ config_length) }
     requires pubkeys_len { ((length pubkeys.old ≡ pubkeys_length) × ((length offer.old ≡ offer_length) × (length chain.old ≡ chain_length)))
         × (((length numbers.old ≡ numbers_length) × (length heldkey.old ≡ heldkey_length))
         × ((length waiting.old ≡ waiting_length) × (length message.now ≡ 45))) }
     requires arrivals_len { length arrivals.old ≡ arrivals_length }
     ensures { (s : State) →
-        (result ≡ first_refusal (S.vouch_checks (verdict_lent s config.now pubkeys.old offer.old chain.old
+        (answer_number result ≡ first_refusal (S.vouch_checks (verdict_lent s config.now pubkeys.old offer.old chain.old
         numbers.old heldkey.old waiting.old arrivals.old)
         (record { good = good; id = id; message = message.now; signature = signature.now })))
         × (verdict_lent s config.now pubkeys.new offer.new chain.new
         numbers.new heldkey.new waiting.new arrivals.new
         ≡ S.judged_verdict (verdict_lent s config.now pubkeys.old offer.old chain.old
         numbers.old heldkey.old waiting.old arrivals.old)
-        (record { good = good; id = id; message = message.now; signature = signature.now }) result) }
+        (record { good = good; id = id; message = message.now; signature = signature.now }) (answer_number result)) }
 {
-    let code = call_verdict_checks::vouch_refusal(
+    let judged = call_verdict_checks::vouch_refusal(
         config, chain, offer, good, id, message, signature,
     );
-    if code == 14 {
-        return 14;
+    if judged == Err(Refusal::NotWaiting) {
+        return judged;
     }
     end_wait(offer);
-    if code != 0 {
-        return code;
-    }
+    judged?;
     vouch(
         config, pubkeys, chain, numbers, heldkey, waiting, arrivals, id, message,
     );
-    0
+    Ok(())
 }
 
 // No message waits.

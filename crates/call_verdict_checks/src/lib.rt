@@ -5,13 +5,16 @@
 // NMA header).
 // Public calls:
 //   same_contents   whether the contents are those in force
-//   vouch_refusal   the number of a verdict past 1, 2 and 4: 14, 15, 11, 9 or 0
+//   vouch_refusal   a verdict past 1, 2 and 4 is refused (14, 15, 11 or 9) or not
 ghost use Rattle.std.specs.Prelude.{◌≡◌, ◌&&◌, ◌≤◌, length};
 ghost use Rattle.laws.specs.Refusal.{first_refusal};
 ghost use Rattle.rules.specs.Bits.{within};
 ghost use Rattle.rules.specs.Gather.{status_of};
+ghost use Rattle.rules.specs.Refusals.{answer_number};
 ghost use Rattle.rules.specs.State.{State, config_length, offer_length, chain_length, contents_length};
 ghost use Rattle.rules.specs.Verdict as S;
+
+use rules::Refusal;
 
 // Whether the contents are those in force.
 pub fn same_contents(config: &[u8], chain: &[u8], c: &[u8]) -> bool
@@ -65,7 +68,7 @@ fn root_unfit(config: &[u8], chain: &[u8], c: &[u8]) -> bool
     (chain[0] != 0) & (root <= last)
 }
 
-// The number of a verdict's checks against what waits and the chain: 14, 15, 11, 9 or 0.
+// A verdict against what waits and the chain: refused (14, 15, 11 or 9) or not.
 pub fn vouch_refusal(
     config: &[u8],
     chain: &[u8],
@@ -74,25 +77,25 @@ pub fn vouch_refusal(
     id: u8,
     message: &[u8],
     signature: &[u8],
-) -> u32
+) -> Result<(), Refusal>
     requires { ((length config.now ≡ config_length) × (length chain.now ≡ chain_length))
         × ((length offer.now ≡ offer_length) × (length message.now ≡ 45)) }
     ensures { (s : State) → s.config ≡ config.now → s.chain ≡ chain.now → s.offer ≡ offer.now →
-        result ≡ first_refusal (S.vouch_checks s (record { good = good; id = id; message = message.now; signature = signature.now })) }
+        answer_number result ≡ first_refusal (S.vouch_checks s (record { good = good; id = id; message = message.now; signature = signature.now })) }
 {
     if !kroot::names_offer(offer, id, message, signature) {
-        return 14;
+        return Err(Refusal::NotWaiting);
     }
     if good != 1 {
-        return 15;
+        return Err(Refusal::VerdictBad);
     }
     if status_unfit(config, chain, message[0], &message[1..45]) {
-        return 11;
+        return Err(Refusal::NotInForce);
     }
     if new_root_unfit(config, chain, message[0], &message[1..45]) {
-        return 9;
+        return Err(Refusal::NotNewer);
     }
-    0
+    Ok(())
 }
 
 // A verdict that would put a root in force (status 1 or 2), whose root is unfit.

@@ -11,16 +11,21 @@ ghost use Rattle.gather.specs.Store.{Lent, store};
 ghost use Rattle.rules.specs.Calls.{hkroot_half, hkroot_received, kroot_done, pkr_done};
 ghost use Rattle.rules.specs.Gather.{dsm_id_of, header_of};
 ghost use Rattle.rules.specs.Pkr.{pkr_judged};
+ghost use Rattle.rules.specs.Refusals.{answer_number};
 ghost use Rattle.rules.specs.State.{State, Store, tree_root, config_length, blocks_length, pubkeys_length, offer_length, stopped_at};
-ghost use Rattle.hkroot_half.specs.Done.{done, gathering};
+ghost use Rattle.hkroot_half.specs.Done.{done, gathering, stops};
 
 use gather::Gathered;
+use pkr::Renewal;
+use rules::Refusal;
 
-// What the half gives: its number, and whether a proved emergency message came.
-#[derive(Clone, Copy)]
-pub struct Half {
-    pub code: u32,
-    pub stops: bool,
+// What a half does that is not refused.
+#[derive(Clone, Copy, Debug, PartialEq, Eq)]
+pub enum Half {
+    // The core goes on.
+    Goes,
+    // A proved emergency message came: the core stops.
+    Stops,
 }
 
 // An HKROOT section of 15 bytes, one of each field, comes at time t: 17 where a field is missing, and nothing changes; else its block is taken.
@@ -35,7 +40,7 @@ pub fn hkroot_received(
     t: u32,
     marks: u16,
     hk: &[u8; 15],
-) -> Half
+) -> Result<Half, Refusal>
     requires { Lent blocks.old headers.old present.old since.old
         × ((length config.old ≡ config_length) × ((length pubkeys.old ≡ pubkeys_length) × (length offer.old ≡ offer_length))) }
     ensures { (s : State) → s.config ≡ config.old →
@@ -47,10 +52,7 @@ pub fn hkroot_received(
         ≡ hkroot_received s t marks hk.now }
 {
     if received::fields_came(marks) != 15 {
-        return Half {
-            code: 17,
-            stops: false,
-        };
+        return Err(Refusal::FieldsMissing);
     }
     hkroot_half(
         config, blocks, headers, present, since, pubkeys, offer, t, hk,
@@ -68,7 +70,7 @@ fn hkroot_half(
     offer: &mut [u8],
     t: u32,
     hk: &[u8; 15],
-) -> Half
+) -> Result<Half, Refusal>
     requires { Lent blocks.old headers.old present.old since.old
         × ((length config.old ≡ config_length) × ((length pubkeys.old ≡ pubkeys_length) × (length offer.old ≡ offer_length))) }
     ensures { (s : State) → s.config ≡ config.old →
@@ -80,15 +82,9 @@ fn hkroot_half(
         ≡ hkroot_half s t hk.now }
 {
     match gather::gather(blocks, headers, present, since, t, hk) {
-        Gathered::Stored => Half {
-            code: 0,
-            stops: false,
-        },
+        Gathered::Stored => Ok(Half::Goes),
         Gathered::Complete(n) => complete(config, blocks, pubkeys, offer, hk, n),
-        Gathered::Refused => Half {
-            code: 6,
-            stops: false,
-        },
+        Gathered::Refused => Err(Refusal::BlockUnfit),
     }
 }
 
@@ -100,7 +96,7 @@ fn complete(
     offer: &mut [u8],
     hk: &[u8; 15],
     n: usize,
-) -> Half
+) -> Result<Half, Refusal>
     requires { ((length config.old ≡ config_length) × (length blocks.now ≡ blocks_length))
         × (((length pubkeys.old ≡ pubkeys_length) × (length offer.old ≡ offer_length)) × ((91 ≤ n) × (n ≤ 208))) }
     ensures { ((s : State) (left : Store) → s.config ≡ config.old → s.pubkeys ≡ pubkeys.old → s.offer ≡ offer.old →
@@ -113,36 +109,32 @@ fn complete(
     let id = gather::dsm_id_of(hk);
     let at = id * 208;
     if id <= 11 {
-        let code = kroot::kroot_judge(
+        kroot::kroot_judge(
             pubkeys,
             config,
             offer,
             gather::header_of(hk),
             &blocks[at..at + n],
-        );
-        return Half {
-            code: code,
-            stops: false,
-        };
+        )?;
+        return Ok(Half::Goes);
     }
     renewed(config, pubkeys, &blocks[at..at + n])
 }
 
 // A complete DSM-PKR. Proved with type 4 (an emergency message), it stops the core.
-fn renewed(config: &mut [u8], pubkeys: &mut [u8], d: &[u8]) -> Half
+fn renewed(config: &mut [u8], pubkeys: &mut [u8], d: &[u8]) -> Result<Half, Refusal>
     requires { ((length config.old ≡ config_length) × (length pubkeys.old ≡ pubkeys_length)) × ((91 ≤ length d.now) × (length d.now ≤ 208)) }
-    ensures { ((result.code ≡ (pkr_judged pubkeys.old (tree_root config.old) d.now).code)
-        × (result.stops ≡ (pkr_judged pubkeys.old (tree_root config.old) d.now).stops))
+    ensures { ((answer_number result ≡ (pkr_judged pubkeys.old (tree_root config.old) d.now).code)
+        × (stops result ≡ (pkr_judged pubkeys.old (tree_root config.old) d.now).stops))
         × ((pubkeys.new ≡ (pkr_judged pubkeys.old (tree_root config.old) d.now).pubkeys)
         × (config.new ≡ cond (pkr_judged pubkeys.old (tree_root config.old) d.now).stops
         (set config.old stopped_at 1) config.old)) }
 {
-    let r = pkr::pkr_judge(pubkeys, &config[30..62], d);
-    if r.stops {
-        regions::stop(config);
-    }
-    Half {
-        code: r.code,
-        stops: r.stops,
+    match pkr::pkr_judge(pubkeys, &config[30..62], d)? {
+        Renewal::Held => Ok(Half::Goes),
+        Renewal::Stops => {
+            regions::stop(config);
+            Ok(Half::Stops)
+        }
     }
 }

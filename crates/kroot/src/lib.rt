@@ -3,7 +3,7 @@
 // DSM-KROOT, the message that waits and the chain's parameters (01, "HKROOT" and "Verdicts"; 000, 3.3 and 5.1). Each function gives what
 // the definition of the same name in rules/specs/Kroot.antt or Verdict.antt gives.
 // Public calls:
-//   kroot_judge                       a complete DSM-KROOT: its number, and the message that then waits
+//   kroot_judge                       a complete DSM-KROOT: refused (7, 8 or 6), or the message that then waits
 //   in_force, chain_contents, chain_with    the chain in force, its contents and its numbers
 //   names_offer, chain_unchanged      a verdict against what waits; a new root against the chain in force
 //   cidkr, ks, root_seconds           fields of contents: the 44 bytes after the first of a DSM, a message or the chain's region
@@ -13,35 +13,42 @@ ghost use Rattle.laws.specs.Lists.{part};
 ghost use Rattle.rules.specs.Bits.{filled};
 ghost use Rattle.rules.specs.Chain.{hash_bytes};
 ghost use Rattle.rules.specs.Kroot as S;
+ghost use Rattle.rules.specs.Refusals.{answer_number};
 ghost use Rattle.rules.specs.State.{config_length, pubkeys_length, offer_length, chain_length, contents_length};
 ghost use Rattle.rules.specs.Verdict.{names_offer, chain_unchanged};
 ghost use Rattle.kroot.specs.Groups as G;
 
-use rules::Chain;
+use rules::{Chain, Refusal};
 
 // ---- a complete DSM-KROOT
 
-// Its number (7, 8, 6 or 0); with 0 it waits for a verdict, in place of one that waited.
-pub fn kroot_judge(pubkeys: &[u8], config: &[u8], offer: &mut [u8], header: u8, d: &[u8]) -> u32
+// Refused (7, 8 or 6), or it waits for a verdict, in place of one that waited.
+pub fn kroot_judge(
+    pubkeys: &[u8],
+    config: &[u8],
+    offer: &mut [u8],
+    header: u8,
+    d: &[u8],
+) -> Result<(), Refusal>
     requires { ((length pubkeys.now ≡ pubkeys_length) × (length config.now ≡ config_length))
         × ((length offer.old ≡ offer_length) × (91 ≤ length d.now)) }
-    ensures { (result ≡ (S.kroot_judged pubkeys.now config.now offer.old header d.now).code)
+    ensures { (answer_number result ≡ (S.kroot_judged pubkeys.now config.now offer.old header d.now).code)
         × (offer.new ≡ (S.kroot_judged pubkeys.now config.now offer.old header d.now).offer) }
 {
     let id = pkid(d);
     if !public_keys::key_held(pubkeys, id) {
-        return 7;
+        return Err(Refusal::KeyNotHeld);
     }
     if parameters_bad(config, &d[1..45]) {
-        return 8;
+        return Err(Refusal::ParametersUnfit);
     }
     let width = key_width(ks(&d[1..45]));
     let signed = public_keys::signature_length(public_keys::key_type(pubkeys, id));
     if d.len() != 13 * least_blocks(13 + width + signed) {
-        return 6;
+        return Err(Refusal::BlockUnfit);
     }
     store_offer(offer, id, header, d, width, signed);
-    0
+    Ok(())
 }
 
 // The message that waits: 1, key ID, message in 45 bytes, signature in 132.

@@ -3,54 +3,49 @@
 // DSM-PKR: the new public key, its place in the tree, and what a complete message changes (01, "HKROOT"; 000, 3.4, 5.2 and 5.3). Each
 // function gives what the definition of the same name in rules/specs/Pkr.antt gives.
 // Public call:
-//   pkr_judge        a complete DSM-PKR: its number, whether it stops the core, and the public keys then held
+//   pkr_judge        a complete DSM-PKR: refused (6, 10 or 9), or whether it stops the core, and the public keys then held
 ghost use Rattle.std.specs.Prelude.{◌≡◌, false, cond, ◌+◌, ◌≤◌, ◌<◌, length, get_or};
 ghost use Rattle.rules.specs.PublicKeys as K;
 ghost use Rattle.rules.specs.Pkr as S;
+ghost use Rattle.rules.specs.Refusals.{answer_number};
 ghost use Rattle.rules.specs.State.{pubkeys_length};
+ghost use Rattle.pkr.specs.Renewal.{stops};
 
-// What a complete DSM-PKR is answered: its number, and whether it stops the core (an emergency message that is proved).
-#[derive(Clone, Copy)]
-pub struct Renewal {
-    pub code: u32,
-    pub stops: bool,
+use rules::Refusal;
+
+// What a complete DSM-PKR does that is not refused.
+#[derive(Clone, Copy, Debug, PartialEq, Eq)]
+pub enum Renewal {
+    // Its key is held from now on, or was before.
+    Held,
+    // An emergency message that is proved: it stops the core.
+    Stops,
 }
 
-// The number (6, 10, 9 or 0) of a complete DSM-PKR; with 0 a new key is added to those held.
-pub fn pkr_judge(pubkeys: &mut [u8], root: &[u8], d: &[u8]) -> Renewal
+// Refused (6, 10 or 9), or proved; then a new key is added to those held.
+pub fn pkr_judge(pubkeys: &mut [u8], root: &[u8], d: &[u8]) -> Result<Renewal, Refusal>
     requires { (length pubkeys.old ≡ pubkeys_length) × ((91 ≤ length d.now) × (length d.now ≤ 208)) }
-    ensures { (result.code ≡ (S.pkr_judged pubkeys.old root.now d.now).code)
-        × ((result.stops ≡ (S.pkr_judged pubkeys.old root.now d.now).stops)
+    ensures { (answer_number result ≡ (S.pkr_judged pubkeys.old root.now d.now).code)
+        × ((stops result ≡ (S.pkr_judged pubkeys.old root.now d.now).stops)
         × (pubkeys.new ≡ (S.pkr_judged pubkeys.old root.now d.now).pubkeys)) }
 {
     if size_bad(d) {
-        return Renewal {
-            code: 6,
-            stops: false,
-        };
+        return Err(Refusal::BlockUnfit);
     }
     if !tree_proved(root, d) {
-        return Renewal {
-            code: 10,
-            stops: false,
-        };
+        return Err(Refusal::TreeUnfit);
     }
     if new_type(d) == 4 {
-        return Renewal {
-            code: 0,
-            stops: true,
-        };
+        return Ok(Renewal::Stops);
     }
-    Renewal {
-        code: renew(pubkeys, d),
-        stops: false,
-    }
+    renew(pubkeys, d)?;
+    Ok(Renewal::Held)
 }
 
-// A proved key: 0 where it is the same as one held, or has an ID above all held and is added; else 9.
-fn renew(pubkeys: &mut [u8], d: &[u8]) -> u32
+// A proved key: held where it is the same as one held, or has an ID above all held and is added; else refused.
+fn renew(pubkeys: &mut [u8], d: &[u8]) -> Result<(), Refusal>
     requires { (length pubkeys.old ≡ pubkeys_length) × ((S.new_type_of d.now < 4) × (130 + K.key_length (S.new_type_of d.now) ≤ length d.now)) }
-    ensures { (result ≡ cond (S.key_welcome pubkeys.old d.now) 0 9)
+    ensures { (answer_number result ≡ cond (S.key_welcome pubkeys.old d.now) 0 9)
         × (pubkeys.new ≡ cond (S.key_welcome pubkeys.old d.now) (S.key_added pubkeys.old d.now)
         pubkeys.old) }
 {
@@ -58,13 +53,13 @@ fn renew(pubkeys: &mut [u8], d: &[u8]) -> u32
     let kind = new_type(d);
     let end = 130 + public_keys::key_length(kind);
     if public_keys::same_key(pubkeys, id, kind, &d[130..end]) {
-        return 0;
+        return Ok(());
     }
     if !public_keys::above_all(pubkeys, id) {
-        return 9;
+        return Err(Refusal::NotNewer);
     }
     public_keys::add_key(pubkeys, id, kind, &d[130..end]);
-    0
+    Ok(())
 }
 
 // Whether the message has another size than its type asks, or an emergency message another key ID than 0.

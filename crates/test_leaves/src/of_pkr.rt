@@ -3,6 +3,8 @@ ghost use Rattle.std.specs.Prelude.{◌≡◌, cond, ◌≤◌, length};
 ghost use Rattle.rules.specs.Pkr as Pkr;
 ghost use Rattle.rules.specs.State.{pubkeys_length};
 
+use pkr::Renewal;
+
 // The number of a DSM-PKR.
 #[unsafe(no_mangle)]
 pub extern "C" fn leaf_pkr_code(pubkeys: &mut [u8], root: &[u8], d: &[u8]) -> u32
@@ -10,8 +12,10 @@ pub extern "C" fn leaf_pkr_code(pubkeys: &mut [u8], root: &[u8], d: &[u8]) -> u3
     ensures { (result ≡ (Pkr.pkr_judged pubkeys.old root.now d.now).code)
         × (pubkeys.new ≡ (Pkr.pkr_judged pubkeys.old root.now d.now).pubkeys) }
 {
-    let r = pkr::pkr_judge(pubkeys, root, d);
-    r.code
+    match pkr::pkr_judge(pubkeys, root, d) {
+        Ok(_) => 0,
+        Err(refusal) => refusal.number(),
+    }
 }
 
 // Whether a DSM-PKR stops the receiver: 1 where it does.
@@ -21,6 +25,8 @@ pub extern "C" fn leaf_pkr_stops(pubkeys: &mut [u8], root: &[u8], d: &[u8]) -> u
     ensures { (result ≡ cond (Pkr.pkr_judged pubkeys.old root.now d.now).stops 1 0)
         × (pubkeys.new ≡ (Pkr.pkr_judged pubkeys.old root.now d.now).pubkeys) }
 {
-    let r = pkr::pkr_judge(pubkeys, root, d);
-    bools::number(r.stops)
+    match pkr::pkr_judge(pubkeys, root, d) {
+        Ok(Renewal::Stops) => 1,
+        _ => 0,
+    }
 }

@@ -1,8 +1,9 @@
--- `call_verdict::judge_named` meets its contract: 14, another refusal, and 0.
+-- `call_verdict::judge_named` meets its contract: 14, another refusal, and none.
 use mathlib.Core.Path.{refl, sym, ◌∙◌}
+use Rattle.std.proofs.lemmas.Result.{err_from_is_err_and}
 use Rattle.rules.specs.State.{State, verdict_lent}
 use Rattle.rules.specs.Verdict as S
-use Rattle.call_verdict.proofs.Effects.{kept, wait_ended, taken}
+use Rattle.call_verdict.proofs.Effects.{none_waits, another, kept, wait_ended, taken}
 use Rattle.call_verdict.proofs.judge_named.Goals as goal
 use Rattle.call_verdict.proofs.judge_named.Goals.{Start}
 
@@ -16,17 +17,26 @@ abbrev lent : Start → State → State
 lent c s =
     verdict_lent s c.args.config.now c.args.pubkeys.now c.args.offer.now c.args.chain.now c.args.numbers.now c.args.heldkey.now c.args.waiting.now c.args.arrivals.now
 
-pub returns-then-code-eq14 : goal.returns-then-code-eq14
-returns-then-code-eq14 c =
-    λ s. (sym c.if-code-eq14.true ∙ c.vouch_refusal-code.ensures (lent (goal.at.returns-then-code-eq14 c).Start s) refl refl refl, kept (lent (goal.at.returns-then-code-eq14 c).Start s) (verdict (goal.at.returns-then-code-eq14 c).Start))
+pub returns-then-eq : goal.returns-then-eq
+returns-then-eq c =
+    let start = (goal.at.returns-then-eq c).Start in
+    λ s. let e = c.vouch_refusal-judged.ensures (lent start s) refl refl refl in
+    let n = none_waits c.vouch_refusal-judged.result (sym c.if-eq.ensures) in
+    (e, rw n (kept (lent start s) (verdict start)))
 
-pub returns-then-code-ne0 : goal.returns-then-code-ne0
-returns-then-code-ne0 c =
-    λ s. (c.vouch_refusal-code.ensures (lent (goal.at.returns-then-code-ne0 c).Start s) refl refl refl, rw c.end_wait.ensures (wait_ended (lent (goal.at.returns-then-code-ne0 c).Start s) (verdict (goal.at.returns-then-code-ne0 c).Start) _ c.if-code-ne0.true c.if-code-eq14.false))
+pub returns-in_err-judged : goal.returns-in_err-judged
+returns-in_err-judged c =
+    let start = (goal.at.returns-in_err-judged c).Start in
+    let p = err_from_is_err_and c.from_residual.result c.from_residual.ensures.1 in
+    λ s.
+    let e = rw c.in_err-judged.was at c.vouch_refusal-judged.ensures (lent start s) refl refl refl in
+    let n = another c.in_err-judged.field-0.0 (sym (rw c.in_err-judged.was at c.if-eq.ensures)) in
+    rw (p.1, p.2) (e, rw c.end_wait.ensures (wait_ended (lent start s) (verdict start) _ n.0 n.1))
 
 pub returns : goal.returns
 returns c =
+    let start = (goal.at.returns c).Start in
     λ s. (
-      sym c.if-code-ne0.false ∙ c.vouch_refusal-code.ensures (lent (goal.at.returns c).Start s) refl refl refl,
-      rw c.end_wait.ensures (c.vouch.ensures (lent (goal.at.returns c).Start s) c.args.good c.args.signature.now refl refl refl refl refl ∙ taken (lent (goal.at.returns c).Start s) (verdict (goal.at.returns c).Start)),
+      rw c.in_ok-judged.was at c.vouch_refusal-judged.ensures (lent start s) refl refl refl,
+      rw c.end_wait.ensures (c.vouch.ensures (lent start s) c.args.good c.args.signature.now refl refl refl refl refl ∙ taken (lent start s) (verdict start)),
     )

@@ -8,7 +8,7 @@ use Rattle.rules.specs.State.{State, verdict_lent, verdict_shaped}
 use Rattle.rules.specs.Verdict as S
 use Rattle.call_verdict.proofs.Effects.{not_a_verdict, not_an_id, is_stopped, judged, fits}
 use Rattle.call_verdict.proofs.judge_verdict.Goals as goal
-use Rattle.call_verdict.proofs.judge_verdict.Goals.{Start}
+use Rattle.call_verdict.proofs.judge_verdict.Goals.{Start, then-good-gt1-via-then-good-gt1, then-good-gt1-via-else-good-gt1+then-id-gt-LAST_ID}
 
 -- the verdict that is lent
 abbrev verdict : Start → S.Verdict
@@ -26,11 +26,11 @@ long c s = fits (lent c s) (verdict c) c.requires.config_len c.requires.arrivals
 
 pub returns-then-good-gt1 : goal.returns-then-good-gt1
 returns-then-good-gt1 c =
-    λ s. not_a_verdict (lent (goal.at.returns-then-good-gt1 c).Start s) (verdict (goal.at.returns-then-good-gt1 c).Start) (long (goal.at.returns-then-good-gt1 c).Start s) (omega arith)
-
-pub returns-then-id-gt15 : goal.returns-then-id-gt15
-returns-then-id-gt15 c =
-    λ s. not_an_id (lent (goal.at.returns-then-id-gt15 c).Start s) (verdict (goal.at.returns-then-id-gt15 c).Start) (long (goal.at.returns-then-id-gt15 c).Start s) (omega arith) (omega arith)
+    let start = (goal.at.returns-then-good-gt1 c).Start in
+    λ s. elim c.then-good-gt1.branch [
+      | then-good-gt1-via-then-good-gt1 w ↦ not_a_verdict (lent start s) (verdict start) (long start s) (omega arith)
+      | then-good-gt1-via-else-good-gt1+then-id-gt-LAST_ID w ↦ not_an_id (lent start s) (verdict start) (long start s) (omega arith) (omega arith)
+    ]
 
 pub returns-then-stopped : goal.returns-then-stopped
 returns-then-stopped c =
@@ -40,4 +40,4 @@ pub returns : goal.returns
 returns c =
     λ s.
     let j = c.judge_named.ensures s in
-    judged (lent (goal.at.returns c).Start s) (verdict (goal.at.returns c).Start) (long (goal.at.returns c).Start s) c.if-good-gt1.false c.if-id-gt15.false _ _ (rw (← c.stopped.ensures) c.if-stopped.false) j.0 j.1
+    judged (lent (goal.at.returns c).Start s) (verdict (goal.at.returns c).Start) (long (goal.at.returns c).Start s) c.if-good-gt1.false c.if-id-gt-LAST_ID.false _ _ (rw (← c.stopped.ensures) c.if-stopped.false) j.0 j.1

@@ -2,6 +2,7 @@
 use mathlib.Core.Path.{◌≡◌, sym, ◌∙◌}
 use mathlib.Core.Bool.{true, false}
 use borrow.Author.Rules.{rules}
+use Rattle.std.proofs.lemmas.Result.{err_from_is_err_and}
 use Rattle.rules.specs.Pkr as S
 use Rattle.pkr.proofs.Pkr.{key_size, size_refused, tree_refused, stopped, renewed}
 use Rattle.pkr.proofs.pkr_judge.Goals as goal
@@ -31,6 +32,12 @@ pub renew-requires : goal.renew-requires
 renew-requires c =
     (search rules, key_size _ (fits (goal.at.renew-requires c).Else-size_bad) (λ e. c.if-new_type-eq4.false (c.new_type.ensures ∙ e)))
 
+pub returns-in_err-renew : goal.returns-in_err-renew
+returns-in_err-renew c =
+    let p = err_from_is_err_and c.from_residual.result c.from_residual.ensures.1 in
+    rw (p.1, p.2)
+    (renewed _ _ _ (fits (goal.at.returns-in_err-renew c).Else-size_bad) (proved (goal.at.returns-in_err-renew c).Else-not-tree_proved) (λ e. c.if-new_type-eq4.false (c.new_type.ensures ∙ e)) _ _ c.in_err-renew.ensures)
+
 pub returns : goal.returns
 returns c =
-    renewed _ _ _ (fits (goal.at.returns c).Else-size_bad) (proved (goal.at.returns c).Else-not-tree_proved) (λ e. c.if-new_type-eq4.false (c.new_type.ensures ∙ e)) _ _ c.renew.ensures
+    renewed _ _ _ (fits (goal.at.returns c).Else-size_bad) (proved (goal.at.returns c).Else-not-tree_proved) (λ e. c.if-new_type-eq4.false (c.new_type.ensures ∙ e)) _ _ c.in_ok-renew.ensures
