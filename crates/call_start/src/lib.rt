@@ -2,10 +2,10 @@
 
 // A start of the core (01, "Start gives one MACLT number .."): what refuses it, and what an accepted one writes, in two calls over eight of the sixteen
 // lent regions each.
-//   start_refusal       the number that refuses a start: 1 for a length, 2 for a setting out of range, or 0
+//   start_refusal       what refuses a start: a length, then a setting out of range
 //   install_settings    the settings; clocks, words and DSM blocks become those of a core that heard nothing
 //   install_key         the public key; what waits, chain, TESLA key, tags and sets become none
-ghost use Rattle.std.specs.Prelude.{◌≡◌, true, ◌&&◌, List, ℕ, ◌<◌, length, take, replicate};
+ghost use Rattle.std.specs.Prelude.{◌≡◌, true, ◌&&◌, List, ℕ, ◌<◌, length, take, replicate, OnOk};
 ghost use Rattle.authentic_sets.specs.Regions.{auth};
 ghost use Rattle.gather.specs.Store.{store};
 ghost use Rattle.laws.specs.Refusal.{first_refusal};
@@ -14,26 +14,29 @@ ghost use Rattle.regions.specs.Tesla.{tesla};
 ghost use Rattle.rules.specs.Calls.{start_checks, start_lengths};
 ghost use Rattle.rules.specs.PublicKeys.{key_length, with_key};
 ghost use Rattle.rules.specs.Kroot.{no_offer};
+ghost use Rattle.rules.specs.Refusals.{answer_number};
 ghost use Rattle.rules.specs.State.{State, shaped, config_length, clocks_length, words_length, stamps_length, blocks_length, dsm_ids, pubkeys_length, arrivals_length};
 ghost use Rattle.rules.specs.State.{offer_length, chain_length, numbers_length, heldkey_length, waiting_length, sets_length};
 ghost use Rattle.call_start_parts.specs.Blank.{settings, no_words, no_blocks, no_tags, no_sets};
 
-// The number that refuses a start, or 0; `fits` says that every lent length is right. It does not depend on MACLT, root and key.
-pub fn start_refusal(fits: bool, ns: u8, id: u8, kind: u8, marks: &[u8]) -> u32
+use rules::Refusal;
+
+// What refuses a start; `fits` says that every lent length is right. It does not depend on MACLT, root and key.
+pub fn start_refusal(fits: bool, ns: u8, id: u8, kind: u8, marks: &[u8]) -> Result<(), Refusal>
     requires { fits ≡ true → length marks.now ≡ 28 }
     ensures { ((s : State) (maclt : ℕ) (root key : List ℕ) →
         (shaped s && start_lengths (record { ns = ns; id = id; type = kind; maclt = maclt; marks = marks.now; root = root; key = key }))
         ≡ fits →
-        result ≡ first_refusal (start_checks s (record { ns = ns; id = id; type = kind; maclt = maclt; marks = marks.now; root = root; key = key })))
-        × (result ≡ 0 → (fits ≡ true) × ((id < 16) × (kind < 4))) }
+        answer_number result ≡ first_refusal (start_checks s (record { ns = ns; id = id; type = kind; maclt = maclt; marks = marks.now; root = root; key = key })))
+        × OnOk result ((fits ≡ true) × ((id < 16) × (kind < 4))) }
 {
     if !fits {
-        return 1;
+        return Err(Refusal::WrongLength);
     }
     if call_start_parts::start_unfit(ns, id, kind, marks) {
-        return 2;
+        return Err(Refusal::OutOfRange);
     }
-    0
+    Ok(())
 }
 
 // ---- what an accepted start writes

@@ -2,13 +2,16 @@
 
 // An I/NAV word (01, "MACK"), over the lent regions that it reads or writes. The caller has seen that every length is right.
 //   take_word       the call: any bytes, PRN and time
-//   word_refusal    the number that refuses it: 2, 4, 3, or 0
+//   word_refusal    what refuses it: a value out of range, a stopped core, or a time before that of the satellite's last word
 //   word_unfit      PRN or time out of range, or a word 4 whose SVID is not the PRN (row 2)
-ghost use Rattle.std.specs.Prelude.{◌≡◌, false, true, ◌&&◌, ◌≤◌, ◌<◌, eqb, length};
+ghost use Rattle.std.specs.Prelude.{◌≡◌, false, true, ◌&&◌, ◌≤◌, ◌<◌, eqb, length, OnOk};
 ghost use Rattle.laws.specs.Refusal.{first_refusal};
 ghost use Rattle.regions.specs.Told.{told};
 ghost use Rattle.rules.specs.Calls.{word_call, word_checks, word_unfit};
+ghost use Rattle.rules.specs.Refusals.{answer_number};
 ghost use Rattle.rules.specs.State.{State, word_shaped, word_lent, config_length, clocks_length, words_length, stamps_length};
+
+use rules::Refusal;
 
 // A word of a satellite, and the GST_SF of its sub-frame: the clock of its satellite, the word and its stamp are written, or nothing is.
 pub fn take_word(
@@ -19,48 +22,48 @@ pub fn take_word(
     prn: u8,
     time: u32,
     bytes: &[u8],
-) -> u32
+) -> Result<(), Refusal>
     requires { ((length config.now ≡ config_length) × (length clocks.old ≡ clocks_length))
         × ((length words.old ≡ words_length) × ((length stamps.old ≡ stamps_length) × (length bytes.now ≡ 16))) }
     ensures { (s : State) →
-        told result (word_lent s config.now clocks.new words.new stamps.new)
+        told (answer_number result) (word_lent s config.now clocks.new words.new stamps.new)
         ≡ word_call (word_lent s config.now clocks.old words.old stamps.old)
         (record { prn = prn; time = time; bytes = bytes.now }) }
 {
-    let code = word_refusal(config, clocks, prn, time, bytes);
-    if code != 0 {
-        return code;
-    }
+    word_refusal(config, clocks, prn, time, bytes)?;
     let kind = navdata::word_type(bytes);
-    if kind < 1 {
-        return 0;
+    let held = (1..=5).contains(&kind);
+    if held {
+        regions::note_word(clocks, prn, time);
+        navdata::store_word(words, stamps, bitfields::index(prn), kind, bytes, time + 1);
     }
-    if 5 < kind {
-        return 0;
-    }
-    regions::note_word(clocks, prn, time);
-    navdata::store_word(words, stamps, bitfields::index(prn), kind, bytes, time + 1);
-    0
+    Ok(())
 }
 
-// The number that refuses a word, or 0.
-fn word_refusal(config: &[u8], clocks: &[u32], prn: u8, time: u32, bytes: &[u8]) -> u32
+// What refuses a word.
+fn word_refusal(
+    config: &[u8],
+    clocks: &[u32],
+    prn: u8,
+    time: u32,
+    bytes: &[u8],
+) -> Result<(), Refusal>
     requires { (length config.now ≡ config_length) × ((length clocks.now ≡ clocks_length) × (length bytes.now ≡ 16)) }
     ensures { ((s : State) → s.config ≡ config.now → s.clocks ≡ clocks.now →
         (word_shaped s && eqb (length bytes.now) 16) ≡ true →
-        result ≡ first_refusal (word_checks s (record { prn = prn; time = time; bytes = bytes.now })))
-        × (result ≡ 0 → ((1 ≤ prn) × (prn ≤ 36)) × (time < 4294967295)) }
+        answer_number result ≡ first_refusal (word_checks s (record { prn = prn; time = time; bytes = bytes.now })))
+        × OnOk result (((1 ≤ prn) × (prn ≤ 36)) × (time < 4294967295)) }
 {
     if word_unfit(prn, time, bytes) {
-        return 2;
+        return Err(Refusal::OutOfRange);
     }
     if regions::stopped(config) {
-        return 4;
+        return Err(Refusal::Stopped);
     }
     if regions::later(regions::last_word_of(clocks, prn), time) {
-        return 3;
+        return Err(Refusal::OutOfOrder);
     }
-    0
+    Ok(())
 }
 
 // PRN or time out of range, or a word 4 whose SVID is not the PRN.
@@ -69,14 +72,7 @@ fn word_unfit(prn: u8, time: u32, bytes: &[u8]) -> bool
     ensures { (result ≡ word_unfit (record { prn = prn; time = time; bytes = bytes.now }))
         × (result ≡ false → ((1 ≤ prn) × (prn ≤ 36)) × (time < 4294967295)) }
 {
-    if !regions::prn_valid(prn) {
-        return true;
-    }
-    if !times::time_valid(time) {
-        return true;
-    }
-    if navdata::word_type(bytes) != 4 {
-        return false;
-    }
-    navdata::svid(bytes) != bitfields::index(prn)
+    !regions::prn_valid(prn)
+        || !times::time_valid(time)
+        || (navdata::word_type(bytes) == 4 && navdata::svid(bytes) != bitfields::index(prn))
 }

@@ -54,6 +54,7 @@ pub const ARRIVALS_LENGTH: usize = 108;
 pub const AREA_LENGTH: usize = 3240;
 
 // Every region has its length.
+#[tactic(auto, unfolding(rules::specs::State::shaped))]
 pub fn shaped(
     config: &[u8],
     clocks: &[u32],
@@ -77,52 +78,38 @@ pub fn shaped(
         pubkeys.now offer.now chain.now numbers.now
         heldkey.now waiting.now sets.now arrivals.now) }
 {
-    let last = four(
-        heldkey.len() == HELDKEY_LENGTH,
-        waiting.len() == WAITING_LENGTH,
-        sets.len() == SETS_LENGTH,
-        arrivals.len() == ARRIVALS_LENGTH,
-    );
-    let trust = four(
-        offer.len() == OFFER_LENGTH,
-        chain.len() == CHAIN_LENGTH,
-        numbers.len() == NUMBERS_LENGTH,
-        last,
-    );
-    let keys = four(
-        present.len() == DSM_IDS,
-        since.len() == DSM_IDS,
-        pubkeys.len() == PUBKEYS_LENGTH,
-        trust,
-    );
-    let store = four(
-        stamps.len() == STAMPS_LENGTH,
-        blocks.len() == BLOCKS_LENGTH,
-        headers.len() == DSM_IDS,
-        keys,
-    );
-    four(
-        config.len() == CONFIG_LENGTH,
-        clocks.len() == CLOCKS_LENGTH,
-        words.len() == WORDS_LENGTH,
-        store,
-    )
+    config.len() == CONFIG_LENGTH
+        && clocks.len() == CLOCKS_LENGTH
+        && words.len() == WORDS_LENGTH
+        && stamps.len() == STAMPS_LENGTH
+        && blocks.len() == BLOCKS_LENGTH
+        && headers.len() == DSM_IDS
+        && present.len() == DSM_IDS
+        && since.len() == DSM_IDS
+        && pubkeys.len() == PUBKEYS_LENGTH
+        && offer.len() == OFFER_LENGTH
+        && chain.len() == CHAIN_LENGTH
+        && numbers.len() == NUMBERS_LENGTH
+        && heldkey.len() == HELDKEY_LENGTH
+        && waiting.len() == WAITING_LENGTH
+        && sets.len() == SETS_LENGTH
+        && arrivals.len() == ARRIVALS_LENGTH
 }
 
 // What a word is lent has its lengths, whatever the other regions of the state hold.
+#[tactic(auto, unfolding(rules::specs::State::word_shaped))]
 pub fn word_shaped(config: &[u8], clocks: &[u32], words: &[u8], stamps: &[u32]) -> bool
     ensures { (s : State) →
         result ≡ S.word_shaped (word_lent s config.now clocks.now words.now stamps.now) }
 {
-    four(
-        config.len() == CONFIG_LENGTH,
-        clocks.len() == CLOCKS_LENGTH,
-        words.len() == WORDS_LENGTH,
-        stamps.len() == STAMPS_LENGTH,
-    )
+    config.len() == CONFIG_LENGTH
+        && clocks.len() == CLOCKS_LENGTH
+        && words.len() == WORDS_LENGTH
+        && stamps.len() == STAMPS_LENGTH
 }
 
 // What a verdict is lent has its lengths.
+#[tactic(auto, unfolding(rules::specs::State::verdict_shaped))]
 pub fn verdict_shaped(
     config: &[u8],
     pubkeys: &[u8],
@@ -137,78 +124,64 @@ pub fn verdict_shaped(
         result ≡ S.verdict_shaped (verdict_lent s config.now pubkeys.now offer.now chain.now
         numbers.now heldkey.now waiting.now arrivals.now) }
 {
-    let last = bools::both(
-        waiting.len() == WAITING_LENGTH,
-        arrivals.len() == ARRIVALS_LENGTH,
-    );
-    let tesla = four(
-        chain.len() == CHAIN_LENGTH,
-        numbers.len() == NUMBERS_LENGTH,
-        heldkey.len() == HELDKEY_LENGTH,
-        last,
-    );
-    four(
-        config.len() == CONFIG_LENGTH,
-        pubkeys.len() == PUBKEYS_LENGTH,
-        offer.len() == OFFER_LENGTH,
-        tesla,
-    )
+    config.len() == CONFIG_LENGTH
+        && pubkeys.len() == PUBKEYS_LENGTH
+        && offer.len() == OFFER_LENGTH
+        && chain.len() == CHAIN_LENGTH
+        && numbers.len() == NUMBERS_LENGTH
+        && heldkey.len() == HELDKEY_LENGTH
+        && waiting.len() == WAITING_LENGTH
+        && arrivals.len() == ARRIVALS_LENGTH
 }
 
 // What a read of a set is lent has its lengths.
+#[tactic(auto, unfolding(rules::specs::State::set_shaped))]
 pub fn set_shaped(sets: &[u8], arrivals: &[u32]) -> bool
     ensures { (s : State) → result ≡ S.set_shaped (set_lent s sets.now arrivals.now) }
 {
-    bools::both(sets.len() == SETS_LENGTH, arrivals.len() == ARRIVALS_LENGTH)
+    sets.len() == SETS_LENGTH && arrivals.len() == ARRIVALS_LENGTH
 }
 
 // What a read of the waiting message is lent has its lengths.
+#[tactic(auto, unfolding(rules::specs::State::offer_shaped))]
 pub fn offer_shaped(pubkeys: &[u8], offer: &[u8]) -> bool
     ensures { (s : State) → result ≡ S.offer_shaped (offer_lent s pubkeys.now offer.now) }
 {
-    bools::both(pubkeys.len() == PUBKEYS_LENGTH, offer.len() == OFFER_LENGTH)
+    pubkeys.len() == PUBKEYS_LENGTH && offer.len() == OFFER_LENGTH
 }
 
 // What the question for four satellites is lent has its lengths (02, P5).
+#[tactic(auto, unfolding(rules::specs::State::four_shaped))]
 pub fn four_shaped(clocks: &[u32], arrivals: &[u32]) -> bool
     ensures { (s : State) → result ≡ S.four_shaped (four_lent s clocks.now arrivals.now) }
 {
-    let clocked = clocks.len() == CLOCKS_LENGTH;
-    bools::both(clocked, arrivals.len() == ARRIVALS_LENGTH)
+    clocks.len() == CLOCKS_LENGTH && arrivals.len() == ARRIVALS_LENGTH
 }
 
 // What the question for the progress of messages is lent has its lengths (02, P9).
+#[tactic(auto, unfolding(rules::specs::State::progress_shaped))]
 pub fn progress_shaped(blocks: &[u8], present: &[u16]) -> bool
     ensures { (s : State) → result ≡ S.progress_shaped (progress_lent s blocks.now present.now) }
 {
-    let gathered = blocks.len() == BLOCKS_LENGTH;
-    bools::both(gathered, present.len() == DSM_IDS)
-}
-
-fn four(a: bool, b: bool, c: bool, d: bool) -> bool
-    ensures { result ≡ (a && (b && (c && d))) }
-{
-    bools::both(a, bools::both(b, bools::both(c, d)))
+    blocks.len() == BLOCKS_LENGTH && present.len() == DSM_IDS
 }
 
 // ---- settings
 
 // NS; a number that no start takes counts as 1.
+#[tactic(auto, unfolding(rules::specs::State::ns_of))]
 pub fn ns_of(config: &[u8]) -> u64
     requires { length config.now ≡ config_length }
     ensures { (result ≡ S.ns_of config.now) × ((1 ≤ result) × (result ≤ 36)) }
 {
-    let ns = config[0];
-    if ns < 1 {
-        return 1;
+    match config[0] {
+        ns @ 1..=36 => u64::from(ns),
+        _ => 1,
     }
-    if 36 < ns {
-        return 1;
-    }
-    ns as u64
 }
 
 // The MACLT number of the start.
+#[tactic(auto, unfolding(rules::specs::State::maclt_of))]
 pub fn maclt_of(config: &[u8]) -> u8
     requires { length config.now ≡ config_length }
     ensures { result ≡ S.maclt_of config.now }
@@ -220,6 +193,7 @@ pub fn maclt_of(config: &[u8]) -> u8
 pub const STOPPED_AT: usize = 62;
 
 // An emergency message stopped the core.
+#[tactic(auto, unfolding(rules::specs::State::stopped))]
 pub fn stopped(config: &[u8]) -> bool
     requires { length config.now ≡ config_length }
     ensures { result ≡ S.stopped config.now }
@@ -238,16 +212,17 @@ pub fn stop(config: &mut [u8])
 // ---- clocks
 
 // A PRN that is heard: 1 to 36.
+#[tactic(auto, unfolding(rules::specs::State::prn_valid))]
 pub fn prn_valid(prn: u8) -> bool
     ensures { (result ≡ S.prn_valid prn) × (result ≡ true → (1 ≤ prn) × (prn ≤ 36)) }
 {
-    if prn < 1 {
-        return false;
-    }
-    prn <= 36
+    (1..=36).contains(&prn)
 }
 
+// A stamp is a time plus 1, or 0 for never, and no Option: the clocks lie in memory that C lends, four bytes each.
+
 // The stamp of the last sub-frame.
+#[tactic(auto, unfolding(rules::specs::State::last_subframe))]
 pub fn last_subframe(clocks: &[u32]) -> u32
     requires { length clocks.now ≡ clocks_length }
     ensures { result ≡ S.last_subframe clocks.now }
@@ -256,6 +231,7 @@ pub fn last_subframe(clocks: &[u32]) -> u32
 }
 
 // The stamp of a satellite's last sub-frame.
+#[tactic(auto, unfolding(rules::specs::State::last_subframe_of))]
 pub fn last_subframe_of(clocks: &[u32], prn: u8) -> u32
     requires { (length clocks.now ≡ clocks_length) × (prn ≤ 36) }
     ensures { result ≡ S.last_subframe_of clocks.now prn }
@@ -264,6 +240,7 @@ pub fn last_subframe_of(clocks: &[u32], prn: u8) -> u32
 }
 
 // The stamp of a satellite's last word.
+#[tactic(auto, unfolding(rules::specs::State::last_word_of))]
 pub fn last_word_of(clocks: &[u32], prn: u8) -> u32
     requires { (length clocks.now ≡ clocks_length) × (prn ≤ 36) }
     ensures { result ≡ S.last_word_of clocks.now prn }
@@ -272,6 +249,7 @@ pub fn last_word_of(clocks: &[u32], prn: u8) -> u32
 }
 
 // The time of a sub-frame is noted: the last over all satellites, and this one's.
+#[tactic(auto, unfolding(rules::specs::Times::stamp_of))]
 pub fn note_subframe(clocks: &mut [u32], prn: u8, time: u32)
     requires { (length clocks.old ≡ clocks_length) × ((prn ≤ 36) × (time < 4294967295)) }
     ensures { clocks.new ≡ set (set clocks.old 0 (stamp_of time)) prn (stamp_of time) }
@@ -281,6 +259,7 @@ pub fn note_subframe(clocks: &mut [u32], prn: u8, time: u32)
 }
 
 // The time of a satellite's word is noted.
+#[tactic(auto, unfolding(rules::specs::Times::stamp_of))]
 pub fn note_word(clocks: &mut [u32], prn: u8, time: u32)
     requires { (length clocks.old ≡ clocks_length) × ((prn ≤ 36) × (time < 4294967295)) }
     ensures { clocks.new ≡ set clocks.old (36 + prn) (stamp_of time) }
@@ -290,16 +269,15 @@ pub fn note_word(clocks: &mut [u32], prn: u8, time: u32)
 }
 
 // A stamp is that of a later time.
+#[tactic(auto, unfolding(rules::specs::Times::stamp_of))]
 pub fn later(stamp: u32, time: u32) -> bool
     ensures { result ≡ ltb (stamp_of time) stamp }
 {
-    if stamp == 0 {
-        return false;
-    }
-    time < stamp - 1
+    stamp != 0 && time < stamp - 1
 }
 
 // A stamp is that of this time or of a later one.
+#[tactic(auto, unfolding(rules::specs::Times::stamp_of))]
 pub fn reached(stamp: u32, time: u32) -> bool
     ensures { result ≡ leb (stamp_of time) stamp }
 {
@@ -308,26 +286,32 @@ pub fn reached(stamp: u32, time: u32) -> bool
 
 // ---- the held key and the waiting tags
 
+// What every slot is below: the last is in week 4095.
+const SLOTS: u64 = 17179869184;
+
+// The most tags that wait at once.
+const MOST_WAITING: u64 = 256;
+
 // The held key's slot; a number past every slot counts as 0.
+#[tactic(auto, unfolding(rules::specs::State::held_slot))]
 pub fn held_slot(numbers: &[u64]) -> u64
     requires { length numbers.now ≡ numbers_length }
     ensures { (result ≡ S.held_slot numbers.now) × (result < 17179869184) }
 {
-    let slot = numbers[0];
-    if 17179869184 <= slot {
-        return 0;
+    match numbers[0] {
+        slot @ 0..SLOTS => slot,
+        _ => 0,
     }
-    slot
 }
 
 // How many tags wait; at most 256 do.
+#[tactic(auto, unfolding(rules::specs::State::waiting_count))]
 pub fn waiting_count(numbers: &[u64]) -> usize
     requires { length numbers.now ≡ numbers_length }
     ensures { (result ≡ S.waiting_count numbers.now) × (result ≤ 256) }
 {
-    let count = numbers[1];
-    if 256 < count {
-        return 0;
+    match numbers[1] {
+        count @ 0..=MOST_WAITING => count as usize,
+        _ => 0,
     }
-    count as usize
 }
