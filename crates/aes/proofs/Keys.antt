@@ -1,24 +1,24 @@
 -- KeyExpansion, word by word.
 -- Assumes nothing.
-use mathlib.Core.Path.{◌≡◌, refl, sym, ap, ap₂, subst, ◌∙◌}
+use mathlib.Core.Path.{◌≡◌, refl, sym, ap, ap₂, ◌∙◌}
 use mathlib.Core.Bool.{Bool, true, false, cond, ◌&&◌}
-use mathlib.Core.Logic.{◌⊎◌, ⊎_elim}
-use mathlib.Core.List.{List, [], ◌∷◌, ◌++◌, map, append_assoc}
-use Prim.Native.Nat.{ℕ, zero, suc, ◌+◌, ◌-◌, ◌*◌, ◌/◌, ◌%◌, ◌≤◌, ◌<◌}
+use mathlib.Core.Logic.{◌⊎◌, inl, inr, ⊎_elim}
+use mathlib.Core.List.{List, [], ◌∷◌, ◌++◌, append_assoc}
+use Prim.Native.Nat.{ℕ, zero, suc, ◌+◌, ◌-◌, ◌*◌, ◌/◌, ◌%◌, ◌≤◌, ◌<◌, ◌^◌, min}
 use native.Mathlib.Nat.{div-eq-sub-div}
 use native.Mathlib.Numerals.{add-one}
 use native.Mathlib.Omega.{arith}
 use borrow.Author.Tests.{lt-ltb, le-ltb, eq-eqb, ne_eqb}
-use lib.Bits.{bit_xor, xor_zero_r}
+use lib.Bits.{bit_xor}
 use lib.Dec.{eqb, ltb}
-use lib.ListN.{length, length-map, get_or, take, replicate, length-append, length-replicate, length-take, replicate-append-replicate}
-use lib.Seq.{take_all, take_at, drop_at}
+use lib.ListN.{length, length-map, take, drop, replicate, length-append, length-replicate, length-take, replicate-append-replicate}
+use lib.Seq.{length-take-le, take_all, take_at, drop_at}
 use Rattle.laws.specs.Lists.{part, splice}
-use Rattle.laws.proofs.Elements.{written_out}
-use Rattle.laws.proofs.Splice.{length_part, get_d_part, part_first, splice_whole, splice-start, drop-replicate, below?}
+use Rattle.laws.specs.Bytes.{be4}
+use Rattle.laws.proofs.Splice.{length_part, part_first, drop-replicate, below?}
 use Rattle.aes.specs.Aes as S
 use Rattle.aes.specs.Steps as C
-use Rattle.aes.proofs.States.{four_equal}
+use Rattle.aes.proofs.States.{four_equal, xor_be4}
 use Rattle.aes.proofs.Lengths.{length-cipher, length-xored, nk_range, rounds_range}
 
 -- ---- Rcon
@@ -38,10 +38,9 @@ power_is r i n g h p =
 
 -- ---- SubWord
 
-pub sub_four : (a : List ℕ) {v0 v1 v2 v3 : ℕ} → length a ≡ 4 → v0 ≡ S.sub_byte (get_or a 0 0) → v1 ≡ S.sub_byte (get_or a 1 0) → v2 ≡ S.sub_byte (get_or a 2 0) → v3 ≡ S.sub_byte (get_or a 3 0)
-    → v0 ∷ v1 ∷ v2 ∷ v3 ∷ [] ≡ S.sub_bytes a
-unfolding S.sub_bytes
-sub_four a e p q r s = rw (p, q, r, s) (ap (map S.sub_byte) (sym (written_out 4 a e)))
+pub sub_four : (x : ℕ) → S.sub_byte (x / 16777216 % 256) ∷ S.sub_byte (x / 65536 % 256) ∷ S.sub_byte (x / 256 % 256) ∷ S.sub_byte (x % 256) ∷ [] ≡ S.sub_bytes (be4 x)
+unfolding S.sub_bytes be4
+sub_four x = refl
 
 and_false : (b : Bool) → (b && false) ≡ false
 and_false true = refl
@@ -49,10 +48,16 @@ and_false false = refl
 
 -- ---- what is added to word i - Nk, case by case
 
-pub first_case : (nk i x : ℕ) (a b : List ℕ) → i % nk ≡ 0 → b ≡ S.sub_bytes (get_or a 1 0 ∷ get_or a 2 0 ∷ get_or a 3 0 ∷ get_or a 0 0 ∷ []) → x ≡ S.x_power (i / nk - 1)
-    → bit_xor (get_or b 0 0) x ∷ get_or b 1 0 ∷ get_or b 2 0 ∷ get_or b 3 0 ∷ [] ≡ S.temp nk i a
-unfolding S.temp S.rot_word S.rcon S.xored S.sub_bytes
-first_case nk i x a b h p q = rw (p, q, eq-eqb (i % nk) 0 h) (simp xor_zero_r)
+-- x^j in a word's first byte
+rcon_is : (r : ℕ) → r < 256 → be4 (r * 2 ^ 24 % 2 ^ 32) ≡ r ∷ 0 ∷ 0 ∷ 0 ∷ []
+unfolding be4
+rcon_is r h = four_equal (omega arith) (omega arith) (omega arith) (omega arith)
+
+pub first_case : (nk i v r : ℕ) (a : List ℕ) → i % nk ≡ 0 → be4 v ≡ S.sub_bytes (S.rot_word a) → r < 256 → r ≡ S.x_power (i / nk - 1)
+    → be4 (bit_xor v (r * 2 ^ 24 % 2 ^ 32)) ≡ S.temp nk i a
+unfolding S.temp S.rcon
+first_case nk i v r a h p b q =
+    xor_be4 v (r * 2 ^ 24 % 2 ^ 32) ∙ rw (p, rcon_is r b, eq-eqb (i % nk) 0 h) (ap (λ (y : ℕ). S.xored (S.sub_bytes (S.rot_word a)) (y ∷ 0 ∷ 0 ∷ 0 ∷ [])) q)
 
 pub second_case : (nk i : ℕ) (a b : List ℕ) → 6 < nk → i % nk ≡ 4 → b ≡ S.sub_bytes a → b ≡ S.temp nk i a
 unfolding S.temp
@@ -92,40 +97,15 @@ quotient_positive i n h g =
     let e = div-eq-sub-div h g in
     omega arith
 
-pub part_four : (w : List ℕ) (a : ℕ) → a + 4 ≤ length w → part w a 4 ≡ get_or w a 0 ∷ get_or w (a + 1) 0 ∷ get_or w (a + 2) 0 ∷ get_or w (a + 3) 0 ∷ []
-part_four w a h =
-    let e : a + 0 ≡ a = omega arith in
-    written_out 4 (part w a 4) (length_part w a 4 h)
-    ∙ four_equal (get_d_part w a 4 0 (omega arith) ∙ ap (λ (i : ℕ). get_or w i 0) e) (get_d_part w a 4 1 (omega arith)) (get_d_part w a 4 2 (omega arith)) (get_d_part w a 4 3 (omega arith))
-
-xored_out : (a b c d e f g h : ℕ) → bit_xor a e ∷ bit_xor b f ∷ bit_xor c g ∷ bit_xor d h ∷ [] ≡ S.xored (a ∷ b ∷ c ∷ d ∷ []) (e ∷ f ∷ g ∷ h ∷ [])
-unfolding S.xored
-xored_out a b c d e f g h = refl
-
-xored_four : (a b c d : ℕ) (v : List ℕ) → length v ≡ 4
-    → bit_xor a (get_or v 0 0) ∷ bit_xor b (get_or v 1 0) ∷ bit_xor c (get_or v 2 0) ∷ bit_xor d (get_or v 3 0) ∷ [] ≡ S.xored (a ∷ b ∷ c ∷ d ∷ []) v
-xored_four a b c d v e =
-    subst (λ (l : List ℕ). bit_xor a (get_or l 0 0) ∷ bit_xor b (get_or l 1 0) ∷ bit_xor c (get_or l 2 0) ∷ bit_xor d (get_or l 3 0) ∷ [] ≡ S.xored (a ∷ b ∷ c ∷ d ∷ []) l)
-    (sym (written_out 4 v e)) (xored_out a b c d _ _ _ _)
-
-before : (w : List ℕ) (i : ℕ) → 1 ≤ i → 4 * i ≤ length w
-    → get_or w (4 * i - 4) 0 ∷ get_or w (4 * i - 3) 0 ∷ get_or w (4 * i - 2) 0 ∷ get_or w (4 * i - 1) 0 ∷ [] ≡ S.word w (i - 1)
-unfolding S.word
-before w i h g =
-    let e0 : 4 * i - 4 ≡ 4 * (i - 1) = omega arith in
-    let e1 : 4 * i - 3 ≡ 4 * (i - 1) + 1 = omega arith in
-    let e2 : 4 * i - 2 ≡ 4 * (i - 1) + 2 = omega arith in
-    let e3 : 4 * i - 1 ≡ 4 * (i - 1) + 3 = omega arith in
-    rw (e0, e1, e2, e3) (sym (part_four w (4 * (i - 1)) (omega arith)))
-
-pub next_is : (w : List ℕ) (nk i : ℕ) (v : List ℕ) → 0 < nk → nk ≤ i → 4 * i ≤ length w → length v ≡ 4
-    → v ≡ S.temp nk i (get_or w (4 * i - 4) 0 ∷ get_or w (4 * i - 3) 0 ∷ get_or w (4 * i - 2) 0 ∷ get_or w (4 * i - 1) 0 ∷ [])
-    → bit_xor (get_or w (4 * (i - nk)) 0) (get_or v 0 0) ∷ bit_xor (get_or w (4 * (i - nk) + 1) 0) (get_or v 1 0) ∷ bit_xor (get_or w (4 * (i - nk) + 2) 0) (get_or v 2 0)
-    ∷ bit_xor (get_or w (4 * (i - nk) + 3) 0) (get_or v 3 0) ∷ [] ≡ S.next_word nk w i
+pub next_is : (w : List ℕ) (nk i a b t : ℕ) → be4 a ≡ part w (4 * (i - nk)) 4 → be4 b ≡ part w (4 * (i - 1)) 4 → be4 t ≡ S.temp nk i (be4 b) → be4 (bit_xor a t) ≡ S.next_word nk w i
 unfolding S.next_word S.word
-next_is w nk i v g h l e p =
-    xored_four _ _ _ _ v e
-    ∙ ap₂ S.xored (sym (part_four w (4 * (i - nk)) (omega arith))) (p ∙ ap (S.temp nk i) (before w i (omega arith) l))
+next_is w nk i a b t p q r = xor_be4 a t ∙ ap₂ S.xored p (r ∙ ap (S.temp nk i) q)
+
+pub last_word : (w v : List ℕ) (i x : ℕ) → 4 * i + 4 ≤ length w → v ≡ splice w (4 * i) (be4 x) → be4 x ≡ part v (4 * (i + 1 - 1)) 4
+unfolding part splice be4
+last_word w v i x h p =
+    let e : i + 1 - 1 ≡ i = omega arith in
+    rw (e, p, drop_at (take (4 * i) w) (be4 x ++ drop 4 (drop (4 * i) w)) (4 * i) (length-take-le (4 * i) w (omega arith)))
 
 -- ---- how long the words are
 
@@ -186,9 +166,6 @@ padded m j p h =
     let e : j + (m - (length p + j)) ≡ m - length p = omega arith in
     simp (length-append, length-replicate, append_assoc, replicate-append-replicate, e)
 
-zeros_whole : (m : ℕ) (w : List ℕ) → length w ≡ m → splice w 0 (replicate m 0) ≡ replicate m 0
-zeros_whole m w e = splice_whole w (replicate m 0) (length-replicate m 0 ∙ sym e)
-
 taken : (m n : ℕ) (l : List ℕ) → n ≤ m → (m ≤ n) ⊎ (length l ≤ n) → take n l ≡ take m l
 taken m n l h u =
     ⊎_elim
@@ -199,15 +176,15 @@ taken m n l h u =
     u
 
 -- the key laid at the start of zeros
-pub laid : (key w w1 w2 : List ℕ) (nk n : ℕ) → nk ≡ S.nk_of (length key) → length w ≡ 240 → n ≤ 4 * nk → (4 * nk ≤ n) ⊎ (length key ≤ n) → w1 ≡ splice w 0 (replicate 240 0)
-    → w2 ≡ splice w1 0 (part key 0 n) → w2 ≡ C.filled nk (S.key_bytes key) 0
-unfolding C.filled S.key_words S.key_bytes part
-laid key w w1 w2 nk n e l h u p q =
+pub laid : (key t z : List ℕ) (nk n : ℕ) → nk ≡ S.nk_of (length key) → n ≡ min (length key) (4 * nk) → t ≡ take n key → z ≡ replicate 240 0
+    → t ++ drop n z ≡ C.filled nk (S.key_bytes key) 0
+unfolding C.filled S.key_words S.key_bytes
+laid key t z nk n e m p q =
     let r = nk_range (length key) in
-    let t = length-take (4 * nk) key in
-    q
-    ∙ rw (p, zeros_whole 240 w l, splice-start 240 0 (take n key), taken (4 * nk) n key h u)
-    (rw (← e) (sym (padded 240 (16 - length key) (take (4 * nk) key) (omega arith))))
+    let l = length-take (4 * nk) key in
+    let u : (4 * nk ≤ n) ⊎ (length key ≤ n) = ⊎_elim (λ h. inr (omega arith)) (λ h. inl (omega arith)) (below? (length key) (4 * nk)) in
+    let d : 240 - n ≡ 240 - length (take (4 * nk) key) = omega arith in
+    rw (p, q, drop-replicate n 240 0, taken (4 * nk) n key (omega arith) u, d) (rw (← e) (sym (padded 240 (16 - length key) (take (4 * nk) key) (omega arith))))
 
 -- one word more
 seam : (m : ℕ) (v x : List ℕ) (a : ℕ) → length v ≡ a → splice (v ++ replicate (m - length v) 0) a x ≡ (v ++ x) ++ replicate (m - length (v ++ x)) 0

@@ -5,12 +5,15 @@ use mathlib.Core.List.{List, [], ◌∷◌, ◌++◌}
 use Prim.Native.Nat.{ℕ, zero, suc, ◌+◌, ◌-◌, ◌*◌, ◌/◌, ◌%◌, ◌^◌, ◌≤◌, ◌<◌}
 use native.Mathlib.Nat.{zero-mul, one-mul, add_assoc}
 use native.Mathlib.Omega.{arith}
-use lib.Bits.{bit_and, bit_xor, and_le_r, and_mask, and_mod, and_shr, xor_comm, xor_mod, xor_shr, xor_zero_l, xor_zero_r}
+use Rattle.std.specs.Int.{rotate_left, w32}
+use lib.Bits.{bit_and, bit_xor, or_shifted, and_le_r, and_mask, and_mod, and_shr, xor_comm, xor_mod, xor_shr, xor_zero_l, xor_zero_r}
 use lib.ListN.{length, get_or, take, drop, replicate}
 use lib.Seq.{take-add, take_all, drop-drop}
 use Rattle.laws.specs.Lists.{part, splice}
 use Rattle.laws.specs.Bytes.{be4, u32at}
 use Rattle.laws.proofs.Bits.{xor_assoc}
+use Rattle.laws.proofs.Elements.{written_out}
+use Rattle.laws.proofs.Splice.{length_part, get_d_part}
 use Rattle.laws.proofs.Numbers.{u32at-be4}
 use Rattle.aes.specs.Aes as S
 use Rattle.aes.specs.Steps as C
@@ -24,6 +27,17 @@ pub joined_is : (x a b c d : ℕ) → a < 256 → b < 256 → c < 256 → d < 25
 unfolding be4
 joined_is x a b c d ha hb hc hd e = four_equal (omega arith) (omega arith) (omega arith) (omega arith)
 
+-- the four bytes at a place of a list of bytes
+pub part_four : (w : List ℕ) (a : ℕ) → a + 4 ≤ length w → part w a 4 ≡ get_or w a 0 ∷ get_or w (a + 1) 0 ∷ get_or w (a + 2) 0 ∷ get_or w (a + 3) 0 ∷ []
+part_four w a h =
+    let e : a + 0 ≡ a = omega arith in
+    written_out 4 (part w a 4) (length_part w a 4 h)
+    ∙ four_equal (get_d_part w a 4 0 (omega arith) ∙ ap (λ (i : ℕ). get_or w i 0) e) (get_d_part w a 4 1 (omega arith)) (get_d_part w a 4 2 (omega arith)) (get_d_part w a 4 3 (omega arith))
+
+pub word_is : (w : List ℕ) (a : ℕ) → a + 4 ≤ length w → ((i : ℕ) → get_or w i 0 < 256) → be4 (u32at w a) ≡ part w a 4
+unfolding u32at
+word_is w a h byte = joined_is _ _ _ _ _ (byte a) (byte (a + 1)) (byte (a + 2)) (byte (a + 3)) refl ∙ sym (part_four w a h)
+
 -- the bytes of an exclusive or, and of an `and`
 xor_byte : (a b k : ℕ) → bit_xor a b / 2 ^ k % 256 ≡ bit_xor (a / 2 ^ k % 256) (b / 2 ^ k % 256)
 xor_byte a b k = ap (λ (t : ℕ). t % 256) (xor_shr a b k) ∙ xor_mod (a / 2 ^ k) (b / 2 ^ k) 8
@@ -31,7 +45,7 @@ xor_byte a b k = ap (λ (t : ℕ). t % 256) (xor_shr a b k) ∙ xor_mod (a / 2 ^
 and_byte : (a b k : ℕ) → bit_and a b / 2 ^ k % 256 ≡ bit_and (a / 2 ^ k % 256) (b / 2 ^ k % 256)
 and_byte a b k = ap (λ (t : ℕ). t % 256) (and_shr a b k) ∙ and_mod (a / 2 ^ k) (b / 2 ^ k) 8
 
-xor_be4 : (a b : ℕ) → be4 (bit_xor a b) ≡ S.xored (be4 a) (be4 b)
+pub xor_be4 : (a b : ℕ) → be4 (bit_xor a b) ≡ S.xored (be4 a) (be4 b)
 unfolding be4 S.xored
 xor_be4 a b = four_equal (xor_byte a b 24) (xor_byte a b 16) (xor_byte a b 8) (xor_mod a b 8)
 
@@ -39,14 +53,38 @@ split : (x : ℕ) → x < 2 ^ 32 → x ≡ x / 256 ^ 3 % 256 * 256 ^ 3 + x / 256
 unfolding u32at be4
 split x h = sym (u32at-be4 x h)
 
+-- a column whose bytes move up by one, two and three places; those that go out come in below
 turned_sum : (x a b c d : ℕ) → a < 256 → b < 256 → c < 256 → d < 256 → x ≡ a * 16777216 + b * 65536 + c * 256 + d
-    → be4 (x % 16777216 * 256 + x / 16777216) ≡ b ∷ c ∷ d ∷ a ∷ []
-turned_sum x a b c d ha hb hc hd e = joined_is (x % 16777216 * 256 + x / 16777216) b c d a hb hc hd ha (omega arith)
+    → (be4 (x % 2 ^ 24 * 2 ^ 8 + x / 2 ^ 24) ≡ b ∷ c ∷ d ∷ a ∷ []) × ((be4 (x % 2 ^ 16 * 2 ^ 16 + x / 2 ^ 16) ≡ c ∷ d ∷ a ∷ b ∷ []) × (be4 (x % 2 ^ 8 * 2 ^ 24 + x / 2 ^ 8) ≡ d ∷ a ∷ b ∷ c ∷ []))
+turned_sum x a b c d ha hb hc hd e = (
+  joined_is (x % 2 ^ 24 * 2 ^ 8 + x / 2 ^ 24) b c d a hb hc hd ha (omega arith),
+  (
+    joined_is (x % 2 ^ 16 * 2 ^ 16 + x / 2 ^ 16) c d a b hc hd ha hb (omega arith),
+    joined_is (x % 2 ^ 8 * 2 ^ 24 + x / 2 ^ 8) d a b c hd ha hb hc (omega arith),
+  ),
+)
 
-pub turned_is : (x : ℕ) → x < 2 ^ 32 → be4 (x % 16777216 * 256 + x / 16777216) ≡ S.rot_word (be4 x)
-unfolding be4 S.rot_word
-turned_is x h =
-    turned_sum x (x / 256 ^ 3 % 256) (x / 256 ^ 2 % 256) (x / 256 % 256) (x % 256) (omega arith) (omega arith) (omega arith) (omega arith) (split x h)
+module _ (x : ℕ) (h : x < 2 ^ 32) where
+  sums : (be4 (x % 2 ^ 24 * 2 ^ 8 + x / 2 ^ 24) ≡ S.rot_word (be4 x))
+      × ((be4 (x % 2 ^ 16 * 2 ^ 16 + x / 2 ^ 16) ≡ S.rot_word (S.rot_word (be4 x))) × (be4 (x % 2 ^ 8 * 2 ^ 24 + x / 2 ^ 8) ≡ S.rot_word (S.rot_word (S.rot_word (be4 x)))))
+  unfolding be4 S.rot_word
+  sums =
+      turned_sum x (x / 256 ^ 3 % 256) (x / 256 ^ 2 % 256) (x / 256 % 256) (x % 256) (omega arith) (omega arith) (omega arith) (omega arith) (split x h)
+
+  pub turned : be4 (rotate_left w32 x 8) ≡ S.rot_word (be4 x)
+  turned =
+      let m : x * 2 ^ 8 % 2 ^ 32 ≡ x % 2 ^ 24 * 2 ^ 8 = omega arith in
+      ap be4 (rw m (or_shifted (x % 2 ^ 24) 8 (x / 2 ^ 24) (omega arith))) ∙ sums.0
+
+  pub turned_twice : be4 (rotate_left w32 x 16) ≡ S.rot_word (S.rot_word (be4 x))
+  turned_twice =
+      let m : x * 2 ^ 16 % 2 ^ 32 ≡ x % 2 ^ 16 * 2 ^ 16 = omega arith in
+      ap be4 (rw m (or_shifted (x % 2 ^ 16) 16 (x / 2 ^ 16) (omega arith))) ∙ sums.1.0
+
+  pub turned_thrice : be4 (rotate_left w32 x 24) ≡ S.rot_word (S.rot_word (S.rot_word (be4 x)))
+  turned_thrice =
+      let m : x * 2 ^ 24 % 2 ^ 32 ≡ x % 2 ^ 8 * 2 ^ 24 = omega arith in
+      ap be4 (rw m (or_shifted (x % 2 ^ 8) 24 (x / 2 ^ 8) (omega arith))) ∙ sums.1.1
 
 twice : (y a b c d : ℕ) → y ≡ a % 128 * 256 ^ 3 + b % 128 * 256 ^ 2 + c % 128 * 256 + d % 128 → be4 (y * 2) ≡ a % 128 * 2 ∷ b % 128 * 2 ∷ c % 128 * 2 ∷ d % 128 * 2 ∷ []
 twice y a b c d e = joined_is (y * 2) (a % 128 * 2) (b % 128 * 2) (c % 128 * 2) (d % 128 * 2) (omega arith) (omega arith) (omega arith) (omega arith) (omega arith)
@@ -87,9 +125,11 @@ top_bits x h =
     let e0 : y % 256 ≡ x % 256 / 128 = and_mod (x / 128) 0x01010101 8 ∙ and_mask (x / 128 % 256) 1 ∙ t0 in
     times27 y (x / 256 ^ 3 % 256) (x / 256 ^ 2 % 256) (x / 256 % 256) (x % 256) (omega arith) (omega arith) (omega arith) (omega arith) (s ∙ rw (e3, e2, e1, e0))
 
-pub doubled_is : (x : ℕ) → x < 2 ^ 32 → be4 (bit_xor (bit_and x 0x7f7f7f7f * 2) (bit_and (x / 128) 0x01010101 * 27)) ≡ C.doubled (be4 x)
+pub doubled_is : (x : ℕ) → x < 2 ^ 32 → be4 (bit_xor (bit_and x 0x7f7f7f7f * 2 % 2 ^ 32) (bit_and (x / 128) 0x01010101 * 27)) ≡ C.doubled (be4 x)
 doubled_is x h =
-    xor_be4 (bit_and x 0x7f7f7f7f * 2) (bit_and (x / 128) 0x01010101 * 27) ∙ ap₂ S.xored (low_bits x) (top_bits x h) ∙ both_bits x
+    let m : bit_and x 0x7f7f7f7f * 2 % 2 ^ 32 ≡ bit_and x 0x7f7f7f7f * 2 = omega (arith, and_le_r x 0x7f7f7f7f) in
+    rw m
+    (xor_be4 (bit_and x 0x7f7f7f7f * 2) (bit_and (x / 128) 0x01010101 * 27) ∙ ap₂ S.xored (low_bits x) (top_bits x h) ∙ both_bits x)
 
 -- ---- MixColumns
 
@@ -140,12 +180,12 @@ mixed_is : (x : ℕ) → S.xored (S.xored (S.xored (C.doubled (be4 x)) (S.rot_wo
 unfolding be4 C.mixed
 mixed_is x = mix_out _ _ _ _ ∙ sym (column _ _ _ _)
 
-pub mix_is : (x y b e c d : ℕ) → be4 y ≡ C.doubled (be4 x) → be4 b ≡ S.rot_word (be4 (bit_xor x y)) → be4 e ≡ S.rot_word (be4 x) → be4 c ≡ S.rot_word (be4 e) → be4 d ≡ S.rot_word (be4 c)
+pub mix_is : (x y b c d : ℕ) → be4 y ≡ C.doubled (be4 x) → be4 b ≡ S.rot_word (be4 (bit_xor x y)) → be4 c ≡ S.rot_word (S.rot_word (be4 x)) → be4 d ≡ S.rot_word (S.rot_word (S.rot_word (be4 x)))
     → be4 (bit_xor (bit_xor (bit_xor y b) c) d) ≡ C.mixed (be4 x)
-mix_is x y b e c d p1 p2 p3 p4 p5 =
+mix_is x y b c d p1 p2 p3 p4 =
     xor_be4 (bit_xor (bit_xor y b) c) d
     ∙ ap (λ (t : List ℕ). S.xored t (be4 d)) (xor_be4 (bit_xor y b) c ∙ ap (λ (t : List ℕ). S.xored t (be4 c)) (xor_be4 y b))
-    ∙ rw (p5, p4, p3, p2, xor_be4 x y, p1) (mixed_is x)
+    ∙ rw (p4, p3, p2, xor_be4 x y, p1) (mixed_is x)
 
 -- ---- whole states
 
@@ -175,9 +215,9 @@ whole : (b : List ℕ) → length b ≡ 16 → part b 0 16 ≡ b
 unfolding part
 whole b e = take_all 16 b (omega arith)
 
-pub mix_all : (s : List ℕ) (a b c d : ℕ) → be4 a ≡ C.mixed (be4 (get_or s 0 0)) → be4 b ≡ C.mixed (be4 (get_or s 1 0)) → be4 c ≡ C.mixed (be4 (get_or s 2 0)) → be4 d ≡ C.mixed (be4 (get_or s 3 0))
-    → C.bytes_of (a ∷ b ∷ c ∷ d ∷ []) ≡ S.mix_columns (C.bytes_of s)
-mix_all s a b c d p q r t = bytes_out a b c d p q r t ∙ mix_split s
+pub mix_all : (s r : List ℕ) → ((i : ℕ) → i < 4 → be4 (get_or r i 0) ≡ C.mixed (be4 (get_or s i 0))) → C.bytes_of r ≡ S.mix_columns (C.bytes_of s)
+unfolding C.bytes_of
+mix_all s r f = rw (f 0 (omega arith), f 1 (omega arith), f 2 (omega arith), f 3 (omega arith)) (mix_split s)
 
 pub sub-all : (s : List ℕ) (a b c d : ℕ)
     → be4 a ≡ S.sub_byte (get_or s 0 0 / 16777216 % 256) ∷ S.sub_byte (get_or s 1 0 / 65536 % 256) ∷ S.sub_byte (get_or s 2 0 / 256 % 256) ∷ S.sub_byte (get_or s 3 0 % 256) ∷ []

@@ -25,12 +25,11 @@ pub fn expand_key(key: &[u8], w: &mut [u8])
     ensures { w.new ≡ S.expanded key.now }
 {
     let nk = words_of(key.len());
-    let t = sbox();
     lay_key(key, nk, w);
-    let mut i = nk;
-    while i < 4 * (nk + 7) {
-        next_word(&t, nk, i, w);
-        i += 1;
+    let mut x = word_at(w, 4 * (nk - 1));
+    for i in nk..4 * (nk + 7) {
+        x = word_at(w, 4 * (i - nk)) ^ temp(nk, i, x);
+        buffer::put_u32(w, 4 * i, x);
     }
 }
 
@@ -39,17 +38,11 @@ pub fn cipher(rounds: usize, w: &[u8], block: [u8; 16]) -> [u8; 16]
     requires { (1 ≤ rounds) × (16 * (rounds + 1) ≤ length w.now) }
     ensures { result ≡ S.cipher rounds w.now block }
 {
-    let t = sbox();
     let mut s = add_round_key(columns(&block), w, 0);
-    let mut i: usize = 1;
-    while i < rounds {
-        let a = sub_shift(&t, s);
-        let v = add_round_key(mix_columns(a), w, i);
-        s = v;
-        i += 1;
+    for i in 1..rounds {
+        s = add_round_key(mix_columns(sub_shift(s)), w, i);
     }
-    let b = sub_shift(&t, s);
-    bytes(add_round_key(b, w, rounds))
+    bytes(add_round_key(sub_shift(s), w, rounds))
 }
 
 // b times x (4.2).
@@ -61,7 +54,7 @@ fn xtime(b: u8) -> u8
 
 // ---- 5.1.1: the S-box
 
-const SBOX: [u8; 256] = [
+static SBOX: [u8; 256] = [
     0x63, 0x7c, 0x77, 0x7b, 0xf2, 0x6b, 0x6f, 0xc5, 0x30, 0x01, 0x67, 0x2b, 0xfe, 0xd7, 0xab, 0x76,
     0xca, 0x82, 0xc9, 0x7d, 0xfa, 0x59, 0x47, 0xf0, 0xad, 0xd4, 0xa2, 0xaf, 0x9c, 0xa4, 0x72, 0xc0,
     0xb7, 0xfd, 0x93, 0x26, 0x36, 0x3f, 0xf7, 0xcc, 0x34, 0xa5, 0xe5, 0xf1, 0x71, 0xd8, 0x31, 0x15,
@@ -80,38 +73,19 @@ const SBOX: [u8; 256] = [
     0x8c, 0xa1, 0x89, 0x0d, 0xbf, 0xe6, 0x42, 0x68, 0x41, 0x99, 0x2d, 0x0f, 0xb0, 0x54, 0xbb, 0x16,
 ];
 
-fn sbox() -> [u8; 256]
-    ensures { result ≡ S.SBOX }
-{
-    SBOX
-}
-
-fn sub_byte(t: &[u8; 256], b: u8) -> u8
-    requires { t.now ≡ S.SBOX }
+fn sub_byte(b: u8) -> u8
     ensures { result ≡ S.sub_byte b }
 {
-    t[b as usize]
+    SBOX[usize::from(b)]
 }
 
 // ---- a state as the numbers of its columns
-
-fn wide(x: u8) -> u32
-    ensures { (result ≡ x) × (result < 256) }
-{
-    x as u32
-}
-
-fn joined(a: u8, b: u8, c: u8, d: u8) -> u32
-    ensures { be4 result ≡ a ∷ b ∷ c ∷ d ∷ [] }
-{
-    wide(a) * 16777216 + wide(b) * 65536 + wide(c) * 256 + wide(d)
-}
 
 fn word_at(w: &[u8], at: usize) -> u32
     requires { at + 4 ≤ length w.now }
     ensures { be4 result ≡ part w.now at 4 }
 {
-    joined(w[at], w[at + 1], w[at + 2], w[at + 3])
+    buffer::get_u32(w, at)
 }
 
 fn columns(b: &[u8; 16]) -> [u32; 4]
@@ -134,47 +108,35 @@ fn bytes(s: [u32; 4]) -> [u8; 16]
 // ---- 5.1: one round
 
 // SubBytes and ShiftRows of one column: its bytes come from four columns, the first from a, the second from b, and so on.
-fn sub_column(t: &[u8; 256], a: u32, b: u32, c: u32, d: u32) -> u32
-    requires { t.now ≡ S.SBOX }
+fn sub_column(a: u32, b: u32, c: u32, d: u32) -> u32
     ensures { be4 result ≡ S.sub_byte (a / 16777216 % 256) ∷ S.sub_byte (b / 65536 % 256) ∷ S.sub_byte (c / 256 % 256) ∷ S.sub_byte (d % 256) ∷ [] }
 {
-    joined(
-        sub_byte(t, (a / 16777216 % 256) as u8),
-        sub_byte(t, (b / 65536 % 256) as u8),
-        sub_byte(t, (c / 256 % 256) as u8),
-        sub_byte(t, (d % 256) as u8),
-    )
+    u32::from_be_bytes([
+        sub_byte(a.to_be_bytes()[0]),
+        sub_byte(b.to_be_bytes()[1]),
+        sub_byte(c.to_be_bytes()[2]),
+        sub_byte(d.to_be_bytes()[3]),
+    ])
 }
 
 // SubBytes and ShiftRows.
-fn sub_shift(t: &[u8; 256], s: [u32; 4]) -> [u32; 4]
-    requires { t.now ≡ S.SBOX }
+fn sub_shift(s: [u32; 4]) -> [u32; 4]
     ensures { C.bytes_of result ≡ S.shift_rows (S.sub_bytes (C.bytes_of s)) }
 {
-    let a = s[0];
-    let b = s[1];
-    let c = s[2];
-    let d = s[3];
+    let [a, b, c, d] = s;
     [
-        sub_column(t, a, b, c, d),
-        sub_column(t, b, c, d, a),
-        sub_column(t, c, d, a, b),
-        sub_column(t, d, a, b, c),
+        sub_column(a, b, c, d),
+        sub_column(b, c, d, a),
+        sub_column(c, d, a, b),
+        sub_column(d, a, b, c),
     ]
-}
-
-// The column x with its first byte moved to the end.
-fn turned(x: u32) -> u32
-    ensures { be4 result ≡ S.rot_word (be4 x) }
-{
-    (x % 16777216) * 256 + x / 16777216
 }
 
 // Each byte of the column x times x (4.2), the four side by side.
 fn doubled(x: u32) -> u32
     ensures { be4 result ≡ C.doubled (be4 x) }
 {
-    ((x & 0x7f7f7f7f) * 2) ^ ((x / 128 & 0x01010101) * 27)
+    ((x & 0x7f7f7f7f) << 1) ^ ((x >> 7 & 0x01010101) * 27)
 }
 
 // MixColumns of one column: twice each byte, three times the next, and the other two.
@@ -182,21 +144,13 @@ fn mix_column(x: u32) -> u32
     ensures { be4 result ≡ C.mixed (be4 x) }
 {
     let y = doubled(x);
-    let b = turned(x ^ y);
-    let c = turned(turned(x));
-    let d = turned(c);
-    y ^ b ^ c ^ d
+    y ^ (x ^ y).rotate_left(8) ^ x.rotate_left(16) ^ x.rotate_left(24)
 }
 
 fn mix_columns(s: [u32; 4]) -> [u32; 4]
     ensures { C.bytes_of result ≡ S.mix_columns (C.bytes_of s) }
 {
-    [
-        mix_column(s[0]),
-        mix_column(s[1]),
-        mix_column(s[2]),
-        mix_column(s[3]),
-    ]
+    s.map(mix_column)
 }
 
 // The key of round n, added.
@@ -219,13 +173,11 @@ fn add_round_key(s: [u32; 4], w: &[u8], n: usize) -> [u32; 4]
 fn words_of(n: usize) -> usize
     ensures { (result ≡ S.nk_of n) × ((4 ≤ result) × (result ≤ 8)) }
 {
-    if n < 24 {
-        return 4;
+    match n {
+        0..24 => 4,
+        24..32 => 6,
+        _ => 8,
     }
-    if n < 32 {
-        return 6;
-    }
-    8
 }
 
 // The bytes of the key that count, and zeros.
@@ -233,12 +185,9 @@ fn lay_key(key: &[u8], nk: usize, w: &mut [u8])
     requires { (nk ≡ S.nk_of (length key.now)) × (length w.old ≡ 240) }
     ensures { w.new ≡ C.filled nk (S.key_bytes key.now) 0 }
 {
-    let mut n = key.len();
-    if 4 * nk < n {
-        n = 4 * nk;
-    }
-    buffer::fill(w, 0, 240, 0);
-    buffer::copy_part(w, 0, key, 0, n);
+    let n = key.len().min(4 * nk);
+    w.fill(0);
+    w[..n].copy_from_slice(&key[..n]);
 }
 
 // x^n.
@@ -246,58 +195,26 @@ fn x_power(n: usize) -> u8
     ensures { result ≡ S.x_power n }
 {
     let mut r: u8 = 1;
-    let mut i: usize = 0;
-    while i < n {
-        let v = xtime(r);
-        r = v;
-        i += 1;
+    for _ in 0..n {
+        r = xtime(r);
     }
     r
 }
 
-fn sub_word(t: &[u8; 256], a: [u8; 4]) -> [u8; 4]
-    requires { t.now ≡ S.SBOX }
-    ensures { result ≡ S.sub_bytes a }
+fn sub_word(x: u32) -> u32
+    ensures { be4 result ≡ S.sub_bytes (be4 x) }
 {
-    [
-        sub_byte(t, a[0]),
-        sub_byte(t, a[1]),
-        sub_byte(t, a[2]),
-        sub_byte(t, a[3]),
-    ]
+    sub_column(x, x, x, x)
 }
 
-// What is added to word i - Nk, where a is word i - 1.
-fn temp(t: &[u8; 256], nk: usize, i: usize, a: [u8; 4]) -> [u8; 4]
-    requires { (t.now ≡ S.SBOX) × ((0 < nk) × (nk ≤ i)) }
-    ensures { result ≡ S.temp nk i a }
+// What is added to word i - Nk, where x is word i - 1.
+fn temp(nk: usize, i: usize, x: u32) -> u32
+    requires { (0 < nk) × (nk ≤ i) }
+    ensures { be4 result ≡ S.temp nk i (be4 x) }
 {
-    if i % nk == 0 {
-        let b = sub_word(t, [a[1], a[2], a[3], a[0]]);
-        return [b[0] ^ x_power(i / nk - 1), b[1], b[2], b[3]];
+    match i % nk {
+        0 => sub_word(x.rotate_left(8)) ^ u32::from(x_power(i / nk - 1)) << 24,
+        4 if 6 < nk => sub_word(x),
+        _ => x,
     }
-    if 6 < nk {
-        if i % nk == 4 {
-            return sub_word(t, a);
-        }
-    }
-    a
-}
-
-// Word i, of the words before it.
-fn next_word(t: &[u8; 256], nk: usize, i: usize, w: &mut [u8])
-    requires { (t.now ≡ S.SBOX) × (((0 < nk) × (nk ≤ i)) × (4 * i + 4 ≤ length w.old)) }
-    ensures { w.new ≡ splice w.old (4 * i) (S.next_word nk w.old i) }
-{
-    let at = 4 * i;
-    let from = 4 * (i - nk);
-    let v = temp(t, nk, i, [w[at - 4], w[at - 3], w[at - 2], w[at - 1]]);
-    let a = w[from] ^ v[0];
-    let b = w[from + 1] ^ v[1];
-    let c = w[from + 2] ^ v[2];
-    let d = w[from + 3] ^ v[3];
-    w[at] = a;
-    w[at + 1] = b;
-    w[at + 2] = c;
-    w[at + 3] = d;
 }

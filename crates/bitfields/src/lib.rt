@@ -29,11 +29,9 @@ fn number(s: &[u8], first: usize, n: usize) -> u64
     requires { (first + n ≤ length s.now) × (n ≤ 8) }
     ensures { result ≡ bits s.now (8 * first) (8 * n) }
 {
-    let mut v: u64 = 0;
-    let mut j: usize = 0;
-    while j < n {
-        v = v * 256 + wide(s[first + j]);
-        j += 1;
+    let mut v = 0;
+    for b in &s[first..first + n] {
+        v = v * 256 + u64::from(*b);
     }
     v
 }
@@ -46,38 +44,20 @@ fn byte_at(s: &[u8], k: usize, r: usize) -> u8
     if r == 0 {
         return s[k];
     }
-    let pair = wide(s[k]) * 256 + wide(s[k + 1]);
+    let pair = u16::from_be_bytes([s[k], s[k + 1]]);
     ((pair >> (8 - r)) % 256) as u8
 }
 
-// The 8 bytes from bit r of place k on into `out` from place `to`.
-fn bytes_block(s: &[u8], k: usize, r: usize, out: &mut [u8], to: usize)
-    requires { (8 * k + r + 64 ≤ 8 * length s.now) × ((r < 8) × (to + 8 ≤ length out.old)) }
-    ensures { out.new ≡ splice out.old to (bytes_at s.now (8 * k + r) 8) }
-{
-    let mut j: usize = 0;
-    while j < 8 {
-        out[to + j] = byte_at(s, k + j, r);
-        j += 1;
-    }
-}
-
-// The n bytes from bit `at` on into `out` from place `to`: by blocks, as in `buffer`.
+// The n bytes from bit `at` on into `out` from place `to`. It is not inlined, as in `buffer`.
+#[inline(never)]
 pub fn bytes_to(s: &[u8], at: usize, n: usize, out: &mut [u8], to: usize)
     requires { (at + 8 * n ≤ 8 * length s.now) × (to + n ≤ length out.old) }
     ensures { out.new ≡ splice out.old to (bytes_at s.now at n) }
 {
     let first = at / 8;
     let r = at % 8;
-    let mut i: usize = 0;
-    while i < n {
-        if n - i >= 8 {
-            bytes_block(s, first + i, r, out, to + i);
-            i += 8;
-        } else {
-            out[to + i] = byte_at(s, first + i, r);
-            i += 1;
-        }
+    for i in 0..n {
+        out[to + i] = byte_at(s, first + i, r);
     }
 }
 
@@ -92,16 +72,15 @@ pub fn bytes_at(s: &[u8], at: usize, n: usize, out: &mut [u8])
 // ---- blocks of a MACK section
 
 // Bits of a block: 60/NMACK bytes.
+#[tactic(auto, unfolding(rules::specs::Kroot::block_bits))]
 pub fn block_bits(nmack: u64) -> u64
     ensures { result ≡ block_bits nmack }
 {
-    if nmack == 3 {
-        return 160;
+    match nmack {
+        3 => 160,
+        2 => 240,
+        _ => 480,
     }
-    if nmack == 2 {
-        return 240;
-    }
-    480
 }
 
 // ---- numbers in a wider type
@@ -109,17 +88,17 @@ pub fn block_bits(nmack: u64) -> u64
 pub fn wide(x: u8) -> u64
     ensures { (result ≡ x) × (result < 256) }
 {
-    x as u64
+    u64::from(x)
 }
 
 pub fn low(x: u32) -> u64
     ensures { (result ≡ x) × (result < 4294967296) }
 {
-    x as u64
+    u64::from(x)
 }
 
 pub fn index(x: u8) -> usize
     ensures { (result ≡ x) × (result < 256) }
 {
-    x as usize
+    usize::from(x)
 }

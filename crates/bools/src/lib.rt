@@ -7,22 +7,19 @@ ghost use Rattle.std.specs.Prelude.{◌≡◌, cond, ◌&&◌, ◌||◌};
 pub fn both(a: bool, b: bool) -> bool
     ensures { result ≡ (a && b) }
 {
-    if a { b } else { false }
+    a && b
 }
 
 // One of the tests holds.
 pub fn either(a: bool, b: bool) -> bool
     ensures { result ≡ (a || b) }
 {
-    if a { true } else { b }
+    a || b
 }
 
 // A test as a number: 1 where it holds.
 pub fn number(b: bool) -> u32
     ensures { result ≡ cond b 1 0 }
 {
-    if b {
-        return 1;
-    }
-    0
+    u32::from(b)
 }

@@ -1,2 +1,2 @@
--- Laws that the proofs of this crate share.
-mod Parts
+-- What the library's methods on slices and numbers give, in the words of `laws`.
+pub mod Library

@@ -6,7 +6,7 @@ use mathlib.Core.Logic.{⊎_elim}
 use mathlib.Core.List.{List, ◌∷◌, ◌++◌, append_assoc, append-nil}
 use Prim.Native.Nat.{ℕ, zero, suc, ◌+◌, ◌-◌, ◌*◌, ◌/◌, ◌%◌, ◌^◌, ◌≤◌, ◌<◌}
 use native.Mathlib.Omega.{arith}
-use lib.ListN.{length, take, drop, set, replicate, length-append, length-replicate, length-drop, replicate-append-replicate, take-append-drop, drop_of_length-le}
+use lib.ListN.{length, take, drop, set, replicate, length-append, length-replicate, replicate-append-replicate, take-append-drop, drop_of_length-le}
 use lib.Seq.{take_at, drop_at, drop-drop, set_at, length-take-le, take_all}
 use lib.Dec.{ltb}
 use borrow.Author.Tests.{lt-ltb, le-ltb, ltb-true, ltb-false}
@@ -20,7 +20,7 @@ use Rattle.rules.specs.Chain as S
 use Rattle.rules.specs.declared.Chain.{Chain}
 use Rattle.laws.proofs.Same.{same_true, same_equal, same_false, same_differ}
 use Rattle.rules.proofs.Walks.{walk-add}
-use Rattle.chain.specs.Sound.{Hashes, Framed, Met, OnWay, sponge_tail, laid_out}
+use Rattle.chain.specs.Sound.{Hashes, Framed, Met, OnWay, laid_out}
 use Rattle.chain.specs.declared.Way.{Way}
 use Rattle.chain.proofs.Hashes.{length_hash, length-key, key_short}
 
@@ -44,14 +44,18 @@ pub walk_none : (c : Chain) (n m : ℕ) (k : List ℕ) → n ≡ 0 → S.walk c 
 unfolding S.walk
 walk_none c n m k e = rw e
 
--- What holds before each turn of a walk's loop, for every hash: i of the n steps are left, and from the key in the block they give what all steps
--- give from the first key.
-pub record Walking (c : Chain) (padding : List ℕ) (n m : ℕ) (key : List ℕ) (i : ℕ) (b : List ℕ) : Type 0 where
-  pub leads : S.walk c i m (take c.width b) ≡ S.walk c n m (take c.width key)
+-- What holds before each turn of a walk's loop, for every hash: from the key in the block, of this slot, the steps that are left give what all
+-- steps give from the first key.
+pub record Walking (c : Chain) (padding : List ℕ) (n m : ℕ) (key : List ℕ) (slot : ℕ) (b : List ℕ) : Type 0 where
+  pub low : m ≤ slot
+  pub leads : S.walk c (slot - m) m (take c.width b) ≡ S.walk c n m (take c.width key)
   pub framed : Framed c padding b
 
-pub begins : (c : Chain) (padding : List ℕ) (n m : ℕ) (key b : List ℕ) → (take c.width b ≡ take c.width key) × Framed c padding b → Walking c padding n m key n b
-begins c padding n m key b f = record { leads = ap (S.walk c n m) f.0; framed = f.1 }
+pub begins : (c : Chain) (padding : List ℕ) (n m : ℕ) (key b : List ℕ) → (take c.width b ≡ take c.width key) × Framed c padding b
+    → Walking c padding n m key (m + n) b
+begins c padding n m key b f =
+    let e : m + n - m ≡ n = omega arith in
+    record { low = omega arith; leads = ap (λ (i : ℕ). S.walk c i m (take c.width b)) e ∙ ap (S.walk c n m) f.0; framed = f.1 }
 
 -- the first step of those that are left
 walk_one : (c : Chain) (i m : ℕ) (k l : List ℕ) → 0 < i → l ≡ S.key_step c (m + (i - 1)) k → S.walk c (i - 1) m l ≡ S.walk c i m k
@@ -61,15 +65,25 @@ walk_one c (suc j) m k l h e =
     let f : suc j - 1 ≡ j = omega arith in
     rw f (ap (S.walk c j m) (e ∙ rw f))
 
-pub goes_on : (c : Chain) (padding : List ℕ) (n m : ℕ) (key b b2 : List ℕ) (i : ℕ) → 0 < i → Walking c padding n m key i b
-    → (take c.width b2 ≡ S.key_step c (m + (i - 1)) (take c.width b)) × Framed c padding b2 → Walking c padding n m key (i - 1) b2
-goes_on c padding n m key b b2 i h w s = record { leads = walk_one c i m _ _ h s.0 ∙ w.leads; framed = s.1 }
+pub goes_on : (c : Chain) (padding : List ℕ) (n m : ℕ) (key b b2 : List ℕ) (slot : ℕ) → m < slot → Walking c padding n m key slot b
+    → (take c.width b2 ≡ S.key_step c (slot - 1) (take c.width b)) × Framed c padding b2 → Walking c padding n m key (slot - 1) b2
+goes_on c padding n m key b b2 slot h w s =
+    let e : slot - 1 ≡ m + (slot - m - 1) = omega arith in
+    let f : slot - 1 - m ≡ slot - m - 1 = omega arith in
+    record {
+      low = omega arith;
+      leads = ap (λ (i : ℕ). S.walk c i m (take c.width b2)) f
+          ∙ walk_one c (slot - m) m _ _ (omega arith) (s.0 ∙ ap (λ (j : ℕ). S.key_step c j (take c.width b)) e)
+          ∙ w.leads;
+      framed = s.1;
+    }
 
 -- no step is left, and the key is copied out of the block
-pub ends : (c : Chain) (padding : List ℕ) (n m : ℕ) (key b out : List ℕ) (i : ℕ) → i ≤ 0 → Walking c padding n m key i b → out ≡ splice key 0 (part b 0 c.width)
-    → out ≡ splice key 0 (S.walk c n m (take c.width key))
+pub ends : (c : Chain) (padding : List ℕ) (n m : ℕ) (key b out : List ℕ) (slot : ℕ) → slot ≤ m → Walking c padding n m key slot b
+    → out ≡ splice key 0 (part b 0 c.width) → out ≡ splice key 0 (S.walk c n m (take c.width key))
 unfolding part
-ends c padding n m key b out i h w p = p ∙ ap (splice key 0) (sym (walk_none c i m (take c.width b) (omega arith)) ∙ w.leads)
+ends c padding n m key b out slot h w p =
+    p ∙ ap (splice key 0) (sym (walk_none c (slot - m) m (take c.width b) (omega arith)) ∙ w.leads)
 
 -- a walk goes on from the key of a slot on its way
 pub walk_on : (c : Chain) (h : S.Held) (at m : ℕ) → m ≤ at → at ≤ h.slot → S.key_of_slot c (S.held at (S.key_of_slot c h at)) m ≡ S.key_of_slot c h m
@@ -184,13 +198,27 @@ unfolding be4
 zero-bytes = refl
 
 -- the padding of a step's message
-tail_is : (w : ℕ) → w ≤ 32 → H.tail (w + 10) ≡ 0x80 ∷ (zs (49 - w) ++ be4 (8 * (w + 10)))
+tail_is : (n : ℕ) → n ≤ 42 → H.tail n ≡ 0x80 ∷ (zs (59 - n) ++ be4 (8 * n))
 unfolding H.tail be8
-tail_is w h =
-    let z : H.zeros (w + 10) ≡ 45 - w = omega arith in
-    let high : 8 * (w + 10) / 256 ^ 4 ≡ 0 = omega arith in
-    let low : 8 * (w + 10) % 256 ^ 4 ≡ 8 * (w + 10) = omega arith in
-    rw (z, high, low, zero-bytes, zeros_split (49 - w) (45 - w) 4 (omega arith)) (simp append_assoc)
+tail_is n h =
+    let z : H.zeros n ≡ 55 - n = omega arith in
+    let high : 8 * n / 256 ^ 4 ≡ 0 = omega arith in
+    let low : 8 * n % 256 ^ 4 ≡ 8 * n = omega arith in
+    rw (z, high, low, zero-bytes, zeros_split (59 - n) (55 - n) 4 (omega arith)) (simp append_assoc)
+
+-- it is put after the message by the code's writes
+pub tail_put : (n : ℕ) (b out x : List ℕ) → n ≤ 42 → out ≡ splice (set b n 0x80) 60 (be4 (8 * n)) → length x ≡ n → b ≡ x ++ zs (64 - n) → out ≡ x ++ H.tail n
+tail_put n b out x h p e q =
+    let one : 64 - n ≡ suc (63 - n) = omega arith in
+    let y = x ++ (0x80 ∷ zs (59 - n)) in
+    let l : length y ≡ 60 = simp (length-append, length-replicate) (omega arith) in
+    let s : set b n 0x80 ≡ y ++ zs 4 =
+    ap (λ (z : List ℕ). set z n 0x80) (q ∙ ap (λ (j : ℕ). x ++ zs j) one)
+    ∙ set_at x 0 (zs (63 - n)) 0x80 n e
+    ∙ rw (zeros_split (63 - n) (59 - n) 4 (omega arith)) (sym (append_assoc x (0x80 ∷ zs (59 - n)) (zs 4))) in
+    p ∙ ap (λ (z : List ℕ). splice z 60 (be4 (8 * n))) s
+    ∙ splice_end y (zs 4) 60 (be4 (8 * n)) l (sym (length-be4 (8 * n)))
+    ∙ rw (tail_is n h) (simp append_assoc)
 
 -- the key and α, by the code's writes
 pub laid_is : (c : Chain) (key z b1 b2 : List ℕ) → c.width ≤ 32 → length c.alpha ≡ 6 → length key ≡ 32 → z ≡ zs 64
@@ -210,70 +238,23 @@ laid_is c key z b1 b2 h a e p q r =
     ∙ rw (zeros_split (64 - w) 4 (60 - w) (omega arith), zeros_split (60 - w) 6 (54 - w) (omega arith)) (sym (append_assoc k (zs 4) (zs 6 ++ zs (54 - w)))) in
     r ∙ ap (splice b1 (w + 4)) (take_all 6 c.alpha (omega arith)) ∙ ap (λ (l : List ℕ). splice l (w + 4) c.alpha) q2 ∙ splice_middle (k ++ zs 4) (zs 6) (zs (54 - w)) (w + 4) c.alpha n4 (sym a)
 
-module _ (c : Chain) (key b2 b : List ℕ) (h : c.width ≤ 32) (a : length c.alpha ≡ 6) (r : b2 ≡ laid_out c key) (e : length b2 ≡ 64) where
-  -- the key fills its bytes
-  wide : length (take c.width key) ≡ c.width
-  wide =
-      let l : length (laid_out c key) ≡ length (take c.width key) + 4 + (length c.alpha + (54 - c.width)) = simp (length-append, length-replicate) in
-      omega (arith, ap length r, l)
-
-  -- a key, α and a padding
-  padded : (padding : List ℕ) → b ≡ take c.width key ++ (zs 4 ++ (c.alpha ++ padding)) → (take c.width b ≡ take c.width key) × Framed c padding b
-  padded padding s =
-      let w = c.width in
-      let k = take w key in
-      let n : length k ≡ w = wide in
-      let n4 : length (k ++ zs 4) ≡ w + 4 = simp (length-append, length-replicate) (omega arith) in (
-        ap (take w) s ∙ take_at k (zs 4 ++ (c.alpha ++ padding)) w n,
-        ap (drop (w + 4)) (s ∙ sym (append_assoc k (zs 4) (c.alpha ++ padding))) ∙ drop_at (k ++ zs 4) (c.alpha ++ padding) (w + 4) n4,
-      )
-
-  -- the padding's first byte
-  byte_put : (x : ℕ) → set b2 (c.width + 10) x ≡ take c.width key ++ zs 4 ++ c.alpha ++ (x ∷ zs (53 - c.width))
-  byte_put x =
-      let w = c.width in
-      let k = take w key in
-      let n : length k ≡ w = wide in
-      let n10 : length (k ++ zs 4 ++ c.alpha) ≡ w + 10 = simp (length-append, length-replicate) (omega arith) in
-      let one : 54 - w ≡ suc (53 - w) = omega arith in
-      ap (λ (l : List ℕ). set l (w + 10) x) (r ∙ ap (λ (j : ℕ). k ++ zs 4 ++ (c.alpha ++ zs j)) one ∙ sym (append_assoc (k ++ zs 4) c.alpha (0 ∷ zs (53 - w))))
-      ∙ set_at (k ++ zs 4 ++ c.alpha) 0 (zs (53 - w)) x (w + 10) n10
-
-  -- the padding of SHA-256
-  pub framed_is : b ≡ splice (set b2 (c.width + 10) 0x80) 60 (be4 (8 * (c.width + 10)))
-      → (take c.width b ≡ take c.width key) × Framed c (H.tail (c.width + 10)) b
-  framed_is s =
-      let w = c.width in
-      let k = take w key in
-      let x = be4 (8 * (w + 10)) in
-      let n : length k ≡ w = wide in
-      let r4 : set b2 (w + 10) 0x80 ≡ k ++ zs 4 ++ c.alpha ++ (0x80 ∷ zs (49 - w)) ++ zs 4 =
-      byte_put 0x80 ∙ rw (zeros_split (53 - w) (49 - w) 4 (omega arith)) (sym (append_assoc (k ++ zs 4 ++ c.alpha) (0x80 ∷ zs (49 - w)) (zs 4))) in
-      let n60 : length (k ++ zs 4 ++ c.alpha ++ (0x80 ∷ zs (49 - w))) ≡ 60 = simp (length-append, length-replicate) (omega arith) in
-      padded (H.tail (w + 10))
-      (s ∙ ap (λ (l : List ℕ). splice l 60 x) r4
-      ∙ splice_end (k ++ zs 4 ++ c.alpha ++ (0x80 ∷ zs (49 - w))) (zs 4) 60 x n60 (sym (length-be4 (8 * (w + 10))))
-      ∙ rw (tail_is w h) (simp append_assoc))
-
-  -- the padding of a sponge
-  pub sponge_framed_is : b ≡ set b2 (c.width + 10) 6 → (take c.width b ≡ take c.width key) × Framed c (sponge_tail (c.width + 10)) b
-  sponge_framed_is s =
-      let w = c.width in
-      let z : 63 - (w + 10) ≡ 53 - w = omega arith in
-      padded (sponge_tail (w + 10)) (s ∙ byte_put 6 ∙ rw z (simp append_assoc))
-
--- a framed block has 64 bytes, where the padding fills it
-pub framed_length : (c : Chain) (padding b : List ℕ) → length padding ≡ 54 - c.width → c.width ≤ 32 → length c.alpha ≡ 6 → Framed c padding b → length b ≡ 64
-framed_length c padding b e h a f =
-    let n : length (c.alpha ++ padding) ≡ 60 - c.width = length-append c.alpha padding ∙ omega arith in
-    let m : length b - (c.width + 4) ≡ 60 - c.width = sym (length-drop (c.width + 4) b) ∙ ap length f ∙ n in
-    omega arith
-
-pub length-tail : (w : ℕ) → w ≤ 32 → length (H.tail (w + 10)) ≡ 54 - w
-length-tail w h = rw (tail_is w h) (simp (length-append, length-replicate, length-be4) (omega arith))
-
-pub length-sponge-tail : (w : ℕ) → w ≤ 32 → length (sponge_tail (w + 10)) ≡ 54 - w
-length-sponge-tail w h = simp length-replicate (omega arith)
+-- a key, α and a padding that is put after them
+pub framed_is : (c : Chain) (key b2 b padding : List ℕ) → c.width ≤ 32 → length c.alpha ≡ 6 → length key ≡ 32 → b2 ≡ laid_out c key
+    → ((x : List ℕ) → length x ≡ c.width + 10 → b2 ≡ x ++ zs (64 - (c.width + 10)) → b ≡ x ++ padding)
+    → (take c.width b ≡ take c.width key) × Framed c padding b
+framed_is c key b2 b padding h a e r put =
+    let w = c.width in
+    let k = take w key in
+    let x = k ++ zs 4 ++ c.alpha in
+    let n : length k ≡ w = length-take-le w key (omega arith) in
+    let n4 : length (k ++ zs 4) ≡ w + 4 = simp (length-append, length-replicate) (omega arith) in
+    let n10 : length x ≡ w + 10 = simp (length-append, length-replicate) (omega arith) in
+    let z : 54 - w ≡ 64 - (w + 10) = omega arith in
+    let s : b ≡ x ++ padding =
+    put x n10 (r ∙ ap (λ (j : ℕ). k ++ zs 4 ++ (c.alpha ++ zs j)) z ∙ sym (append_assoc (k ++ zs 4) c.alpha (zs (64 - (w + 10))))) in (
+      ap (take w) (s ∙ append_assoc (k ++ zs 4) c.alpha padding ∙ append_assoc k (zs 4) (c.alpha ++ padding)) ∙ take_at k (zs 4 ++ (c.alpha ++ padding)) w n,
+      ap (drop (w + 4)) (s ∙ append_assoc (k ++ zs 4) c.alpha padding) ∙ drop_at (k ++ zs 4) (c.alpha ++ padding) (w + 4) n4,
+    )
 
 -- ---- the key's bytes of 32
 
@@ -340,49 +321,25 @@ two_parts c high stop low top here last end f w n l u p q e =
     ∙ ap (λ (x : List ℕ). same x (take c.width end))
     (walked_key c stop low here last w m q ∙ ap (λ (x : List ℕ). S.key_of_slot c (S.held stop x) low) k ∙ walk_on c (S.held high (take c.width top)) stop low l u)
 
--- the higher and the lower of two slots
-pub record Between (h slot high low : ℕ) : Type 0 where
-  pub ordered : low ≤ high
-  pub bounded : (n : ℕ) → h ≤ n → slot ≤ n → high ≤ n
-  pub up_low : (v : ℕ) → h ≤ v → v ≤ slot → low ≤ v
-  pub up_high : (v : ℕ) → h ≤ v → v ≤ slot → v ≤ high
-  pub down_low : (v : ℕ) → slot ≤ v → v ≤ h → low ≤ v
-  pub down_high : (v : ℕ) → slot ≤ v → v ≤ h → v ≤ high
-
-pub between : (h slot high low : ℕ) → high ≡ cond (ltb h slot) slot h → low ≡ cond (ltb h slot) h slot → Between h slot high low
-between h slot high low p q =
-    ⊎_elim
-    (λ (l : h < slot).
-    let e : high ≡ slot = p ∙ rw (lt-ltb h slot l) in
-    let f : low ≡ h = q ∙ rw (lt-ltb h slot l) in
-    record { ordered = omega arith; bounded = λ n a b. omega arith; up_low = λ v a b. omega arith; up_high = λ v a b. omega arith; down_low = λ v a b. omega arith; down_high = λ v a b. omega arith })
-    (λ l.
-    let e : high ≡ h = p ∙ rw (le-ltb h slot l) in
-    let f : low ≡ slot = q ∙ rw (le-ltb h slot l) in
-    record { ordered = omega arith; bounded = λ n a b. omega arith; up_low = λ v a b. omega arith; up_high = λ v a b. omega arith; down_low = λ v a b. omega arith; down_high = λ v a b. omega arith })
-    (below? h slot)
-
 -- the higher of two keys, walked down to the lower one's slot, is that key just where the key fits
-module _ (c : Chain) (h slot high low : ℕ) (known key top end : List ℕ) (high_is : high ≡ cond (ltb h slot) slot h) (low_is : low ≡ cond (ltb h slot) h slot)
-    (top-is : top ≡ cond (ltb h slot) key known) (end_is : end ≡ cond (ltb h slot) known key) where
-  pub fits_is : (f : Bool) → f ≡ same (S.key_of_slot c (S.held high (take c.width top)) low) (take c.width end) → f ≡ S.key_fits c (S.held h (take c.width known)) slot (take c.width key)
-  unfolding S.key_fits S.key_of_slot
-  fits_is f e = e ∙ rw (high_is, low_is, top-is, end_is) (go (ltb h slot) refl)
-    where
-      go : (b : Bool) → ltb h slot ≡ b
-          → same (S.walk c (cond b slot h - cond b h slot) (cond b h slot) (take c.width (cond b key known))) (take c.width (cond b known key))
-          ≡ cond b (same (S.walk c (slot - h) h (take c.width key)) (take c.width known)) (same (take c.width key) (S.walk c (h - slot) slot (take c.width known)))
-      go true t = refl
-      go false t = same_turned (S.walk c (h - slot) slot (take c.width known)) (take c.width key)
+pub fits_up : (c : Chain) (h : S.Held) (slot : ℕ) (key : List ℕ) (f : Bool) → h.slot < slot → f ≡ same (S.key_of_slot c (S.held slot key) h.slot) h.key
+    → f ≡ S.key_fits c h slot key
+unfolding S.key_fits S.key_of_slot
+fits_up c h slot key f l e = rw (lt-ltb h.slot slot l) e
 
-  pub met_higher : (stop : ℕ) (here : List ℕ) → Met c (S.held high (take c.width top)) stop here → Met c (S.higher (S.held h (take c.width known)) slot (take c.width key)) stop here
-  unfolding S.higher
-  met_higher stop here m = go (ltb h slot) refl (rw (high_is, top-is) at m)
-    where
-      go : (b : Bool) → ltb h slot ≡ b → Met c (S.held (cond b slot h) (take c.width (cond b key known))) stop here
-          → Met c (cond b (S.held slot (take c.width key)) (S.held h (take c.width known))) stop here
-      go true t x = x
-      go false t x = x
+pub fits_down : (c : Chain) (h : S.Held) (slot : ℕ) (key : List ℕ) (f : Bool) → slot ≤ h.slot → f ≡ same (S.key_of_slot c h slot) key
+    → f ≡ S.key_fits c h slot key
+unfolding S.key_fits S.key_of_slot
+fits_down c h slot key f l e = rw (le-ltb h.slot slot l) (e ∙ same_turned (S.walk c (h.slot - slot) slot h.key) key)
+
+-- the higher of the two
+pub higher_up : (h : S.Held) (slot : ℕ) (key : List ℕ) → h.slot < slot → S.higher h slot key ≡ S.held slot key
+unfolding S.higher
+higher_up h slot key l = rw (lt-ltb h.slot slot l)
+
+pub higher_down : (h : S.Held) (slot : ℕ) (key : List ℕ) → slot ≤ h.slot → S.higher h slot key ≡ h
+unfolding S.higher
+higher_down h slot key l = rw (le-ltb h.slot slot l)
 
 -- a key that fits is met at its slot on the way down from the higher of the two
 pub met_sent : (c : Chain) (h : S.Held) (slot : ℕ) (key : List ℕ) → S.key_fits c h slot (take c.width key) ≡ true → Met c (S.higher h slot (take c.width key)) slot key

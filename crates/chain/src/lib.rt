@@ -11,13 +11,14 @@
 //   sent_slot    the slot of the key that a satellite sends
 //   key_slot     the slot of the key that a tag uses
 // A step hashes one block, which stays filled from step to step: only the key and the time in it change.
-// The hash is the one that HF names (02, P6). It is chosen once a walk: SHA-256 and the sponges of SHA3 have a loop each.
-ghost use Rattle.std.specs.Prelude.{◌≡◌, cond, ◌+◌, ◌%◌, ◌^◌, ◌≤◌, ◌<◌, length, take};
+// The hash is the one that HF names (02, P6). It is chosen once a walk, `walk_by`, which stands for SHA-256 and for the sponges of SHA3.
+ghost use Rattle.std.specs.Prelude.{◌≡◌, List, ℕ, cond, ◌+◌, ◌-◌, ◌%◌, ◌^◌, ◌≤◌, ◌<◌, ◌++◌, length, replicate, take};
 ghost use Rattle.laws.specs.Lists.{splice, same};
 ghost use Rattle.rules.specs.Chain as S;
 ghost use Rattle.rules.specs.declared.Chain.{Chain};
-ghost use Rattle.sha256.specs.Sha256.{tail};
-ghost use Rattle.chain.specs.Sound.{Walks, ByCompress, Sponge, Framed, Met, OnWay, sponge_tail, laid_out};
+ghost use Rattle.sha256.specs.Sha256.{H0, compress, bytes, tail};
+ghost use Rattle.sha3.specs.Sha3.{one_block};
+ghost use Rattle.chain.specs.Sound.{Walks, Hashes, Framed, Met, OnWay, sponge_tail, laid_out};
 
 use rules::Chain;
 
@@ -30,52 +31,85 @@ pub struct Way {
     pub own: [u8; 32],
 }
 
+// A hash of a step: how it pads a message in the 64 bytes of a step, and the first 32 bytes of the digest.
+trait StepHash: Copy {
+    // what follows a message of n bytes in the 64
+    ghost padding: { ℕ → List ℕ };
+
+    // the first 32 bytes of the digest of the message that these 64 hold
+    ghost block: { Self → List ℕ → List ℕ };
+
+    // Pads a message of n bytes that zeros follow.
+    fn pad(self, n: usize, b: &mut [u8; 64])
+        requires { (22 ≤ n) × (n ≤ 42) }
+        ensures { (x : List ℕ) → length x ≡ n → b.old ≡ x ++ replicate (64 - n) 0 → b.new ≡ x ++ padding n };
+
+    // Hashes a padded message.
+    fn digest(self, b: &[u8; 64]) -> [u8; 32]
+        ensures { result ≡ block self b.now };
+}
+
+#[derive(Clone, Copy)]
+struct Sha256;
+
+impl StepHash for Sha256 {
+    ghost padding = { tail };
+
+    ghost block = { λ _ b. bytes (compress H0 b) };
+
+    fn pad(self, n: usize, b: &mut [u8; 64]) {
+        b[n] = 0x80;
+        buffer::put_u32(b, 60, (8 * n) as u32);
+    }
+
+    fn digest(self, b: &[u8; 64]) -> [u8; 32] {
+        sha256::bytes(sha256::compress(sha256::initial(), b))
+    }
+}
+
+// A sponge of this rate: SHA3-224 or SHA3-256.
+#[derive(Clone, Copy)]
+struct Sha3 {
+    rate: usize,
+    ghost in_range: { (136 ≤ rate) × ((rate ≤ 144) × (rate % 8 ≡ 0)) },
+}
+
+impl StepHash for Sha3 {
+    ghost padding = { sponge_tail };
+
+    ghost block = { λ s b. one_block s.rate b };
+
+    fn pad(self, n: usize, b: &mut [u8; 64]) {
+        b[n] = 6;
+    }
+
+    fn digest(self, b: &[u8; 64]) -> [u8; 32] {
+        sha3::one_block(self.rate, b)
+    }
+}
+
 // The key of slot m + n becomes the key of slot m: n steps, by the hash that HF names.
 pub fn walk(c: Chain, n: u64, m: u64, key: &mut [u8; 32])
     requires { Walks c × (m + n ≤ 2 ^ 34) }
     ensures { key.new ≡ splice key.old 0 (S.walk c n m (take c.width key.old)) }
 {
-    if c.hf == 1 {
-        walk_sponge(c, 144, n, m, key);
-        return;
+    match c.hf {
+        1 => walk_by(Sha3 { rate: 144 }, c, n, m, key),
+        2 => walk_by(Sha3 { rate: 136 }, c, n, m, key),
+        _ => walk_by(Sha256, c, n, m, key),
     }
-    if c.hf == 2 {
-        walk_sponge(c, 136, n, m, key);
-        return;
-    }
-    walk_sha256(c, n, m, key);
 }
 
-// The walk with SHA-256.
-fn walk_sha256(c: Chain, n: u64, m: u64, key: &mut [u8; 32])
-    requires { (Walks c × ByCompress c) × (m + n ≤ 2 ^ 34) }
+// The walk with this hash.
+fn walk_by<H: StepHash>(hash: H, c: Chain, n: u64, m: u64, key: &mut [u8; 32])
+    requires { (Walks c × Hashes c (H.padding (c.width + 10)) (H.block hash)) × (m + n ≤ 2 ^ 34) }
     ensures { key.new ≡ splice key.old 0 (S.walk c n m (take c.width key.old)) }
 {
-    let width = c.width;
-    let mut b = framed(c, key);
-    let mut i = n;
-    while 0 < i {
-        let j = i - 1;
-        step(c, m + j, &mut b);
-        i = j;
+    let mut b = framed(hash, c, key);
+    for slot in (m..m + n).rev() {
+        step(hash, c, slot, &mut b);
     }
-    buffer::copy_part(key, 0, &b, 0, width);
-}
-
-// The walk with a sponge of this rate: SHA3-224 or SHA3-256.
-fn walk_sponge(c: Chain, rate: usize, n: u64, m: u64, key: &mut [u8; 32])
-    requires { (Walks c × Sponge c rate) × (m + n ≤ 2 ^ 34) }
-    ensures { key.new ≡ splice key.old 0 (S.walk c n m (take c.width key.old)) }
-{
-    let width = c.width;
-    let mut b = sponge_framed(c, key);
-    let mut left = n;
-    while 0 < left {
-        let j = left - 1;
-        sponge_step(c, rate, m + j, &mut b);
-        left = j;
-    }
-    buffer::copy_part(key, 0, &b, 0, width);
+    buffer::copy_part(key, 0, &b, 0, c.width);
 }
 
 // The GST_SF of slot m, in 32 bits.
@@ -91,57 +125,30 @@ fn laid(c: Chain, key: &[u8; 32]) -> [u8; 64]
     requires { Walks c }
     ensures { result ≡ laid_out c key.now }
 {
-    let width = c.width;
-    let alpha = c.alpha;
     let mut b = [0u8; 64];
-    buffer::copy_part(&mut b, 0, key, 0, width);
-    buffer::copy_part(&mut b, width + 4, &alpha, 0, 6);
+    buffer::copy_part(&mut b, 0, key, 0, c.width);
+    buffer::copy_part(&mut b, c.width + 4, &c.alpha, 0, 6);
     b
 }
 
-// The block of a step with SHA-256: its time is still to be set.
-fn framed(c: Chain, key: &[u8; 32]) -> [u8; 64]
+// The block of a step: its time is still to be set.
+fn framed<H: StepHash>(hash: H, c: Chain, key: &[u8; 32]) -> [u8; 64]
     requires { Walks c }
-    ensures { (take c.width result ≡ take c.width key.now) × Framed c (tail (c.width + 10)) result }
+    ensures { (take c.width result ≡ take c.width key.now) × Framed c (H.padding (c.width + 10)) result }
 {
-    let width = c.width;
     let mut b = laid(c, key);
-    b[width + 10] = 0x80;
-    buffer::put_u32(&mut b, 60, (8 * (width + 10)) as u32);
+    hash.pad(c.width + 10, &mut b);
     b
 }
 
-// The block of a step with a sponge: its time is still to be set.
-fn sponge_framed(c: Chain, key: &[u8; 32]) -> [u8; 64]
-    requires { Walks c }
-    ensures { (take c.width result ≡ take c.width key.now) × Framed c (sponge_tail (c.width + 10)) result }
+// One step, in the block: the key of slot m + 1 becomes the key of slot m.
+fn step<H: StepHash>(hash: H, c: Chain, m: u64, b: &mut [u8; 64])
+    requires { (Walks c × Hashes c (H.padding (c.width + 10)) (H.block hash)) × ((m ≤ 2 ^ 34) × Framed c (H.padding (c.width + 10)) b.old) }
+    ensures { (take c.width b.new ≡ S.key_step c m (take c.width b.old)) × Framed c (H.padding (c.width + 10)) b.new }
 {
-    let width = c.width;
-    let mut b = laid(c, key);
-    b[width + 10] = 6;
-    b
-}
-
-// One step with SHA-256, in the block: the key of slot m + 1 becomes the key of slot m.
-fn step(c: Chain, m: u64, b: &mut [u8; 64])
-    requires { (Walks c × ByCompress c) × ((m ≤ 2 ^ 34) × Framed c (tail (c.width + 10)) b.old) }
-    ensures { (take c.width b.new ≡ S.key_step c m (take c.width b.old)) × Framed c (tail (c.width + 10)) b.new }
-{
-    let width = c.width;
-    buffer::put_u32(b, width, slot_time(c, m));
-    let d = sha256::bytes(sha256::compress(sha256::initial(), b));
-    buffer::copy_part(b, 0, &d, 0, width);
-}
-
-// One step with a sponge.
-fn sponge_step(c: Chain, rate: usize, m: u64, b: &mut [u8; 64])
-    requires { (Walks c × Sponge c rate) × ((m ≤ 2 ^ 34) × Framed c (sponge_tail (c.width + 10)) b.old) }
-    ensures { (take c.width b.new ≡ S.key_step c m (take c.width b.old)) × Framed c (sponge_tail (c.width + 10)) b.new }
-{
-    let width = c.width;
-    buffer::put_u32(b, width, slot_time(c, m));
-    let d = sha3::one_block(rate, b);
-    buffer::copy_part(b, 0, &d, 0, width);
+    buffer::put_u32(b, c.width, slot_time(c, m));
+    let d = hash.digest(b);
+    buffer::copy_part(b, 0, &d, 0, c.width);
 }
 
 // The key of slot m, from the held key, whose slot is `held`. Above that slot it is the held key.
@@ -163,10 +170,7 @@ pub fn nearer(at: u64, near: u64, met: [u8; 32], m: u64, key: &mut [u8; 32]) -> 
         × ((result < m → result ≡ at)
         × ((result ≤ at) × ((c : Chain) (h : S.Held) → Met c h at key.old → Met c h near met → Met c h result key.new))) }
 {
-    if near < m {
-        return at;
-    }
-    if at < near {
+    if near < m || at < near {
         return at;
     }
     *key = met;
@@ -179,16 +183,14 @@ pub fn key_on_way(c: Chain, held: u64, way: Way, m: u64, key: &mut [u8; 32])
     ensures { (length key.new ≡ 32)
         × (take c.width key.new ≡ S.key_of_slot c (S.held held (take c.width key.old)) m) }
 {
-    let met = way.met;
-    let own = way.own;
-    let first = nearer(held, way.near, met, m, key);
-    let at = nearer(first, way.low, own, m, key);
+    let first = nearer(held, way.near, way.met, m, key);
+    let at = nearer(first, way.low, way.own, m, key);
     key_of_slot(c, at, m, key);
 }
 
 // ---- the key of one slot checked against that of another
 
-// Whether a key fits, and a key that was met on the way between the two: `here`, of slot `stop`.
+// Whether a key fits, and a key that was met on the way between the two: `here`, of slot `stop`. That key is given whether the other fits or not.
 #[derive(Clone, Copy)]
 pub struct Fit {
     pub fits: bool,
@@ -205,17 +207,11 @@ pub fn key_fits(c: Chain, held: u64, known: [u8; 32], slot: u64, key: [u8; 32], 
         × ((held ≤ via → via ≤ slot → result.stop ≡ via) × (slot ≤ via → via ≤ held → result.stop ≡ via))) }
 {
     let up = held < slot;
-    let high = pick(up, slot, held);
-    let low = pick(up, held, slot);
-    let stop = stop_over(low, via, high);
-    descend(
-        c,
-        high,
-        pick_key(up, key, known),
-        stop,
-        low,
-        pick_key(up, known, key),
-    )
+    if up {
+        descend(c, slot, key, stop_over(held, via, slot), held, known)
+    } else {
+        descend(c, held, known, stop_over(slot, via, held), slot, key)
+    }
 }
 
 // From the key `top` of slot `high` by way of slot `stop` down to slot `low`, where the key must be `end`.
@@ -224,15 +220,14 @@ fn descend(c: Chain, high: u64, top: [u8; 32], stop: u64, low: u64, end: [u8; 32
     ensures { (result.fits ≡ same (S.key_of_slot c (S.held high (take c.width top)) low) (take c.width end))
         × (Met c (S.held high (take c.width top)) stop result.here × (result.stop ≡ stop)) }
 {
-    let width = c.width;
     let mut here = top;
     key_of_slot(c, high, stop, &mut here);
     let mut last = here;
     key_of_slot(c, stop, low, &mut last);
     Fit {
-        fits: buffer::equal_part(&last, 0, &end, 0, width),
-        stop: stop,
-        here: here,
+        fits: buffer::equal_part(&last, 0, &end, 0, c.width),
+        stop,
+        here,
     }
 }
 
@@ -241,27 +236,7 @@ fn stop_over(low: u64, via: u64, high: u64) -> u64
     requires { low ≤ high }
     ensures { ((low ≤ result) × (result ≤ high)) × (low ≤ via → via ≤ high → result ≡ via) }
 {
-    if via < low {
-        return low;
-    }
-    if high < via {
-        return low;
-    }
-    via
-}
-
-// One of two numbers, by a test.
-fn pick(b: bool, x: u64, y: u64) -> u64
-    ensures { result ≡ cond b x y }
-{
-    if b { x } else { y }
-}
-
-// One of two keys, by a test.
-fn pick_key(b: bool, x: [u8; 32], y: [u8; 32]) -> [u8; 32]
-    ensures { result ≡ cond b x y }
-{
-    if b { x } else { y }
+    if via < low || high < via { low } else { via }
 }
 
 // ---- slots

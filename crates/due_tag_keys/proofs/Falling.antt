@@ -16,26 +16,42 @@ use Rattle.laws.proofs.Splice.{below?}
 use Rattle.rules.specs.Chain as S
 use Rattle.rules.specs.Times as T
 use Rattle.rules.specs.Tags.{entry_at, entry_tag, entry_set, is_due, tag_key, tag_matches, tag_message, mac_bits}
+use Rattle.rules.specs.Outcomes.{outcome_number}
 use Rattle.rules.specs.declared.Chain.{Chain}
+use Rattle.rules.specs.declared.Outcome.{Outcome}
+use Rattle.rules.specs.declared.Outcome.TheVariants.{Agrees, Wrong, NoUsableSet, NotAllowed, Waits, SequenceUnfit, NoPlace, Lost}
 use Rattle.rules.specs.declared.Tag.{Tag}
 use Rattle.chain.proofs.Steps.{walk_on, walked_key, walked_length}
-use Rattle.due_tag_keys.specs.Outcomes.{entry_slot, TagOfSlot, match_outcome, due_outcome, Outcomes, JudgedAt, JudgedAbove}
+use Rattle.due_tag_keys.specs.Outcomes.{entry_slot, TagOfSlot, due_number, match_outcome, due_outcome, Outcomes, JudgedAt, JudgedAbove}
 
 -- ---- a list that is filled place by place
 
 equal_or_below : (k i : ℕ) → k < i + 1 → (k < i) ⊎ (k ≡ i)
 equal_or_below k i h = ⊎_elim (λ p. inl p) (λ p. inr (omega arith)) (below? k i)
 
-pub filled_one : (f : ℕ → ℕ) (l : List ℕ) (i v : ℕ) → i < length l → ((k : ℕ) → k < i → get_or l k 0 ≡ f k) → v ≡ f i
-    → (k : ℕ) → k < i + 1 → get_or (set l i v) k 0 ≡ f k
+pub filled_one : (f : ℕ → ℕ) (l : List Outcome) (i : ℕ) (v : Outcome) → i < length l → ((k : ℕ) → k < i → due_number (get_or l k Waits) ≡ f k) → due_number v ≡ f i
+    → (k : ℕ) → k < i + 1 → due_number (get_or (set l i v) k Waits) ≡ f k
 filled_one f l i v h p e k q =
     ⊎_elim
-    (λ r. get_or-set_other l i k v 0 (λ z. absurd (omega arith)) ∙ p k r)
-    (λ r. ap (λ (j : ℕ). get_or (set l i v) j 0) r ∙ get_or-set_same l i v 0 h ∙ e ∙ ap f (sym r))
+    (λ r. ap due_number (get_or-set_other l i k v Waits (λ z. absurd (omega arith))) ∙ p k r)
+    (λ r. ap (λ (j : ℕ). due_number (get_or (set l i v) j Waits)) r ∙ ap due_number (get_or-set_same l i v Waits h) ∙ e ∙ ap f (sym r))
     (equal_or_below k i q)
 
-pub behind_kept : (l m : List ℕ) (i v : ℕ) → ((k : ℕ) → i ≤ k → get_or l k 0 ≡ get_or m k 0) → (k : ℕ) → i + 1 ≤ k → get_or (set l i v) k 0 ≡ get_or m k 0
-behind_kept l m i v p k h = get_or-set_other l i k v 0 (λ z. absurd (omega arith)) ∙ p k (omega arith)
+pub behind_kept : (l m : List Outcome) (i : ℕ) (v : Outcome) → ((k : ℕ) → i ≤ k → get_or l k Waits ≡ get_or m k Waits)
+    → (k : ℕ) → i + 1 ≤ k → get_or (set l i v) k Waits ≡ get_or m k Waits
+behind_kept l m i v p k h = get_or-set_other l i k v Waits (λ z. absurd (omega arith)) ∙ p k (omega arith)
+
+-- a tag that is judged agrees or is wrong
+pub judged_number : (o : Outcome) (b : Bool) → outcome_number o ≡ cond b 1 2 → due_number o ≡ cond b 1 2
+judged_number Agrees b e = e
+judged_number Wrong b e = e
+judged_number NoUsableSet b e = e
+judged_number NotAllowed b e = e
+judged_number Waits true e = absurd (omega (arith, e))
+judged_number Waits false e = absurd (omega (arith, e))
+judged_number SequenceUnfit b e = e
+judged_number NoPlace b e = e
+judged_number Lost b e = e
 
 -- ---- slots
 
@@ -99,7 +115,7 @@ key_long c at m key out w n o = walked_length c (at - m) m key out w n o
 module _ (c : Chain) (h : S.Held) (waiting : List ℕ) (n : ℕ) where
   -- no tag yet: none of the slots up to the held one is above m
   pub none_above : (m : ℕ) → ((k : ℕ) → k < n → entry_slot c (entry_at waiting k) < h.slot + 1 → entry_slot c (entry_at waiting k) ≤ m)
-      → (outcomes : List ℕ) → ((k : ℕ) → k < n → get_or outcomes k 0 ≡ 0) → JudgedAbove c h waiting n m outcomes
+      → (outcomes : List Outcome) → ((k : ℕ) → k < n → due_number (get_or outcomes k Waits) ≡ 0) → JudgedAbove c h waiting n m outcomes
   none_above m p outcomes z k q =
       let s = entry_slot c (entry_at waiting k) in
       z k q
@@ -113,7 +129,7 @@ module _ (c : Chain) (h : S.Held) (waiting : List ℕ) (n : ℕ) where
       by_cond false e = refl
 
   -- the tags of slot m are judged too, and no slot lies between the next one and m
-  pub next_above : (m next : ℕ) (before after : List ℕ) → m ≤ h.slot → next < m → JudgedAbove c h waiting n m before → JudgedAt c h waiting n m before after
+  pub next_above : (m next : ℕ) (before after : List Outcome) → m ≤ h.slot → next < m → JudgedAbove c h waiting n m before → JudgedAt c h waiting n m before after
       → ((k : ℕ) → k < n → entry_slot c (entry_at waiting k) < m → entry_slot c (entry_at waiting k) ≤ next) → JudgedAbove c h waiting n next after
   next_above m next before after held less b j p k q =
       let e = entry_at waiting k in
@@ -127,7 +143,7 @@ module _ (c : Chain) (h : S.Held) (waiting : List ℕ) (n : ℕ) where
       (below? s m)
 
   -- at slot 0 all are judged
-  pub all_judged : (m : ℕ) (outcomes : List ℕ) → m ≤ 0 → JudgedAbove c h waiting n m outcomes → Outcomes c h waiting n outcomes
+  pub all_judged : (m : ℕ) (outcomes : List Outcome) → m ≤ 0 → JudgedAbove c h waiting n m outcomes → Outcomes c h waiting n outcomes
   all_judged m outcomes z b k q =
       let s = entry_slot c (entry_at waiting k) in
       b k q ∙ rw (lt-ltb m s (omega (arith, slot_positive c (entry_at waiting k))))

@@ -13,9 +13,9 @@ ghost use Rattle.rules.specs.Tags.{entry_at};
 ghost use Rattle.rules.specs.State.{waiting_length, entry_length};
 ghost use Rattle.rules.specs.declared.Chain.{Chain};
 ghost use Rattle.chain.specs.Sound.{Walks, Met};
-ghost use Rattle.due_tag_keys.specs.Outcomes.{entry_slot, TagOfSlot, match_outcome, Outcomes, JudgedAt};
+ghost use Rattle.due_tag_keys.specs.Outcomes.{entry_slot, TagOfSlot, due_number, match_outcome, Outcomes, JudgedAt};
 
-use rules::Chain;
+use rules::{Chain, Outcome};
 
 // Steps of a way that are sooner walked again than the waiting tags are looked through.
 const SHORT_WAY: u64 = 256;
@@ -36,13 +36,7 @@ fn higher(best: u64, slot: u64, below: u64) -> u64
     requires { best < below }
     ensures { (result < below) × ((best ≤ result) × ((slot < below → slot ≤ result) × ((result ≡ best) ⊎ (result ≡ slot)))) }
 {
-    if below <= slot {
-        return best;
-    }
-    if slot <= best {
-        return best;
-    }
-    slot
+    if slot < below { best.max(slot) } else { best }
 }
 
 // The highest slot of the first n entries that is below the bound, or 0.
@@ -53,10 +47,8 @@ fn next_below(c: Chain, waiting: &[u8], n: usize, below: u64) -> u64
         × ((result ≡ 0) ⊎ TagOfSlot c waiting.now n result)) }
 {
     let mut best: u64 = 0;
-    let mut k: usize = 0;
-    while k < n {
+    for k in 0..n {
         best = higher(best, entry_slot(c, waiting, k), below);
-        k += 1;
     }
     best
 }
@@ -80,23 +72,24 @@ pub fn slot_to_keep(c: Chain, slot: u64, last: u64, own: u64, waiting: &[u8], n:
 // ---- the tags of one slot
 
 // The outcome of entry k's tag under the key of its slot.
-fn judge_entry(c: Chain, key: &[u8; 273], waiting: &[u8], k: usize) -> u8
+fn judge_entry(c: Chain, key: &[u8; 273], waiting: &[u8], k: usize) -> Outcome
     requires { (c.ms ≤ 40) × (k * entry_length + entry_length ≤ length waiting.now) }
     ensures { (h : Held) → key.now ≡ kept_of c.mf (key_of_slot c h (entry_slot c (entry_at waiting.now k))) →
-        result ≡ match_outcome c h (entry_at waiting.now k) }
+        due_number result ≡ match_outcome c h (entry_at waiting.now k) }
 {
     let t = waiting_tags::entry_tag(waiting, k);
     let mut set = [0u8; regions::COPY_LENGTH];
     waiting_tags::copy_set(waiting, k, &mut set);
     let matches = tag_codes::tag_matches(c.mf, c.ms, key, false, t, &set);
-    tags::outcome_number(tags::judged(matches))
+    tags::judged(matches)
 }
 
 // The outcome of entry k once the tags of slot m are judged: where its slot is another, the one it had.
-fn outcome_at(c: Chain, key: &[u8; 273], m: u64, waiting: &[u8], k: usize, old: u8) -> u8
+fn outcome_at(c: Chain, key: &[u8; 273], m: u64, waiting: &[u8], k: usize, old: Outcome) -> Outcome
     requires { (Walks c × (c.ms ≤ 40)) × (k * entry_length + entry_length ≤ length waiting.now) }
     ensures { (h : Held) → key.now ≡ kept_of c.mf (key_of_slot c h m) →
-        result ≡ cond (eqb (entry_slot c (entry_at waiting.now k)) m) (match_outcome c h (entry_at waiting.now k)) old }
+        due_number result
+        ≡ cond (eqb (entry_slot c (entry_at waiting.now k)) m) (match_outcome c h (entry_at waiting.now k)) (due_number old) }
 {
     if entry_slot(c, waiting, k) != m {
         return old;
@@ -105,17 +98,22 @@ fn outcome_at(c: Chain, key: &[u8; 273], m: u64, waiting: &[u8], k: usize, old: 
 }
 
 // The outcomes of the tags of slot m among the first n entries.
-fn judge_slot(c: Chain, key: &[u8; 273], m: u64, waiting: &[u8], n: usize, outcomes: &mut [u8; 256])
+fn judge_slot(
+    c: Chain,
+    key: &[u8; 273],
+    m: u64,
+    waiting: &[u8],
+    n: usize,
+    outcomes: &mut [Outcome; 256],
+)
     requires walks { (Walks c × (c.ms ≤ 40)) × ((length waiting.now ≡ waiting_length) × (n ≤ 256)) }
     requires outcomes_len { length outcomes.old ≡ 256 }
     ensures { (length outcomes.new ≡ 256)
         × ((h : Held) → key.now ≡ kept_of c.mf (key_of_slot c h m) →
         JudgedAt c h waiting.now n m outcomes.old outcomes.new) }
 {
-    let mut k: usize = 0;
-    while k < n {
+    for k in 0..n {
         outcomes[k] = outcome_at(c, key, m, waiting, k, outcomes[k]);
-        k += 1;
     }
 }
 
@@ -137,7 +135,7 @@ fn judge_down(
     key: &mut [u8; 32],
     waiting: &[u8],
     n: usize,
-    outcomes: &mut [u8; 256],
+    outcomes: &mut [Outcome; 256],
 )
     requires walks { (Walks c × (c.ms ≤ 40)) × (((length waiting.now ≡ waiting_length) × (n ≤ 256)) × ((m ≤ at) × (at ≤ 2 ^ 34))) }
     requires key_len { (length key.old ≡ 32) × (length outcomes.old ≡ 256) }
@@ -152,7 +150,7 @@ fn judge_down(
     judge_slot(c, &kept, m, waiting, n, outcomes);
 }
 
-// The outcomes of the first n entries, from the held key: 0 where a tag is not due. `met` is the key of slot `near` on the way down from the held
+// The outcomes of the first n entries, from the held key: a tag that is not due still waits. `met` is the key of slot `near` on the way down from the held
 // key.
 pub fn outcomes(
     c: Chain,
@@ -162,13 +160,13 @@ pub fn outcomes(
     met: [u8; 32],
     waiting: &[u8],
     n: usize,
-) -> [u8; 256]
+) -> [Outcome; 256]
     requires walks { (Walks c × (c.ms ≤ 40)) × (((length waiting.now ≡ waiting_length) × (n ≤ 256)) × (slot < 2 ^ 34)) }
     requires met { Met c (held slot (take c.width known)) near met }
     ensures { Outcomes c (held slot (take c.width known)) waiting.now n result }
 {
     let mut key = known;
-    let mut judged = [0u8; 256];
+    let mut judged = [Outcome::Waits; 256];
     let mut m = next_below(c, waiting, n, slot + 1);
     let mut at = chain::nearer(slot, near, met, m, &mut key);
     while 0 < m {

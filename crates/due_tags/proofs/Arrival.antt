@@ -8,6 +8,11 @@ use native.Mathlib.Numerals.{add-one}
 use lib.ListN.{length, get_or, length-append}
 use Rattle.laws.specs.Lists.{splice}
 use Rattle.laws.proofs.Splice.{splice-append, splice_nil}
+use Rattle.std.proofs.lemmas.List.{get_or_default}
+use Rattle.rules.specs.Outcomes.{outcome_number}
+use Rattle.rules.specs.declared.Outcome.{Outcome}
+use Rattle.rules.specs.declared.Outcome.TheVariants.{Agrees, Wrong, NoUsableSet, NotAllowed, Waits, SequenceUnfit, NoPlace, Lost}
+use Rattle.due_tag_keys.specs.Outcomes.{due_number}
 use Rattle.rules.specs.Tags.{Work, told, kept, entry_at, entry_tag, entry_set}
 use Rattle.rules.proofs.Entries.{length_entry}
 use Rattle.waiting_tags.proofs.Entries.{untouched}
@@ -144,7 +149,7 @@ due_leaves ms (suc o) m kept e waiting sets arrivals area sets' arrivals' area' 
 
 -- ---- no entry yet, and one more of the first n
 
-pub none_swept : (ms : ℕ) (outcomes waiting sets arrivals area : List ℕ)
+pub none_swept : (ms : ℕ) (outcomes : List Outcome) (waiting sets arrivals area : List ℕ)
     → Leaves (swept ms outcomes waiting 0 (start 0 sets arrivals)) 0 0 waiting area waiting sets arrivals area 0 × Counts (swept ms outcomes waiting 0 (start 0 sets arrivals)) 0 0
 unfolding swept
 none_swept ms outcomes waiting sets arrivals area = (
@@ -152,14 +157,27 @@ none_swept ms outcomes waiting sets arrivals area = (
   record { few = omega arith; kept_long = refl; records_long = refl },
 )
 
-pub one_swept : (ms : ℕ) (outcomes waiting area waiting₁ sets₁ times₁ area₁ waiting₂ sets₂ times₂ area₂ : List ℕ) (k r r₂ : ℕ) (w : Work)
-    → k < 256 → length waiting ≡ waiting_length → length area ≡ area_length
+pub one_swept : (ms : ℕ) (outcomes : List Outcome) (waiting area waiting₁ sets₁ times₁ area₁ waiting₂ sets₂ times₂ area₂ : List ℕ) (k r r₂ : ℕ) (w : Work)
+    → k < length outcomes → k < 256 → length waiting ≡ waiting_length → length area ≡ area_length
     → Leaves (swept ms outcomes waiting k w) 0 0 waiting area waiting₁ sets₁ times₁ area₁ r → Counts (swept ms outcomes waiting k w) k r
-    → Leaves (swept_one ms (get_or outcomes k 0) (entry_at waiting₁ k) (start r sets₁ times₁)) r (k - r) waiting₁ area₁ waiting₂ sets₂ times₂ area₂ r₂
+    → Leaves (swept_one ms (due_number (get_or outcomes k Agrees)) (entry_at waiting₁ k) (start r sets₁ times₁)) r (k - r) waiting₁ area₁ waiting₂ sets₂ times₂ area₂ r₂
     → Leaves (swept ms outcomes waiting (k + 1) w) 0 0 waiting area waiting₂ sets₂ times₂ area₂ r₂ × Counts (swept ms outcomes waiting (k + 1) w) (k + 1) r₂
 unfolding swept
-one_swept ms outcomes waiting area waiting₁ sets₁ times₁ area₁ waiting₂ sets₂ times₂ area₂ k r r₂ w small lw la l n s =
+one_swept ms outcomes waiting area waiting₁ sets₁ times₁ area₁ waiting₂ sets₂ times₂ area₂ k r r₂ w within small lw la l n s =
+    let o = due_number (get_or outcomes k Waits) in
+    let t = rw (get_or_default outcomes k Agrees Waits within) at s in
     rw (add-one k) (
-      more waiting area waiting₁ sets₁ times₁ area₁ waiting₂ sets₂ times₂ area₂ ms k r r₂ (get_or outcomes k 0) (swept ms outcomes waiting k w) small lw la l n s,
-      rw (← (add-one k)) (counted waiting area waiting₁ sets₁ times₁ area₁ waiting₂ sets₂ times₂ area₂ ms k r r₂ (get_or outcomes k 0) (swept ms outcomes waiting k w) small lw la l n s),
+      more waiting area waiting₁ sets₁ times₁ area₁ waiting₂ sets₂ times₂ area₂ ms k r r₂ o (swept ms outcomes waiting k w) small lw la l n t,
+      rw (← (add-one k)) (counted waiting area waiting₁ sets₁ times₁ area₁ waiting₂ sets₂ times₂ area₂ ms k r r₂ o (swept ms outcomes waiting k w) small lw la l n t),
     )
+
+-- what a tag is found to be that no longer waits
+pub found_number : (o : Outcome) → (o ≡ Waits → ⊥) → (due_number o ≡ outcome_number o) × (due_number o ≡ 0 → ⊥)
+found_number Agrees n = (refl, λ e. omega (arith, e))
+found_number Wrong n = (refl, λ e. omega (arith, e))
+found_number NoUsableSet n = (refl, λ e. omega (arith, e))
+found_number NotAllowed n = (refl, λ e. omega (arith, e))
+found_number Waits n = absurd (n refl)
+found_number SequenceUnfit n = (refl, λ e. omega (arith, e))
+found_number NoPlace n = (refl, λ e. omega (arith, e))
+found_number Lost n = (refl, λ e. omega (arith, e))

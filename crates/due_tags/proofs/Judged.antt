@@ -8,6 +8,7 @@ use native.Mathlib.Omega.{arith}
 use Rattle.rules.specs.Chain.{Held}
 use Rattle.rules.specs.Tags.{Work, told, kept, entry_at, entry_tag, entry_set, is_due, tag_matches, due_judged, dues_judged}
 use Rattle.rules.specs.declared.Chain.{Chain}
+use Rattle.rules.specs.declared.Outcome.{Outcome}
 use Rattle.due_tag_keys.specs.Outcomes.{due_outcome, match_outcome, Outcomes}
 use Rattle.due_tags.specs.Swept.{swept_one, swept}
 
@@ -21,7 +22,7 @@ one_judged : (c : Chain) (h : Held) (e : List ℕ) (w : Work) → swept_one c.ms
 unfolding due_outcome match_outcome due_judged
 one_judged c h e w = by_tests c.ms (is_due c h (entry_tag e)) (tag_matches c h false (entry_tag e) (entry_set e)) e w
 
-pub all_judged : (c : Chain) (h : Held) (waiting outcomes : List ℕ) (w : Work) (n : ℕ) → Outcomes c h waiting n outcomes → swept c.ms outcomes waiting n w ≡ dues_judged c h waiting n w
+pub all_judged : (c : Chain) (h : Held) (waiting : List ℕ) (outcomes : List Outcome) (w : Work) (n : ℕ) → Outcomes c h waiting n outcomes → swept c.ms outcomes waiting n w ≡ dues_judged c h waiting n w
 unfolding swept dues_judged
 all_judged c h waiting outcomes w zero o = refl
 all_judged c h waiting outcomes w (suc n) o =

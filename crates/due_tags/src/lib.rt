@@ -5,20 +5,22 @@
 // `judge_due` is the public call: keys, outcomes, records, sets and places.
 ghost use Rattle.std.specs.Prelude.{◌≡◌, ◌+◌, ◌-◌, ◌*◌, ◌^◌, ◌≤◌, ◌<◌, length, take};
 ghost use Rattle.rules.specs.Chain.{held};
+ghost use Rattle.rules.specs.Outcomes.{outcome_number};
 ghost use Rattle.rules.specs.Tags.{entry_at, entry_tag, entry_set, told, dues_judged};
 ghost use Rattle.rules.specs.State.{area_length, sets_length, waiting_length, arrivals_length, entry_length};
 ghost use Rattle.chain.specs.Sound.{Sound, Met};
 ghost use Rattle.tag_records.specs.Told.{start, Tells, Leaves, Counts};
+ghost use Rattle.due_tag_keys.specs.Outcomes.{due_number};
 ghost use Rattle.due_tags.specs.Swept.{swept_one, swept};
 
-use rules::{Chain, Tag};
+use rules::{Chain, Outcome};
 
 // ---- a tag that is due
 
 // The record and the set of the tag of entry k, with the copy of its set.
 fn tell_entry(
     ms: u64,
-    outcome: u8,
+    outcome: Outcome,
     waiting: &[u8],
     k: usize,
     sets: &mut [u8],
@@ -30,7 +32,7 @@ fn tell_entry(
         × ((k * entry_length + entry_length ≤ length waiting.now) × (at + 12 ≤ length area.old)) }
     requires ms_bound { ms ≤ 40 }
     ensures { Tells
-        (told ms outcome (entry_tag (entry_at waiting.now k)) (entry_set (entry_at waiting.now k))
+        (told ms (outcome_number outcome) (entry_tag (entry_at waiting.now k)) (entry_set (entry_at waiting.now k))
         (start 0 sets.old arrivals.old)) at area.old sets.new arrivals.new area.new }
 {
     let t = waiting_tags::entry_tag(waiting, k);
@@ -44,7 +46,7 @@ fn tell_entry(
 // Entry k, of this outcome, after `kept` that stay: it closes up, or it gets its record. Gives how many stay then.
 fn sweep_one(
     ms: u64,
-    outcome: u8,
+    outcome: Outcome,
     waiting: &mut [u8],
     k: usize,
     kept: usize,
@@ -55,30 +57,25 @@ fn sweep_one(
     requires sets_len { ((length sets.old ≡ sets_length) × (length arrivals.old ≡ arrivals_length))
         × ((length waiting.old ≡ waiting_length) × (length area.old ≡ area_length)) }
     requires kept_le_k { ((kept ≤ k) × (k < 256)) × (ms ≤ 40) }
-    ensures { Leaves (swept_one ms outcome (entry_at waiting.old k) (start kept sets.old arrivals.old)) kept
+    ensures { Leaves (swept_one ms (due_number outcome) (entry_at waiting.old k) (start kept sets.old arrivals.old)) kept
         (k - kept) waiting.old area.old waiting.new sets.new arrivals.new area.new result }
 {
-    if outcome == 0 {
-        waiting_tags::move_entry(waiting, k, kept);
-        return kept + 1;
+    match outcome {
+        Outcome::Waits => {
+            waiting_tags::move_entry(waiting, k, kept);
+            kept + 1
+        }
+        found => {
+            tell_entry(ms, found, waiting, k, sets, arrivals, area, (k - kept) * 12);
+            kept
+        }
     }
-    tell_entry(
-        ms,
-        outcome,
-        waiting,
-        k,
-        sets,
-        arrivals,
-        area,
-        (k - kept) * 12,
-    );
-    kept
 }
 
 // The first n entries, of these outcomes. Gives how many stay.
 fn sweep(
     ms: u64,
-    outcomes: &[u8],
+    outcomes: &[Outcome],
     waiting: &mut [u8],
     n: usize,
     sets: &mut [u8],
@@ -93,11 +90,9 @@ fn sweep(
         × Counts (swept ms outcomes.now waiting.old n (start 0 sets.old arrivals.old)) n result }
 {
     let mut kept: usize = 0;
-    let mut k: usize = 0;
-    while k < n {
+    for k in 0..n {
         let outcome = outcomes[k];
         kept = sweep_one(ms, outcome, waiting, k, kept, sets, arrivals, area);
-        k += 1;
     }
     kept
 }

@@ -33,10 +33,7 @@ pub fn hmac_key(k: &[u8]) -> HmacKey
     let o = xored(b, 0x5c);
     let inner = sha256::compress(sha256::initial(), &i);
     let outer = sha256::compress(sha256::initial(), &o);
-    HmacKey {
-        inner: inner,
-        outer: outer,
-    }
+    HmacKey { inner, outer }
 }
 
 // The code of the message m under a kept key.
@@ -44,10 +41,8 @@ pub fn hmac_with(k: HmacKey, m: &[u8]) -> [u8; 32]
     requires { 64 + length m.now < 2 ^ 61 }
     ensures { result ≡ Spec.hmac_with k m.now }
 {
-    let inner = k.inner;
-    let outer = k.outer;
-    let d = sha256::finish(inner, 1, m, b"");
-    sha256::finish(outer, 1, &d, b"")
+    let d = sha256::finish(k.inner, 1, m, b"");
+    sha256::finish(k.outer, 1, &d, b"")
 }
 
 // The key as a block (steps 1 to 3).
@@ -56,10 +51,10 @@ fn key_block(k: &[u8]) -> [u8; 64]
     ensures { result ≡ Spec.key_block k.now }
 {
     if 64 < k.len() {
-        let d = sha256::sha256(k);
-        return zero_padded(&d);
+        zero_padded(&sha256::sha256(k))
+    } else {
+        zero_padded(k)
     }
-    zero_padded(k)
 }
 
 // The bytes of b, and zeros.
@@ -68,7 +63,7 @@ fn zero_padded(b: &[u8]) -> [u8; 64]
     ensures { result ≡ Spec.zero_padded b.now }
 {
     let mut d = [0u8; 64];
-    buffer::copy_at(&mut d, 0, b);
+    d[..b.len()].copy_from_slice(b);
     d
 }
 
@@ -76,11 +71,9 @@ fn zero_padded(b: &[u8]) -> [u8; 64]
 fn xored(b: [u8; 64], x: u8) -> [u8; 64]
     ensures { result ≡ Spec.xored b x }
 {
-    let mut d = [0u8; 64];
-    let mut i: usize = 0;
-    while i < 64 {
-        d[i] = b[i] ^ x;
-        i += 1;
+    let mut d = b;
+    for y in d.iter_mut() {
+        *y ^= x;
     }
     d
 }

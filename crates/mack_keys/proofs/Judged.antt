@@ -4,7 +4,7 @@ use mathlib.Core.Path.{◌≡◌, refl, sym, ap, ◌∙◌}
 use mathlib.Core.Bool.{Bool, true, false, cond, not, ◌||◌}
 use mathlib.Core.Logic.{⊎_elim}
 use mathlib.Core.List.{List, ◌++◌}
-use Prim.Native.Nat.{ℕ, zero, suc, ◌+◌, ◌≤◌, ◌<◌}
+use Prim.Native.Nat.{ℕ, zero, suc, ◌+◌, ◌^◌, ◌≤◌, ◌<◌}
 use native.Mathlib.Omega.{arith}
 use native.Mathlib.Numerals.{add-one}
 use lib.Dec.{ltb, eqb}
@@ -13,7 +13,7 @@ use lib.Seq.{drop_at, length-take-le}
 use borrow.Author.Tests.{lt-ltb, le-ltb, ne_eqb, eqb-true, eqb-false}
 use Rattle.laws.specs.Lists.{part, splice}
 use Rattle.laws.specs.Refusal.{first_refusal, unless, neb}
-use Rattle.laws.proofs.Refusal.{by_test, unless_refused}
+use Rattle.laws.proofs.Refusal.{by_test, unless_refused, unless_accepted}
 use Rattle.laws.proofs.Splice.{below?}
 use Rattle.rules.specs.Chain.{Held, held, key_fits, higher, sent_slot}
 use Rattle.rules.specs.Mack as S
@@ -21,7 +21,9 @@ use Rattle.rules.specs.Received.{key_came, block_received, keys_received}
 use Rattle.rules.specs.declared.Chain.{Chain}
 use Rattle.rules.proofs.Walks.{key_width}
 use Rattle.chain.proofs.Steps.{front_splice, splice_front}
+use Rattle.chain.specs.Sound.{OnWay}
 use Rattle.chain.specs.declared.Way.{Way}
+use Rattle.mack_keys.specs.declared.Highest.{Highest}
 use Rattle.mack_keys.specs.Keys.{Hands, checked, Keeps, KeepsOwn}
 
 -- ---- one block
@@ -245,35 +247,24 @@ length_proved c g prn m marks h (suc b) e =
     let i = length_proved c g prn m marks h b e in
     chosen_proved p.code c.width (block_received c g prn h.slot m marks p.held (suc b)) p (length-received c g prn h.slot m marks p.held (suc b) i) i
 
--- what the blocks before gave, as the code has it
-abbrev pub so_far : Chain → ℕ → ℕ → List ℕ → S.Proved
-so_far c code slot key = record { code = code; held = held slot (take c.width key) }
-
 -- no block yet
 pub no_block : (c : Chain) (g prn marks slot : ℕ) (m key : List ℕ) → Hands (keys_received c g prn m marks (held slot (take c.width key)) 0) 0 slot key key
 unfolding keys_received
 no_block c g prn marks slot m key = record { code_is = refl; slot_is = refl; key_is = sym (splice_front key c.width) }
 
--- a block failed before
-pub failed_before : (c : Chain) (code slot : ℕ) (x : S.Proved) (key : List ℕ) → (code ≡ 0 → ⊥) → Hands (unless code x (so_far c code slot key)) code slot key key
-failed_before c code slot x key n =
-    rw (unless_refused code x (so_far c code slot key) n)
-    (record { code_is = refl; slot_is = refl; key_is = sym (splice_front key c.width) })
-
 -- one block more
-pub one_more : (c : Chain) (g prn marks b code slot rc rs : ℕ) (m key₀ key out : List ℕ) (h : Held) → length h.key ≡ c.width
-    → Hands (keys_received c g prn m marks h b) code slot key₀ key
-    → Hands (unless code (block_received c g prn h.slot m marks (held slot (take c.width key)) (b + 1)) (so_far c code slot key)) rc rs key out
+pub one_more : (c : Chain) (g prn marks b slot rc rs : ℕ) (m key₀ key out : List ℕ) (h : Held) → length h.key ≡ c.width
+    → Hands (keys_received c g prn m marks h b) 0 slot key₀ key
+    → Hands (block_received c g prn h.slot m marks (held slot (take c.width key)) (b + 1)) rc rs key out
     → Hands (keys_received c g prn m marks h (b + 1)) rc rs key₀ out
 unfolding keys_received
-one_more c g prn marks b code slot rc rs m key₀ key out h e p q =
+one_more c g prn marks b slot rc rs m key₀ key out h e p q =
     let old = keys_received c g prn m marks h b in
     let n = length_proved c g prn m marks h b e in
     let k : take c.width key ≡ old.held.key = ap (take c.width) p.key_is ∙ front_splice key₀ old.held.key c.width n in
-    let same : so_far c code slot key ≡ old = rw (p.code_is, p.slot_is, k) in
     let new = keys_received c g prn m marks h (suc b) in
-    let u : unless code (block_received c g prn h.slot m marks (held slot (take c.width key)) (b + 1)) (so_far c code slot key) ≡ new =
-    rw (same, p.code_is, p.slot_is, k, add-one b) in
+    let u : block_received c g prn h.slot m marks (held slot (take c.width key)) (b + 1) ≡ new =
+    rw (p.slot_is, k, add-one b) (sym (unless_accepted old.code (block_received c g prn h.slot m marks old.held (suc b)) old (sym p.code_is))) in
     let r : Hands new rc rs key out = rw u at q in
     rw (add-one b)
     (record {
@@ -285,9 +276,41 @@ one_more c g prn marks b code slot rc rs m key₀ key out h e p q =
           ∙ splice_again key₀ old.held.key new.held.key (n ∙ sym (length_proved c g prn m marks h (suc b) e));
     })
 
+-- after a block that is refused nothing is looked at
+refused_on : (c : Chain) (g prn marks b n : ℕ) (m : List ℕ) (h : Held) → b ≤ n → ((keys_received c g prn m marks h b).code ≡ 0 → ⊥)
+    → keys_received c g prn m marks h n ≡ keys_received c g prn m marks h b
+unfolding keys_received
+refused_on c g prn marks b zero m h l f =
+    let e : b ≡ 0 = omega arith in
+    rw e
+refused_on c g prn marks b (suc n) m h l f =
+    ⊎_elim
+    (λ (a : b < suc n).
+    let p = keys_received c g prn m marks h n in
+    let e : p ≡ keys_received c g prn m marks h b = refused_on c g prn marks b n m h (omega arith) f in
+    unless_refused p.code (block_received c g prn h.slot m marks p.held (suc n)) p (λ z. f (ap (λ (x : S.Proved). x.code) (sym e) ∙ z)) ∙ e)
+    (λ a.
+    let e : b ≡ suc n = omega arith in
+    rw e)
+    (below? b (suc n))
+
+pub all_refused : (c : Chain) (g prn marks b n code slot : ℕ) (m key₀ key : List ℕ) (h : Held) → b ≤ n → 1 ≤ code
+    → Hands (keys_received c g prn m marks h b) code slot key₀ key → Hands (keys_received c g prn m marks h n) code slot key₀ key
+all_refused c g prn marks b n code slot m key₀ key h l f p =
+    rw (refused_on c g prn marks b n m h l (λ z. omega (arith, z, p.code_is))) p
+
 -- all blocks
 pub all_blocks : (c : Chain) (g prn marks b n code slot : ℕ) (m key₀ key : List ℕ) (h : Held) → b ≤ n → n ≤ b → Hands (keys_received c g prn m marks h b) code slot key₀ key
     → Hands (keys_received c g prn m marks h n) code slot key₀ key
 all_blocks c g prn marks b n code slot m key₀ key h l k p =
     let e : n ≡ b = omega arith in
     rw e p
+
+-- what is so after the first blocks, none of which was refused
+pub record Blocks (c : Chain) (g prn marks first via : ℕ) (m key₀ key : List ℕ) (done : ℕ) (top : Highest) (used : ℕ) : Type 0 where
+  pub hands : Hands (keys_received c g prn m marks (held first (take c.width key₀)) done) 0 top.slot key₀ key
+  pub slot_high : top.slot < 2 ^ 34
+  pub on_way : OnWay c (held top.slot (take c.width key)) top.way
+  pub keeps : Keeps first via top.slot top.way
+  pub own : 1 ≤ done → key_came c marks 1 ≡ true → KeepsOwn (sent_slot c g 1 prn) via top.slot top.way
+  pub used_is : used ≡ S.block_at c (done + 1)

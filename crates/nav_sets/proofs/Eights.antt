@@ -12,7 +12,7 @@ use Rattle.rules.specs.Bits.{bit, bits, bit_list, bytes_at, octet, packed}
 use Rattle.rules.proofs.Bounds.{bits_lt}
 use Rattle.bitfields.proofs.Fields.{bits_split}
 use Rattle.bitfields.proofs.Packing.{packed_front, length-bit_list, bit_list_split, packed-bytes, octet-five, octet_seven}
-use Rattle.nav_sets.proofs.Reversed.{be4_is}
+use Rattle.nav_sets.proofs.Bytes.{be4_is}
 use Rattle.nav_sets.specs.Pieces.{pair_of, five_of}
 
 -- ---- lists of bits

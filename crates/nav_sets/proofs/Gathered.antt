@@ -1,13 +1,13 @@
 -- A set in the pieces that the program writes: four of sixteen bytes, each of one word and the front of the next, and five bytes of word 5.
 -- Assumes nothing.
-use mathlib.Core.Path.{◌≡◌, refl, sym, ap, ◌∙◌}
-use mathlib.Core.List.{List, [], ◌∷◌, ◌++◌, append_assoc}
-use Prim.Native.Nat.{ℕ, ◌+◌, ◌-◌, ◌*◌, ◌/◌, ◌%◌, ◌^◌, ◌≤◌}
+use mathlib.Core.Path.{◌≡◌, sym, ap, ◌∙◌}
+use mathlib.Core.List.{List, ◌++◌, append_assoc}
+use Prim.Native.Nat.{ℕ, ◌+◌, ◌-◌, ◌*◌, ◌/◌, ◌^◌, ◌≤◌}
 use native.Mathlib.Omega.{arith}
 use lib.ListN.{length, length-append}
 use lib.Pow.{high}
 use Rattle.laws.specs.Lists.{part, splice}
-use Rattle.laws.specs.Bytes.{be4, be8}
+use Rattle.laws.specs.Bytes.{be8}
 use Rattle.laws.proofs.Numbers.{length-be4, length-be8}
 use Rattle.laws.proofs.Splice.{splice-after}
 use Rattle.rules.specs.Bits.{bits, bit_list, packed}
@@ -91,10 +91,6 @@ pub piece_spliced : (d : List ℕ) (to : ℕ) (w : List ℕ) (b from n : ℕ) �
     → splice (splice d to (be8 (bits w (b + from) 64))) (to + 8) (be8 (pair_of w (b + (64 + from)) n w (b + 134))) ≡ splice d to (piece_of w b from n)
 unfolding piece_of
 piece_spliced d to w b from n h = joined d to _ _ 8 8 (length-be8 _) (length-be8 _) h
-
-pub five_spliced : (d : List ℕ) (to x : ℕ) → to + 5 ≤ length d → splice (splice d to (x / 256 ^ 4 % 256 ∷ [])) (to + 1) (be4 (x % 256 ^ 4)) ≡ splice d to (five_of x)
-unfolding five_of
-five_spliced d to x h = joined d to _ _ 1 4 refl (length-be4 _) h
 
 pub set_spliced : (d : List ℕ) (to : ℕ) (w : List ℕ) → to + 69 ≤ length d
     → splice (splice (splice (splice (splice d to (piece_of w 0 6 56)) (to + 16) (piece_of w 128 14 48)) (to + 32) (piece_of w 256 22 42)) (to + 48) (piece_of w 384 28 34)) (to + 64)

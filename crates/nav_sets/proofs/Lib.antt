@@ -1,5 +1,5 @@
 -- What is proved of a set's bits, and the laws that the functions' proofs cite.
-pub mod Reversed
+pub mod Bytes
 pub mod Eights
 pub mod Shifts
 pub mod Gathered

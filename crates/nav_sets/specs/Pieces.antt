@@ -4,10 +4,6 @@ use Rattle.std.specs.Prelude.{ℕ, ◌+◌, ◌-◌, ◌*◌, ◌/◌, ◌%◌, 
 use Rattle.laws.specs.Bytes.{be4, be8}
 use Rattle.rules.specs.Bits.{bits}
 
--- the four bytes of a number, in reverse order
-unfoldable pub reversed : ℕ → ℕ
-reversed x = x % 256 * 256 ^ 3 + x / 256 % 256 * 256 ^ 2 + x / 256 ^ 2 % 256 * 256 + x / 256 ^ 3 % 256
-
 -- n bits of one string, then bits of another: 64 in all
 unfoldable pub pair_of : List ℕ → ℕ → ℕ → List ℕ → ℕ → ℕ
 pair_of s at n u to = bits s at n * 2 ^ (64 - n) + bits u to (64 - n)

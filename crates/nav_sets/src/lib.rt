@@ -9,60 +9,31 @@
 //   pair                64 bits of two numbers
 //   get_u64, put_u64    eight bytes as a number
 //   put_five            five bytes of a number
-ghost use Rattle.std.specs.Prelude.{◌≡◌, List, [], ◌∷◌, ℕ, ◌+◌, ◌*◌, ◌/◌, ◌%◌, ◌^◌, ◌≤◌, ◌<◌, length};
+ghost use Rattle.std.specs.Prelude.{◌≡◌, List, ℕ, ◌+◌, ◌*◌, ◌≤◌, ◌<◌, length};
 ghost use Rattle.laws.specs.Lists.{part, splice};
-ghost use Rattle.laws.specs.Bytes.{be4, be8};
+ghost use Rattle.laws.specs.Bytes.{be8};
 ghost use Rattle.rules.specs.Bits.{bits};
 ghost use Rattle.rules.specs.Navdata.{set_bytes};
-ghost use Rattle.nav_sets.specs.Pieces.{reversed, pair_of, piece_of, five_of};
+ghost use Rattle.nav_sets.specs.Pieces.{pair_of, piece_of, five_of};
 ghost use Rattle.nav_sets.specs.Table.{EachBit};
 
-// ---- eight bytes as a number
-// Bytes are read and written with the lowest first, and a number's bytes are reversed in between: each is then one instruction of the machine
-// (docs/DECISIONS.md, "Byte loops").
-
-// The four bytes of x in reverse order.
-fn reversed_four(x: u64) -> u64
-    ensures { (result ≡ reversed x) × (result < 2 ^ 32) }
-{
-    (x % 256) * 16777216 + (x / 256 % 256) * 65536 + (x / 65536 % 256) * 256 + x / 16777216 % 256
-}
-
-// The eight bytes of x in reverse order.
-fn reversed_eight(x: u64) -> u64
-    ensures { result ≡ reversed (x % 2 ^ 32) * 2 ^ 32 + reversed (x / 2 ^ 32) }
-{
-    reversed_four(x % 4294967296) * 4294967296 + reversed_four(x / 4294967296)
-}
-
-// The four bytes from place `at` on, the last one the highest.
-fn get_four(s: &[u8], at: usize) -> u64
-    requires { at + 4 ≤ length s.now }
-    ensures { (reversed result ≡ bits s.now (8 * at) 32) × (result < 2 ^ 32) }
-{
-    bitfields::wide(s[at])
-        + bitfields::wide(s[at + 1]) * 256
-        + bitfields::wide(s[at + 2]) * 65536
-        + bitfields::wide(s[at + 3]) * 16777216
-}
+// ---- eight bytes as a number: each of these is one instruction of the machine, or two
 
 // The number in the eight bytes from place `at` on.
 pub fn get_u64(s: &[u8], at: usize) -> u64
     requires { at + 8 ≤ length s.now }
     ensures { result ≡ bits s.now (8 * at) 64 }
 {
-    reversed_eight(get_four(s, at) + get_four(s, at + 4) * 4294967296)
-}
-
-// The four bytes of x from place `to` on, the last one the highest.
-fn put_four(out: &mut [u8], to: usize, x: u64)
-    requires { to + 4 ≤ length out.old }
-    ensures { out.new ≡ splice out.old to (be4 (reversed x)) }
-{
-    out[to] = (x % 256) as u8;
-    out[to + 1] = (x / 256 % 256) as u8;
-    out[to + 2] = (x / 65536 % 256) as u8;
-    out[to + 3] = (x / 16777216 % 256) as u8;
+    u64::from_be_bytes([
+        s[at],
+        s[at + 1],
+        s[at + 2],
+        s[at + 3],
+        s[at + 4],
+        s[at + 5],
+        s[at + 6],
+        s[at + 7],
+    ])
 }
 
 // A number as the eight bytes from place `to` on.
@@ -70,17 +41,7 @@ pub fn put_u64(out: &mut [u8], to: usize, x: u64)
     requires { to + 8 ≤ length out.old }
     ensures { out.new ≡ splice out.old to (be8 x) }
 {
-    let y = reversed_eight(x);
-    put_four(out, to, y % 4294967296);
-    put_four(out, to + 4, y / 4294967296);
-}
-
-// A byte at a place.
-fn put(out: &mut [u8], at: usize, x: u8)
-    requires { at < length out.old }
-    ensures { out.new ≡ splice out.old at (x ∷ []) }
-{
-    out[at] = x;
+    out[to..to + 8].copy_from_slice(&x.to_be_bytes());
 }
 
 // A number of 40 bits as five bytes at a place.
@@ -88,8 +49,7 @@ pub fn put_five(out: &mut [u8], to: usize, x: u64)
     requires { to + 5 ≤ length out.old }
     ensures { out.new ≡ splice out.old to (five_of x) }
 {
-    put(out, to, (x / 4294967296 % 256) as u8);
-    put_four(out, to + 1, reversed_four(x % 4294967296));
+    out[to..to + 5].copy_from_slice(&x.to_be_bytes()[3..]);
 }
 
 // ---- a set

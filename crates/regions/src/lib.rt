@@ -53,6 +53,42 @@ pub const ARRIVALS_LENGTH: usize = 108;
 // The area lent for the records of a sub-frame.
 pub const AREA_LENGTH: usize = 3240;
 
+// ---- the regions: what a call is lent, once its lengths are seen to be right
+
+pub type Config = [u8; CONFIG_LENGTH];
+
+pub type Clocks = [u32; CLOCKS_LENGTH];
+
+pub type Words = [u8; WORDS_LENGTH];
+
+pub type Stamps = [u32; STAMPS_LENGTH];
+
+pub type Blocks = [u8; BLOCKS_LENGTH];
+
+pub type Headers = [u8; DSM_IDS];
+
+pub type Present = [u16; DSM_IDS];
+
+pub type Since = [u32; DSM_IDS];
+
+pub type Pubkeys = [u8; PUBKEYS_LENGTH];
+
+pub type Offer = [u8; OFFER_LENGTH];
+
+pub type ChainInForce = [u8; CHAIN_LENGTH];
+
+pub type Numbers = [u64; NUMBERS_LENGTH];
+
+pub type HeldKey = [u8; HELDKEY_LENGTH];
+
+pub type Waiting = [u8; WAITING_LENGTH];
+
+pub type Sets = [u8; SETS_LENGTH];
+
+pub type Arrivals = [u32; ARRIVALS_LENGTH];
+
+pub type Area = [u8; AREA_LENGTH];
+
 // Every region has its length.
 #[tactic(auto, unfolding(rules::specs::State::shaped))]
 pub fn shaped(

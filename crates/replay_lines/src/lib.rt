@@ -12,9 +12,9 @@ ghost use Rattle.rules.specs.Replay.{decimal, ended, answer_line, record_line, r
 ghost use Rattle.rules.specs.Replay as Replay;
 ghost use Rattle.replay_lines.specs.Put.{Put};
 
-const SPACE: u8 = 32;
+const SPACE: u8 = b' ';
 
-const LINE_FEED: u8 = 10;
+const LINE_FEED: u8 = b'\n';
 
 // The lines of a record, from the front of `out`; its tag records stand at the front of `area`.
 pub fn put_lines(
@@ -30,13 +30,7 @@ pub fn put_lines(
         × ((result ≡ length (lines_of place first second count area.now)) × (result ≤ 84 + count * 25)) }
 {
     let at = answer_line(out, place, first, second, count);
-    record_lines(out, at, area, index(count))
-}
-
-fn index(x: u32) -> usize
-    ensures { result ≡ x }
-{
-    x as usize
+    record_lines(out, at, area, count as usize)
 }
 
 // The first line of a record, from the front of `out`.
@@ -46,9 +40,9 @@ fn answer_line(out: &mut [u8], place: u64, first: u32, second: u32, count: u32) 
         × ((result ≡ length (answer_line place first second count)) × (result ≤ 84)) }
 {
     let a = put_ended(out, 0, place, SPACE);
-    let b = put_ended(out, a, bitfields::low(first), SPACE);
-    let c = put_ended(out, b, bitfields::low(second), SPACE);
-    put_ended(out, c, bitfields::low(count), LINE_FEED)
+    let b = put_ended(out, a, u64::from(first), SPACE);
+    let c = put_ended(out, b, u64::from(second), SPACE);
+    put_ended(out, c, u64::from(count), LINE_FEED)
 }
 
 // The lines of the first n tag records of `area`, from place `at`.
@@ -57,23 +51,19 @@ fn record_lines(out: &mut [u8], at: usize, area: &[u8], n: usize) -> usize
     ensures { (out.new ≡ splice out.old at (record_lines area.now n))
         × (result ≡ at + length (record_lines area.now n)) }
 {
-    let mut k: usize = 0;
-    while k < n {
+    for k in 0..n {
         record_line(out, at + k * 25, area, k);
-        k += 1;
     }
     at + n * 25
 }
 
 // The character of a digit, 10 to 15 as capitals.
-fn digit(d: u64) -> u8
+#[tactic(auto, unfolding(rules::specs::Replay::digit))]
+fn digit(d: u8) -> u8
     requires { d < 16 }
     ensures { result ≡ Replay.digit d }
 {
-    if d < 10 {
-        return (48 + d) as u8;
-    }
-    (55 + d) as u8
+    if d < 10 { b'0' + d } else { b'A' + (d - 10) }
 }
 
 // n in decimal.
@@ -82,16 +72,18 @@ fn put_decimal(out: &mut [u8], at: usize, n: u64) -> usize
     ensures { Put out.old out.new at result 20 (decimal n) }
 {
     let mut text = [0u8; 20];
-    text[19] = digit(n % 10);
+    text[19] = digit((n % 10) as u8);
     let mut i: usize = 19;
     let mut rest = n / 10;
+    // A `while`, since the number says how many digits it has.
     while rest > 0 {
         i -= 1;
-        text[i] = digit(rest % 10);
+        text[i] = digit((rest % 10) as u8);
         rest /= 10;
     }
-    buffer::copy_part(out, at, &text, i, 20 - i);
-    at + (20 - i)
+    let end = at + (20 - i);
+    out[at..end].copy_from_slice(&text[i..]);
+    end
 }
 
 // n in decimal, and the character c.
@@ -109,9 +101,8 @@ fn put_byte(out: &mut [u8], at: usize, b: u8)
     requires { at + 2 ≤ length out.old }
     ensures { out.new ≡ splice out.old at (Replay.digit (b / 16) ∷ Replay.digit (b % 16) ∷ []) }
 {
-    let n = bitfields::wide(b);
-    out[at] = digit(n / 16);
-    out[at + 1] = digit(n % 16);
+    out[at] = digit(b / 16);
+    out[at + 1] = digit(b % 16);
 }
 
 // The line of tag record k.
@@ -120,10 +111,8 @@ fn record_line(out: &mut [u8], at: usize, area: &[u8], k: usize)
     ensures { out.new ≡ splice out.old at (record_line area.now k) }
 {
     let from = k * 12;
-    let mut i: usize = 0;
-    while i < 12 {
-        put_byte(out, at + i * 2, area[from + i]);
-        i += 1;
+    for (i, byte) in area[from..from + 12].iter().enumerate() {
+        put_byte(out, at + i * 2, *byte);
     }
     out[at + 24] = LINE_FEED;
 }

@@ -1,6 +1,6 @@
 -- One block's rounds, one by one: each round's word is the schedule's, and takes the place of the round's constant.
 -- Assumes nothing.
-use Rattle.std.proofs.Common.{◌≡◌, ℕ, zero, suc, ◌+◌, ◌-◌, ◌*◌, ◌<◌, ◌≤◌, List, [], ◌∷◌, length, get_or, set, sym, refl, ap, ◌∙◌, subst, ⊎_elim, add-zero, add-suc, zero-add, arith, length-append, length-set, get_or-set_other, get_or-set_same}
+use Rattle.std.proofs.Common.{◌≡◌, ℕ, zero, suc, ◌+◌, ◌-◌, ◌*◌, ◌<◌, ◌≤◌, List, [], ◌∷◌, length, get_or, set, sym, refl, ap, ◌∙◌, ⊎_elim, add-zero, add-suc, zero-add, arith, length-append, length-set, get_or-set_other, get_or-set_same}
 use lib.ListN.{get_or-append}
 use Rattle.laws.specs.Bytes.{u32at}
 use Rattle.laws.proofs.Fill.{get_d_past}
@@ -125,7 +125,3 @@ compress_is h b s x r z e = e ∙ ap (S.sums h) z.0
 pub words_before : (h b s x : List ℕ) (t : ℕ) → Before h b t s x → (i : ℕ) → i < t → get_or x i 0 ≡ get_or (S.schedule b) i 0
 unfolding Before
 words_before h b s x t z = z.1.1.0
-
--- the same, with another name for t
-pub renamed : (h b s x : List ℕ) (t u : ℕ) → t ≡ u → Before h b t s x → Before h b u s x
-renamed h b s x t u e z = subst (λ (n : ℕ). Before h b n s x) e z

@@ -6,7 +6,7 @@ use Prim.Native.Nat.{ℕ, zero, suc, ◌+◌, ◌-◌, ◌*◌, ◌/◌, ◌%◌
 use native.Mathlib.Numerals.{add-one}
 use native.Mathlib.Omega.{arith}
 use lib.Bits.{bit_and, bit_or, bit_xor, xor_comm, xor_self, xor_zero_r, and_shr, and_mod, or_shr, or_mod}
-use lib.ListN.{length, get_or, length-set}
+use lib.ListN.{length, get_or, set, length-set}
 use lib.Pow.{ones_split, pow-add}
 use Rattle.laws.proofs.Bits.{by_digits, on_digits, xor_half, xor_last, xor_assoc}
 use Rattle.laws.proofs.Elements.{written_out}
@@ -175,10 +175,17 @@ module _ (s : List ℕ) (k : ℕ) where
 
 -- ---- rounds on a masked state
 
-pub masked_is : (s : List ℕ)
+sums_of_mask : (s : List ℕ)
     → get_or s 0 0 ∷ bit_xor (get_or s 1 0) S.ones ∷ bit_xor (get_or s 2 0) S.ones ∷ get_or s 3 0 ∷ get_or s 4 0 ∷ get_or s 5 0 ∷ get_or s 6 0 ∷ get_or s 7 0 ∷ bit_xor (get_or s 8 0) S.ones ∷ get_or s 9 0 ∷ get_or s 10 0 ∷ get_or s 11 0 ∷ bit_xor (get_or s 12 0) S.ones ∷ get_or s 13 0 ∷ get_or s 14 0 ∷ get_or s 15 0 ∷ get_or s 16 0 ∷ bit_xor (get_or s 17 0) S.ones ∷ get_or s 18 0 ∷ get_or s 19 0 ∷ bit_xor (get_or s 20 0) S.ones ∷ get_or s 21 0 ∷ get_or s 22 0 ∷ get_or s 23 0 ∷ get_or s 24 0 ∷ [] ≡ K.masked s
 unfolding K.masked K.mask S.added S.up_to
-masked_is s = simp xor_zero_r
+sums_of_mask s = simp xor_zero_r
+
+-- six lanes inverted one after the other
+abbrev pub inverted_at : List ℕ → ℕ → List ℕ
+inverted_at s i = set s i (bit_xor (get_or s i 0) S.ones)
+
+pub masked_is : (s : List ℕ) → length s ≡ 25 → inverted_at (inverted_at (inverted_at (inverted_at (inverted_at (inverted_at s 1) 2) 8) 12) 17) 20 ≡ K.masked s
+masked_is s e = ap (λ (l : List ℕ). inverted_at (inverted_at (inverted_at (inverted_at (inverted_at (inverted_at l 1) 2) 8) 12) 17) 20) (written_out 25 s e) ∙ sums_of_mask s
 
 listed : (s : List ℕ) → length s ≡ 25 → S.up_to 25 (λ (i : ℕ). get_or s i 0) ≡ s
 unfolding S.up_to

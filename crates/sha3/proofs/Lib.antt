@@ -4,6 +4,7 @@ mod Linear
 mod Inverted
 mod Steps
 mod Written
+mod Rotated
 mod Padding
 mod Laid
 mod Message

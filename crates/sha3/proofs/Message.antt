@@ -3,23 +3,24 @@
 use mathlib.Core.Path.{◌≡◌, refl, sym, ap, ◌∙◌}
 use mathlib.Core.List.{List, [], ◌∷◌, ◌++◌, append_assoc, append-nil}
 use Prim.Native.Nat.{ℕ, zero, suc, ◌+◌, ◌-◌, ◌*◌, ◌/◌, ◌%◌, ◌≤◌, ◌<◌}
-use native.Mathlib.Nat.{zero-mul, suc-mul, mul-div_cancel, mul-add-mod_self_right, mod-eq_of_lt, div-eq_of_lt-le}
+use native.Mathlib.Nat.{mul-le-mul_left, suc-mul, mul-div_cancel, mul-add-mod_self_right, mod-eq_of_lt, div-eq_of_lt-le}
+use native.Mathlib.Numerals.{add-one}
 use native.Mathlib.Omega.{arith}
 use lib.ListN.{length, take, drop, length-append, length-drop, length-set}
 use lib.Seq.{take_all, take-take, drop-append-le, length-take-le}
-use Rattle.laws.specs.Lists.{part, splice}
-use Rattle.laws.proofs.Splice.{part_first, length_part, splice_whole}
+use Rattle.laws.specs.Lists.{part}
+use Rattle.laws.proofs.Splice.{part_first, length_part}
 use Rattle.sha3.specs.Sha3 as S
 use Rattle.sha3.proofs.UpTo.{length-up_to}
 use Rattle.sha3.proofs.Padding.{zs, length-padding}
 
--- the blocks before place `at` of the message m are absorbed, and s is the state
-unfoldable pub Reached : ℕ → List ℕ → ℕ → List ℕ → Type 0
-Reached r m at s = (i : ℕ) × ((at ≡ i * r) × (s ≡ S.absorbed r (S.padded r m) i))
+pub at_first : (r : ℕ) (p : List ℕ) → zs 25 ≡ S.absorbed r p 0
+unfolding S.absorbed
+at_first r p = refl
 
-pub at_first : (r : ℕ) (m : List ℕ) → Reached r m 0 (zs 25)
-unfolding Reached S.absorbed
-at_first r m = (0, (sym (zero-mul r), refl))
+-- the places of the blocks
+pub inside : (r n i : ℕ) → 0 < r → i < n / r → i * r + r ≤ n
+inside r n i g h = omega (arith, mul-le-mul_left r h)
 
 module _ (r : ℕ) (m : List ℕ) (at i : ℕ) (a : at ≡ i * r) where
   block_inside : at + r ≤ length m → part m at r ≡ S.block r (S.padded r m) i
@@ -57,27 +58,18 @@ module _ (r : ℕ) (m s d v : List ℕ) where
   next b i n e p f q = q ∙ rw (f, p, ← e, n)
 
   -- by a block inside the message
-  pub one_more : (at : ℕ) → at + r ≤ length m → Reached r m at s → d ≡ part m at r ++ zs (200 - r) → v ≡ S.keccak_f (S.added s (S.lanes d))
-      → Reached r m (at + r) v
-  unfolding Reached
-  one_more at h z p q =
-      let i = z.0 in
-      let a : at ≡ i * r = z.1.0 in (
-        suc i,
-        (ap (λ (k : ℕ). k + r) a ∙ sym (suc-mul i r), next (part m at r) i (length_part m at r h) (block_inside r m at i a h) z.1.1 p q),
-      )
+  pub one_more : (i : ℕ) → i * r + r ≤ length m → s ≡ S.absorbed r (S.padded r m) i → d ≡ part m (i * r) r ++ zs (200 - r)
+      → v ≡ S.keccak_f (S.added s (S.lanes d)) → v ≡ S.absorbed r (S.padded r m) (i + 1)
+  one_more i h z p q = rw add-one (next (part m (i * r) r) i (length_part m (i * r) r h) (block_inside r m (i * r) i refl h) z p q)
 
   -- by the last block
-  pub all_blocks : (at : ℕ) → at ≤ length m → length m - at < r → Reached r m at s
+  pub all_blocks : (at i : ℕ) → at ≡ i * r → at ≤ length m → length m - at < r → s ≡ S.absorbed r (S.padded r m) i
       → d ≡ drop at m ++ (S.padding (r - (length m - at)) ++ zs (200 - r)) → v ≡ S.keccak_f (S.added s (S.lanes d))
       → v ≡ S.absorbed r (S.padded r m) (length (S.padded r m) / r)
-  unfolding Reached
-  all_blocks at h k z p q =
-      let i = z.0 in
-      let a : at ≡ i * r = z.1.0 in
+  all_blocks at i a h k z p q =
       let x = drop at m in
       let y = S.padding (r - (length m - at)) in
-      next (x ++ y) i (length_last r m at i a h k) (block_last r m at i a h k) z.1.1 (p ∙ sym (append_assoc x y (zs (200 - r)))) q
+      next (x ++ y) i (length_last r m at i a h k) (block_last r m at i a h k) z (p ∙ sym (append_assoc x y (zs (200 - r)))) q
       ∙ ap (S.absorbed r (S.padded r m)) (sym (blocks r m at i a h k))
 
 -- n bytes of the sponge, where a state has as many
@@ -116,10 +108,3 @@ length-sponge r n m g h l =
     let v = S.absorbed r (S.padded r m) k in
     ap length (sym (squeezed_is r n m v g h refl))
     ∙ length-take-le n (S.bytes v) (omega (arith, length-bytes v, length-absorbed r (S.padded r m) k))
-
--- the first 28 bytes of a result of 32, copied
-pub first_28 : (r : ℕ) (m : List ℕ) {x d : List ℕ} → 32 ≤ r → r ≤ 200 → x ≡ S.sponge r m 32 → d ≡ splice (zs 28) 0 (part x 0 28) → d ≡ S.sponge r m 28
-unfolding part
-first_28 r m h l p q =
-    let e : part (S.sponge r m 32) 0 28 ≡ S.sponge r m 28 = shorter r 32 28 m (omega arith) (omega arith) h in
-    q ∙ rw (p, e) (splice_whole (zs 28) (S.sponge r m 28) (length-sponge r 28 m (omega arith) (omega arith) l))

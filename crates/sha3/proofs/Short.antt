@@ -3,6 +3,7 @@
 use mathlib.Core.Path.{◌≡◌, refl, sym, ap, ◌∙◌}
 use mathlib.Core.List.{List, [], ◌∷◌, ◌++◌, append_assoc}
 use Prim.Native.Nat.{ℕ, ◌-◌, ◌/◌, ◌%◌, ◌≤◌, ◌<◌}
+use native.Mathlib.Nat.{zero-mul}
 use native.Mathlib.Omega.{arith}
 use lib.ListN.{length, set, take, length-append, length-replicate}
 use lib.Seq.{take-take}
@@ -35,7 +36,7 @@ module _ (m : List ℕ) (r : ℕ) (l : length m ≤ 63) (g : 65 ≤ r) where
       let v = S.keccak_f (S.added (zs 25) (S.lanes (y ++ zs (200 - r)))) in
       rw (e, n)
       (squeezed_is r 32 m v (omega arith) (omega arith)
-      (all_blocks r m (zs 25) (y ++ zs (200 - r)) v 0 (omega arith) (omega arith) (at_first r m) (append_assoc m (S.padding (r - length m)) (zs (200 - r)) ∙ ap (λ (k : ℕ). m ++ (S.padding k ++ zs (200 - r))) z) refl))
+      (all_blocks r m (zs 25) (y ++ zs (200 - r)) v 0 0 (sym (zero-mul r)) (omega arith) (omega arith) (at_first r (S.padded r m)) (append_assoc m (S.padding (r - length m)) (zs (200 - r)) ∙ ap (λ (k : ℕ). m ++ (S.padding k ++ zs (200 - r))) z) refl))
 
   -- of a digest of n bytes, the first k
   pub short : (k n : ℕ) → 0 < n → k ≤ n → n ≤ 32 → take k (S.one_block r block) ≡ take k (S.sponge r m n)

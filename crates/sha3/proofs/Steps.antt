@@ -3,7 +3,7 @@
 -- Assumes nothing.
 use mathlib.Core.Path.{◌≡◌, sym, ap, ap₂, ◌∙◌}
 use mathlib.Core.List.{List, [], ◌∷◌}
-use Prim.Native.Nat.{ℕ, zero, suc, ◌+◌, ◌<◌}
+use Prim.Native.Nat.{ℕ, zero, suc, ◌+◌, ◌*◌, ◌<◌}
 use native.Mathlib.Numerals.{add-one}
 use native.Mathlib.Omega.{arith}
 use lib.Bits.{bit_xor}
@@ -52,16 +52,18 @@ pub no_round : (a b : List ℕ) → b ≡ K.masked a → b ≡ K.masked (S.round
 unfolding S.rounds
 no_round a b p = sym (unmasked b (ap length p ∙ length-masked a))
 
-pub two_more : (b s k r : List ℕ) (i : ℕ) → i + 1 < 24 → k ≡ S.up_to 24 S.RC → s ≡ K.masked (S.rounds (K.masked b) i)
-    → r ≡ K.masked (S.steps (S.steps (K.masked s) (get_or k i 0)) (get_or k (i + 1) 0)) → r ≡ K.masked (S.rounds (K.masked b) (i + 2))
+pub two_more : (b s k r : List ℕ) (i : ℕ) → i < 12 → k ≡ S.up_to 24 S.RC → s ≡ K.masked (S.rounds (K.masked b) (2 * i))
+    → r ≡ K.masked (S.steps (S.steps (K.masked s) (get_or k (2 * i) 0)) (get_or k (2 * i + 1) 0)) → r ≡ K.masked (S.rounds (K.masked b) (2 * (i + 1)))
 unfolding S.rounds S.round
 two_more b s k r i h e p q =
-    let c : get_or k i 0 ≡ S.RC i = ap (λ (x : List ℕ). get_or x i 0) e ∙ get_or-up_to 24 S.RC i (omega arith) in
-    let d : get_or k (i + 1) 0 ≡ S.RC (suc i) = ap (λ (x : List ℕ). get_or x (i + 1) 0) e ∙ get_or-up_to 24 S.RC (i + 1) h ∙ ap S.RC (add-one i) in
-    let n : i + 2 ≡ suc (suc i) = omega arith in
-    q ∙ rw (c, d, unmasked_rounds b s i p, n)
+    let c : get_or k (2 * i) 0 ≡ S.RC (2 * i) = ap (λ (x : List ℕ). get_or x (2 * i) 0) e ∙ get_or-up_to 24 S.RC (2 * i) (omega arith) in
+    let d : get_or k (2 * i + 1) 0 ≡ S.RC (suc (2 * i)) = ap (λ (x : List ℕ). get_or x (2 * i + 1) 0) e ∙ get_or-up_to 24 S.RC (2 * i + 1) (omega arith) ∙ ap S.RC (add-one (2 * i)) in
+    let n : 2 * (i + 1) ≡ suc (suc (2 * i)) = omega arith in
+    q ∙ rw (c, d, unmasked_rounds b s (2 * i) p, n)
 
-pub all-rounds : (a b s r : List ℕ) (i : ℕ) → length a ≡ 25 → b ≡ K.masked a → i ≡ 24 → s ≡ K.masked (S.rounds (K.masked b) i) → r ≡ K.masked s
+pub all-rounds : (a b s r : List ℕ) (i : ℕ) → length a ≡ 25 → b ≡ K.masked a → i ≡ 12 → s ≡ K.masked (S.rounds (K.masked b) (2 * i)) → r ≡ K.masked s
     → r ≡ S.keccak_f a
 unfolding S.keccak_f
-all-rounds a b s r i l m e p q = q ∙ unmasked_rounds b s i p ∙ ap₂ S.rounds (ap K.masked m ∙ unmasked a l) e
+all-rounds a b s r i l m e p q =
+    let n : 2 * i ≡ 24 = omega arith in
+    q ∙ unmasked_rounds b s (2 * i) p ∙ ap₂ S.rounds (ap K.masked m ∙ unmasked a l) n

@@ -8,7 +8,7 @@
 //   permute                the permutation of a state
 // A state is its 25 lanes by value, so that the compiler keeps them in registers and on the stack, and each step is a function of its own.
 // Six lanes are kept inverted from round to round (specs/Mask.antt).
-ghost use Rattle.std.specs.Prelude.{◌≡◌, ◌++◌, cond, ◌+◌, ◌-◌, ◌/◌, ◌%◌, ◌≤◌, ◌<◌, eqb, length, set, take, drop, replicate};
+ghost use Rattle.std.specs.Prelude.{◌≡◌, ◌++◌, cond, ◌+◌, ◌-◌, ◌*◌, ◌/◌, ◌%◌, ◌≤◌, ◌<◌, eqb, length, set, take, drop, replicate};
 ghost use Rattle.std.specs.Int.Bits.{bit_and};
 ghost use Rattle.laws.specs.Lists.{part, splice};
 ghost use Rattle.sha3.specs.Sha3 as S;
@@ -18,16 +18,24 @@ ghost use Rattle.sha3.specs.Mask as K;
 pub fn sha3_224(m: &[u8]) -> [u8; 28]
     ensures { result ≡ S.sha3_224 m.now }
 {
-    let d = sponge(144, m);
-    let mut r = [0u8; 28];
-    buffer::copy_part(&mut r, 0, &d, 0, 28);
-    r
+    sha3_of(m)
 }
 
 pub fn sha3_256(m: &[u8]) -> [u8; 32]
     ensures { result ≡ S.sha3_256 m.now }
 {
-    sponge(136, m)
+    sha3_of(m)
+}
+
+// The digest of N bytes: the capacity is twice its length (6.1).
+fn sha3_of<const N: usize>(m: &[u8]) -> [u8; N]
+    requires { (0 < N) × (N ≤ 32) }
+    ensures { result ≡ S.sponge (200 - 2 * N) m.now N }
+{
+    let d = sponge(200 - 2 * N, m);
+    let mut r = [0u8; N];
+    r.copy_from_slice(&d[..N]);
+    r
 }
 
 // The first 32 bytes of the sponge for the message m, at a rate in bytes (4).
@@ -35,15 +43,14 @@ pub fn sponge(rate: usize, m: &[u8]) -> [u8; 32]
     requires { (32 ≤ rate) × (rate ≤ 200) }
     ensures { result ≡ S.sponge rate m.now 32 }
 {
+    let blocks = m.len() / rate;
     let mut s = [0u64; 25];
-    let mut at: usize = 0;
-    while rate <= m.len() - at {
-        let d = whole_block(rate, m, at);
+    for i in 0..blocks {
+        let d = whole_block(rate, m, i * rate);
         let v = absorb(s, &d);
         s = v;
-        at += rate;
     }
-    let d = last_block(rate, m, at);
+    let d = last_block(rate, m, blocks * rate);
     digest(absorb(s, &d))
 }
 
@@ -53,24 +60,22 @@ pub fn permute(a: [u64; 25]) -> [u64; 25]
 {
     let k = constants();
     let mut s = masked(a);
-    let mut i: usize = 0;
-    while i < 24 {
-        let v = two_rounds(s, k[i], k[i + 1]);
+    for i in 0..12 {
+        let v = two_rounds(s, k[2 * i], k[2 * i + 1]);
         s = v;
-        i += 2;
     }
     masked(s)
 }
 
 // ---- 3.2: the steps of a round
 
-const ONES: u64 = 0xffffffffffffffff;
+const ONES: u64 = u64::MAX;
 
 fn rotl(x: u64, n: u32) -> u64
     requires { (0 < n) × (n < 64) }
     ensures { result ≡ S.rotl n x }
 {
-    (x << n) ^ (x >> (64 - n))
+    x.rotate_left(n)
 }
 
 // The sums of the columns (3.2.1, step 1).
@@ -186,33 +191,14 @@ fn two_rounds(s: [u64; 25], j: u64, k: u64) -> [u64; 25]
 fn masked(s: [u64; 25]) -> [u64; 25]
     ensures { result ≡ K.masked s }
 {
-    [
-        s[0],
-        s[1] ^ ONES,
-        s[2] ^ ONES,
-        s[3],
-        s[4],
-        s[5],
-        s[6],
-        s[7],
-        s[8] ^ ONES,
-        s[9],
-        s[10],
-        s[11],
-        s[12] ^ ONES,
-        s[13],
-        s[14],
-        s[15],
-        s[16],
-        s[17] ^ ONES,
-        s[18],
-        s[19],
-        s[20] ^ ONES,
-        s[21],
-        s[22],
-        s[23],
-        s[24],
-    ]
+    let mut t = s;
+    t[1] ^= ONES;
+    t[2] ^= ONES;
+    t[8] ^= ONES;
+    t[12] ^= ONES;
+    t[17] ^= ONES;
+    t[20] ^= ONES;
+    t
 }
 
 // The constants of the rounds (3.2.5).
@@ -251,25 +237,21 @@ fn constants() -> [u64; 24]
 
 // ---- 3.1, B.1: lanes and bytes
 
-fn wide(x: u8) -> u64
-    ensures { (result ≡ x) × (result < 256) }
-{
-    x as u64
-}
-
 // The lane of the eight bytes at place `at`.
 fn lane_at(b: &[u8], at: usize) -> u64
     requires { at + 8 ≤ length b.now }
     ensures { result ≡ S.lane_at b.now at }
 {
-    wide(b[at])
-        + wide(b[at + 1]) * 256
-        + wide(b[at + 2]) * 65536
-        + wide(b[at + 3]) * 16777216
-        + wide(b[at + 4]) * 4294967296
-        + wide(b[at + 5]) * 1099511627776
-        + wide(b[at + 6]) * 281474976710656
-        + wide(b[at + 7]) * 72057594037927936
+    u64::from_le_bytes([
+        b[at],
+        b[at + 1],
+        b[at + 2],
+        b[at + 3],
+        b[at + 4],
+        b[at + 5],
+        b[at + 6],
+        b[at + 7],
+    ])
 }
 
 // The lane x as the eight bytes at place `at`.
@@ -277,14 +259,7 @@ fn put_lane(d: &mut [u8], at: usize, x: u64)
     requires { at + 8 ≤ length d.old }
     ensures { d.new ≡ splice d.old at (S.lane_bytes x) }
 {
-    d[at] = (x % 256) as u8;
-    d[at + 1] = (x / 256 % 256) as u8;
-    d[at + 2] = (x / 65536 % 256) as u8;
-    d[at + 3] = (x / 16777216 % 256) as u8;
-    d[at + 4] = (x / 4294967296 % 256) as u8;
-    d[at + 5] = (x / 1099511627776 % 256) as u8;
-    d[at + 6] = (x / 281474976710656 % 256) as u8;
-    d[at + 7] = (x / 72057594037927936 % 256) as u8;
+    d[at..at + 8].copy_from_slice(&x.to_le_bytes());
 }
 
 // The first 32 bytes of a state.
@@ -306,10 +281,8 @@ fn absorb(s: [u64; 25], b: &[u8; 200]) -> [u64; 25]
     ensures { result ≡ S.keccak_f (S.added s (S.lanes b.now)) }
 {
     let mut t = [0u64; 25];
-    let mut i: usize = 0;
-    while i < 25 {
+    for i in 0..25 {
         t[i] = s[i] ^ lane_at(b, 8 * i);
-        i += 1;
     }
     permute(t)
 }
@@ -333,7 +306,7 @@ fn last_block(rate: usize, m: &[u8], at: usize) -> [u8; 200]
     let mut d = [0u8; 200];
     buffer::copy_part(&mut d, 0, m, at, n);
     d[n] = 6;
-    d[rate - 1] = d[rate - 1] ^ 128;
+    d[rate - 1] ^= 128;
     d
 }
 

@@ -8,12 +8,26 @@ use lib.Dec.{eqb}
 use borrow.Author.Tests.{eq-eqb, ne_eqb}
 use Rattle.laws.proofs.Splice.{either}
 use Rattle.laws.specs.Lists.{splice}
-use Rattle.authentic_sets.specs.Places.{Agrees}
+use Rattle.authentic_sets.specs.Places.{Agrees as Entered}
 use Rattle.rules.specs.Candidates.{agreed, pair_at}
 use Rattle.rules.specs.Tags.{Work, names_satellite, told_plain, agreed_in, told_agreed, told, tag_record, record_issue}
 use Rattle.rules.specs.Times.{stamp_of}
+use Rattle.rules.specs.Outcomes.{outcome_number}
+use Rattle.rules.specs.declared.Outcome.{Outcome}
+use Rattle.rules.specs.declared.Outcome.TheVariants.{Agrees, Wrong, NoUsableSet, NotAllowed, Waits, SequenceUnfit, NoPlace, Lost}
 use Rattle.rules.specs.declared.Tag.{Tag}
 use Rattle.tag_records.specs.Told.{start, after, Finds, Tells}
+
+-- only a tag that agrees has number 1
+pub other_number : (o : Outcome) → (o ≡ Agrees → ⊥) → outcome_number o ≡ 1 → ⊥
+other_number Agrees h e = h refl
+other_number Wrong h e = cc
+other_number NoUsableSet h e = cc
+other_number NotAllowed h e = cc
+other_number Waits h e = cc
+other_number SequenceUnfit h e = cc
+other_number NoPlace h e = cc
+other_number Lost h e = cc
 
 module _ (ms : ℕ) (t : Tag) (navdata : List ℕ) where
   -- a tag's work is its own, after what was there
@@ -35,7 +49,7 @@ module _ (ms : ℕ) (t : Tag) (navdata : List ℕ) where
     agrees_nowhere found e f = rw (eq-eqb found 1 e, f) (record { sets = refl; arrivals = refl; record_is = refl })
 
     pub agrees_there : (found : ℕ) (sets' arrivals' : List ℕ) (r : ℕ) → found ≡ 1 → names_satellite t ≡ true
-        → Agrees (agreed ms (stamp_of t.time) navdata (pair_at sets arrivals t.prn)) t.prn sets arrivals sets' arrivals' r
+        → Entered (agreed ms (stamp_of t.time) navdata (pair_at sets arrivals t.prn)) t.prn sets arrivals sets' arrivals' r
         → Finds (told ms found t navdata (start 0 sets arrivals)) t navdata sets' arrivals' r
     unfolding told told_agreed agreed_in
     agrees_there found sets' arrivals' r e f a =

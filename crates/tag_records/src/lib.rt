@@ -7,11 +7,12 @@
 //   record_issue, put_record   the parts of a record
 ghost use Rattle.std.specs.Prelude.{◌≡◌, true, ◌+◌, ◌≤◌, ◌<◌, length};
 ghost use Rattle.laws.specs.Lists.{splice};
+ghost use Rattle.rules.specs.Outcomes.{outcome_number};
 ghost use Rattle.rules.specs.Tags.{names_satellite, tag_record, record_issue, told};
 ghost use Rattle.rules.specs.State.{sets_length, arrivals_length, copy_length};
 ghost use Rattle.tag_records.specs.Told.{start, Finds, Tells};
 
-use rules::Tag;
+use rules::{Outcome, Tag};
 
 // ---- the outcome
 
@@ -19,36 +20,33 @@ use rules::Tag;
 fn names_satellite(t: Tag) -> bool
     ensures { (result ≡ names_satellite t) × (result ≡ true → ((1 ≤ t.prn) × (t.prn ≤ 36)) × (t.time < 4294967295)) }
 {
-    let prn = t.prn;
-    if prn < 1 {
-        return false;
-    }
-    if 36 < prn {
-        return false;
-    }
-    times::time_valid(t.time)
+    1 <= t.prn && t.prn <= 36 && times::time_valid(t.time)
 }
 
-// What a tag of `ms` bits was found to be: 1 says that it agrees with its set, another number is its outcome. Gives its outcome, after its
-// satellite's sets have what it leaves there.
-fn outcome_of(ms: u64, found: u8, t: Tag, set: &[u8], sets: &mut [u8], arrivals: &mut [u32]) -> u8
+// The number of a record's outcome, of a tag of `ms` bits that was found to be this, after its satellite's sets have what it leaves there.
+fn record_outcome(
+    ms: u64,
+    found: Outcome,
+    t: Tag,
+    set: &[u8],
+    sets: &mut [u8],
+    arrivals: &mut [u32],
+) -> u8
     requires { ((length sets.old ≡ sets_length) × (length arrivals.old ≡ arrivals_length)) × ((length set.now ≡ copy_length) × (ms ≤ 40)) }
-    ensures { Finds (told ms found t set.now (start 0 sets.old arrivals.old)) t set.now
+    ensures { Finds (told ms (outcome_number found) t set.now (start 0 sets.old arrivals.old)) t set.now
         sets.new arrivals.new result }
 {
-    if found != 1 {
-        return found;
+    match found {
+        Outcome::Agrees if names_satellite(t) => authentic_sets::agree(sets, arrivals, ms, t, set),
+        Outcome::Agrees => 9,
+        other => tags::outcome_number(other),
     }
-    if !names_satellite(t) {
-        return 9;
-    }
-    authentic_sets::agree(sets, arrivals, ms, t, set)
 }
 
 // A tag of `ms` bits and what it was found to be: its record goes to place `at` of the area, and where it agrees, its satellite's sets follow.
 pub fn tell(
     ms: u64,
-    found: u8,
+    found: Outcome,
     t: Tag,
     set: &[u8],
     sets: &mut [u8],
@@ -59,10 +57,10 @@ pub fn tell(
     requires sets_len { ((length sets.old ≡ sets_length) × (length arrivals.old ≡ arrivals_length))
         × ((length set.now ≡ copy_length) × (at + 12 ≤ length area.old)) }
     requires ms_bound { ms ≤ 40 }
-    ensures { Tells (told ms found t set.now (start 0 sets.old arrivals.old)) at area.old
+    ensures { Tells (told ms (outcome_number found) t set.now (start 0 sets.old arrivals.old)) at area.old
         sets.new arrivals.new area.new }
 {
-    let outcome = outcome_of(ms, found, t, set, sets, arrivals);
+    let outcome = record_outcome(ms, found, t, set, sets, arrivals);
     let issue = record_issue(outcome, set);
     put_record(area, at, outcome, t, issue);
 }
@@ -70,23 +68,15 @@ pub fn tell(
 // ---- the record
 
 // The IODnav of a record: that of the set, or 0 for outcomes 3, 4, 6 and 8.
+#[tactic(auto, unfolding(rules::specs::Tags::record_issue))]
 pub fn record_issue(outcome: u8, set: &[u8]) -> u16
     requires { length set.now ≡ copy_length }
     ensures { result ≡ record_issue outcome set.now }
 {
-    if outcome == 3 {
-        return 0;
+    match outcome {
+        3 | 4 | 6 | 8 => 0,
+        _ => navdata::set_issue(set),
     }
-    if outcome == 4 {
-        return 0;
-    }
-    if outcome == 6 {
-        return 0;
-    }
-    if outcome == 8 {
-        return 0;
-    }
-    navdata::set_issue(set)
 }
 
 // A tag's record into the area, 12 bytes from place `at`.
@@ -94,20 +84,11 @@ pub fn put_record(area: &mut [u8], at: usize, outcome: u8, t: Tag, issue: u16)
     requires { at + 12 ≤ length area.old }
     ensures { area.new ≡ splice area.old at (tag_record outcome t issue) }
 {
-    let time = t.time;
+    let issue = issue.to_be_bytes();
+    let time = t.time.to_be_bytes();
     let bytes = [
-        outcome,
-        t.sender,
-        t.prn,
-        t.adkd,
-        t.block,
-        t.position,
-        (issue / 256 % 256) as u8,
-        (issue % 256) as u8,
-        (time / 16777216 % 256) as u8,
-        (time / 65536 % 256) as u8,
-        (time / 256 % 256) as u8,
-        (time % 256) as u8,
+        outcome, t.sender, t.prn, t.adkd, t.block, t.position, issue[0], issue[1], time[0],
+        time[1], time[2], time[3],
     ];
     buffer::copy_at(area, at, &bytes);
 }

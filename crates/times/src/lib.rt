@@ -5,17 +5,8 @@
 ghost use Rattle.std.specs.Prelude.{◌≡◌, ◌-◌, ◌%◌, ◌^◌, ◌≤◌, ◌<◌};
 ghost use Rattle.rules.specs.Times as S;
 
-// A number less 1, and 0 for 0.
-fn less_one(n: u64) -> u64
-    ensures { result ≡ n - 1 }
-{
-    if n == 0 {
-        return 0;
-    }
-    n - 1
-}
-
 // The second of week of a GST_SF.
+#[tactic(auto, unfolding(rules::specs::Times::second_of))]
 pub fn second_of(g: u32) -> u32
     ensures { result ≡ S.second_of g }
 {
@@ -31,10 +22,11 @@ pub fn time_valid(g: u32) -> bool
 }
 
 // Seconds since the start of week 0.
+#[tactic(auto, unfolding(rules::specs::Times::seconds_of, rules::specs::Times::week_of, rules::specs::Times::second_of))]
 pub fn seconds_of(g: u32) -> u64
     ensures { result ≡ S.seconds_of g }
 {
-    let n = g as u64;
+    let n = u64::from(g);
     n / 1048576 * 604800 + n % 1048576
 }
 
@@ -46,6 +38,7 @@ pub fn gst_of(n: u64) -> u32
 }
 
 // Seconds of a week's hour.
+#[tactic(auto, unfolding(rules::specs::Times::hour_seconds))]
 pub fn hour_seconds(week: u64, hour: u64) -> u64
     requires { (week < 4096) × (hour < 256) }
     ensures { result ≡ S.hour_seconds week hour }
@@ -54,13 +47,11 @@ pub fn hour_seconds(week: u64, hour: u64) -> u64
 }
 
 // Whole sub-frames from one time to another, in seconds: the number of a sub-frame from the root's sub-frame 0, or the age of a tag.
+#[tactic(auto, unfolding(rules::specs::Times::subframe_at))]
 pub fn subframe_at(from: u64, seconds: u64) -> u64
     ensures { result ≡ S.subframe_at from seconds }
 {
-    if seconds <= from {
-        return 0;
-    }
-    (seconds - from) / 30
+    seconds.saturating_sub(from) / 30
 }
 
 // The slot of the key that PRN p sends in block b of sub-frame s.
@@ -68,10 +59,11 @@ pub fn slot_of(ns: u64, nmack: u64, s: u64, b: u64, p: u64) -> u64
     requires { ((1 ≤ ns) × (ns ≤ 36)) × ((nmack ≤ 3) × ((s < 2 ^ 33) × (b < 256))) }
     ensures { result ≡ S.slot_of ns nmack s b p }
 {
-    s * ns * nmack + less_one(b) * ns + less_one(p) % ns + 1
+    s * ns * nmack + b.saturating_sub(1) * ns + p.saturating_sub(1) % ns + 1
 }
 
 // The lowest slot of block b of sub-frame s.
+#[tactic(auto, unfolding(rules::specs::Times::lowest_slot))]
 fn lowest_slot(ns: u64, nmack: u64, s: u64, b: u64) -> u64
     requires { ((1 ≤ ns) × (ns ≤ 36)) × ((nmack ≤ 3) × ((s < 2 ^ 33) × (b < 256))) }
     ensures { result ≡ S.lowest_slot ns nmack s b }
@@ -85,25 +77,21 @@ pub fn slot_seconds(ns: u64, nmack: u64, root: u64, m: u64) -> u64
     ensures { result ≡ S.slot_seconds ns nmack root m }
 {
     if m == 0 {
-        if root < 30 {
-            return 0;
-        }
-        return root - 30;
+        return root.saturating_sub(30);
     }
     root + 30 * ((m - 1) / (ns * nmack))
 }
 
 // Sub-frames between a tag and its key, by its ADKD.
+#[tactic(auto, unfolding(rules::specs::Times::delay_of))]
 pub fn delay_of(adkd: u8) -> u64
     ensures { result ≡ S.delay_of adkd }
 {
-    if adkd == 11 {
-        return 1;
+    match adkd {
+        11 => 1,
+        12 => 10,
+        _ => 0,
     }
-    if adkd == 12 {
-        return 10;
-    }
-    0
 }
 
 // Seconds of the sub-frame whose key a tag that came at g uses.
@@ -118,5 +106,10 @@ pub fn tag_slot(ns: u64, nmack: u64, root: u64, g: u32, b: u8, adkd: u8) -> u64
     requires { ((1 ≤ ns) × (ns ≤ 36)) × (nmack ≤ 3) }
     ensures { result ≡ S.tag_slot ns nmack root g b adkd }
 {
-    lowest_slot(ns, nmack, subframe_at(root, key_seconds(g, adkd)), b as u64)
+    lowest_slot(
+        ns,
+        nmack,
+        subframe_at(root, key_seconds(g, adkd)),
+        u64::from(b),
+    )
 }

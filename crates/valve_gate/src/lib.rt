@@ -8,7 +8,8 @@
 //   valve_gate_state_started, valve_gate_state_answered, valve_gate_state_subframe    what the core answered to a start, a word or verdict, a sub-frame
 //   valve_gate_core_decide       per half minute; it asks the core
 //   valve_gate_state_decide      the same for a boom controller that the core's answers are sent to
-ghost use Rattle.std.specs.Prelude.{◌≡◌};
+ghost use Rattle.std.specs.Prelude.{◌≡◌, ◌≢◌, length};
+ghost use Rattle.std.specs.Fn.{FnOnceReturnsAtMut};
 ghost use Rattle.rules.specs.Calls.{four_read};
 ghost use Rattle.rules.specs.State.{State, four_lent};
 ghost use Rattle.valve_rules.specs.Gate as S;
@@ -29,65 +30,70 @@ pub fn valve_gate_layout_1() -> u32
     1
 }
 
+// What `call` makes of a state that has its length, and 0; else 1, and nothing is changed.
+fn if_lent<F: FnOnce(&mut [u8])>(gate: &mut [u8], call: F) -> u32
+    requires { (state : _) → length state.now ≡ S.gate_length → F.pre call state }
+    ensures lent { length gate.old ≡ S.gate_length → (result ≡ 0) × FnOnceReturnsAtMut F.FnOnce call gate.old tt gate.new }
+    ensures refused { length gate.old ≢ S.gate_length → (result ≡ 1) × (gate.new ≡ gate.old) }
+{
+    if gate.len() != GATE_LENGTH {
+        return 1;
+    }
+    call(gate);
+    0
+}
+
 // All valves closed, and no stop seen.
+#[tactic(auto, unfolding(valve_rules::specs::Gate::if_lent, valve_rules::specs::Gate::begun))]
 pub fn valve_gate_state_begin(gate: &mut [u8]) -> u32
     ensures { S.shown result gate.new ≡ S.if_lent gate.old S.begun }
 {
-    if gate.len() != GATE_LENGTH {
-        return 1;
-    }
-    buffer::fill(gate, 0, GATE_LENGTH, 0);
-    0
+    if_lent(gate, |state| state.fill(0))
 }
 
 // What the core answered to a start.
+#[tactic(auto, unfolding(valve_rules::specs::Gate::if_lent))]
 pub fn valve_gate_state_started(gate: &mut [u8], number: u32) -> u32
     ensures { S.shown result gate.new ≡ S.if_lent gate.old (S.start_shown gate.old number) }
 {
-    if gate.len() != GATE_LENGTH {
-        return 1;
-    }
-    valves::show_start(gate, number);
-    0
+    if_lent(gate, |state| valves::show_start(state, number))
 }
 
 // What the core answered to a word or a verdict.
+#[tactic(auto, unfolding(valve_rules::specs::Gate::if_lent))]
 pub fn valve_gate_state_answered(gate: &mut [u8], number: u32) -> u32
     ensures { S.shown result gate.new ≡ S.if_lent gate.old (S.answer_shown gate.old number) }
 {
-    if gate.len() != GATE_LENGTH {
-        return 1;
-    }
-    valves::show_answer(gate, number);
-    0
+    if_lent(gate, |state| valves::show_answer(state, number))
 }
 
 // What the core answered to a sub-frame: the numbers of its two halves.
+#[tactic(auto, unfolding(valve_rules::specs::Gate::if_lent))]
 pub fn valve_gate_state_subframe(gate: &mut [u8], hkroot: u32, mack: u32) -> u32
     ensures { S.shown result gate.new ≡ S.if_lent gate.old (S.subframe_shown gate.old hkroot mack) }
 {
-    if gate.len() != GATE_LENGTH {
-        return 1;
-    }
-    valves::show_subframe(gate, hkroot, mack);
-    0
+    if_lent(gate, |state| valves::show_subframe(state, hkroot, mack))
 }
 
 // A decision, by what the core answered for an age of 20 and for one of 10: 1 says yes, any other number no. `free` has valve 1 in its lowest binary digit,
 // valve 48 in digit 47, 1 for free.
+#[tactic(auto, unfolding(valve_rules::specs::Gate::decide_call, valve_rules::specs::Gate::yes))]
 pub fn valve_gate_state_decide(gate: &mut [u8], met20: u8, met10: u8, free: &mut u64) -> u32
     ensures { S.decision result gate.new free.new ≡ S.decide_call gate.old met20 met10 }
 {
     *free = 0;
-    if gate.len() != GATE_LENGTH {
-        return 1;
+    let code = if_lent(
+        gate,
+        |state| valves::decide_all(state, met20 == 1, met10 == 1),
+    );
+    if code == 0 {
+        *free = valves::free_valves(gate);
     }
-    valves::decide_all(gate, met20 == 1, met10 == 1);
-    *free = valves::free_valves(gate);
-    0
+    code
 }
 
 // A decision that asks the core itself, lent the two regions that its question is lent. Where their lengths are wrong, 1 too.
+#[tactic(auto, unfolding(crate::specs::Asked::decide_asked))]
 pub fn valve_gate_core_decide(
     gate: &mut [u8],
     clocks: &[u32],
@@ -102,10 +108,9 @@ pub fn valve_gate_core_decide(
     *free = 0;
     let mut met20: u8 = 0;
     let mut met10: u8 = 0;
-    if osnma::osnma_regions_four(clocks, arrivals, CENTRE_LIMIT, &mut met20) != 0 {
-        return 1;
-    }
-    if osnma::osnma_regions_four(clocks, arrivals, OUTER_LIMIT, &mut met10) != 0 {
+    if osnma::osnma_regions_four(clocks, arrivals, CENTRE_LIMIT, &mut met20) != 0
+        || osnma::osnma_regions_four(clocks, arrivals, OUTER_LIMIT, &mut met10) != 0
+    {
         return 1;
     }
     valve_gate_state_decide(gate, met20, met10, free)

@@ -5,69 +5,87 @@
 ghost use Rattle.std.specs.Prelude.{◌≡◌, ◌≤◌, length};
 ghost use Rattle.valve_rules.specs.Valve.{next};
 ghost use Rattle.valve_rules.specs.Gate as S;
+ghost use Rattle.valves.specs.Rule.{rule_of};
 
 // ---- one valve
 
-// One decision of a valve: 0 to 2 closed, with so many further decisions to come, 3 free.
-fn next_valve(valve: u8, met: bool) -> u8
-    ensures { result ≡ S.number_of (next (S.valve_of valve) met) }
-{
-    if valve == 3 {
-        if met {
-            return 3;
+// Free to follow the dose map, or closed, with two, one or no further decisions to come in which it stays closed. Its number in the gate is its place here:
+// the gate is lent by C as bytes.
+#[derive(Clone, Copy)]
+enum Valve {
+    Closed,
+    ClosedOne,
+    ClosedTwo,
+    Free,
+}
+
+impl From<u8> for Valve {
+    ghost from_gives = { λ byte valve. rule_of valve ≡ S.valve_of byte };
+
+    #[tactic(auto, unfolding(valve_rules::specs::Gate::valve_of))]
+    fn from(byte: u8) -> Valve {
+        match byte {
+            1 => Valve::ClosedOne,
+            2 => Valve::ClosedTwo,
+            3 => Valve::Free,
+            _ => Valve::Closed,
         }
-        return 2;
     }
-    if valve == 2 {
-        return 1;
+}
+
+impl Valve {
+    // One decision.
+    fn next(self, met: bool) -> Valve
+        ensures { rule_of result ≡ next (rule_of self) met }
+    {
+        match self {
+            Valve::Free if met => Valve::Free,
+            Valve::Free => Valve::ClosedTwo,
+            Valve::ClosedTwo => Valve::ClosedOne,
+            Valve::ClosedOne => Valve::Closed,
+            Valve::Closed if met => Valve::Free,
+            Valve::Closed => Valve::Closed,
+        }
     }
-    if valve == 1 {
-        return 0;
+
+    // Its number in the gate.
+    fn number(self) -> u8
+        ensures { result ≡ S.number_of (rule_of self) }
+    {
+        self as u8
     }
-    if met {
-        return 3;
+
+    // 1 for a valve that is free.
+    #[tactic(auto, unfolding(valve_rules::specs::Gate::free_digit))]
+    fn free_digit(self) -> u64
+        ensures { (result ≡ S.free_digit (rule_of self)) × (result ≤ 1) }
+    {
+        u64::from(matches!(self, Valve::Free))
     }
-    0
 }
 
 // Valve k + 1 is one of the outer six on a side.
+#[tactic(auto, unfolding(valve_rules::specs::Gate::outer))]
 fn outer(k: usize) -> bool
     ensures { result ≡ S.outer k }
 {
-    if k < 6 {
-        return true;
-    }
-    42 <= k
+    k < 6 || 42 <= k
 }
 
 // Whether the limit of valve k + 1 is met.
+#[tactic(auto, unfolding(valve_rules::specs::Gate::own_met))]
 fn own_met(k: usize, met20: bool, met10: bool) -> bool
     ensures { result ≡ S.own_met k met20 met10 }
 {
-    if outer(k) {
-        return met10;
-    }
-    met20
+    if outer(k) { met10 } else { met20 }
 }
 
 // A decision while the core is stopped counts as unmet.
+#[tactic(auto, unfolding(valve_rules::specs::Gate::met_then))]
 fn met_then(stopped: bool, met: bool) -> bool
     ensures { result ≡ S.met_then stopped met }
 {
-    if stopped {
-        return false;
-    }
-    met
-}
-
-// 1 for a valve that is free.
-fn free_digit(valve: u8) -> u64
-    ensures { (result ≡ S.free_digit (S.valve_of valve)) × (result ≤ 1) }
-{
-    if valve == 3 {
-        return 1;
-    }
-    0
+    !stopped && met
 }
 
 // ---- the 48 valves
@@ -77,10 +95,8 @@ fn decide_valves(gate: &mut [u8], met20: bool, met10: bool)
     requires { length gate.old ≡ S.gate_length }
     ensures { gate.new ≡ S.decided_to met20 met10 gate.old 48 }
 {
-    let mut k: usize = 0;
-    while k < 48 {
-        gate[k] = next_valve(gate[k], own_met(k, met20, met10));
-        k = k + 1;
+    for (k, byte) in gate[..48].iter_mut().enumerate() {
+        *byte = Valve::from(*byte).next(own_met(k, met20, met10)).number();
     }
 }
 
@@ -90,15 +106,14 @@ pub fn free_valves(gate: &[u8]) -> u64
     ensures { result ≡ S.free_valves gate.now }
 {
     let mut free: u64 = 0;
-    let mut n: usize = 0;
-    while n < 48 {
-        free = free_digit(gate[47 - n]) + 2 * free;
-        n = n + 1;
+    for k in (0..48).rev() {
+        free = Valve::from(gate[k]).free_digit() + 2 * free;
     }
     free
 }
 
 // A decision of all valves.
+#[tactic(auto, unfolding(valve_rules::specs::Gate::decided, valve_rules::specs::Gate::stop_seen))]
 pub fn decide_all(gate: &mut [u8], met20: bool, met10: bool)
     requires { length gate.old ≡ S.gate_length }
     ensures { gate.new ≡ S.decided gate.old met20 met10 }
@@ -109,7 +124,11 @@ pub fn decide_all(gate: &mut [u8], met20: bool, met10: bool)
 
 // ---- what the core answers
 
+// The number of an answer that the core is stopped.
+const STOPPED: u32 = 4;
+
 // The number of a start.
+#[tactic(auto, unfolding(valve_rules::specs::Gate::start_shown))]
 pub fn show_start(gate: &mut [u8], number: u32)
     requires { length gate.old ≡ S.gate_length }
     ensures { gate.new ≡ S.start_shown gate.old number }
@@ -120,25 +139,23 @@ pub fn show_start(gate: &mut [u8], number: u32)
 }
 
 // The number of a word or a verdict.
+#[tactic(auto, unfolding(valve_rules::specs::Gate::answer_shown))]
 pub fn show_answer(gate: &mut [u8], number: u32)
     requires { length gate.old ≡ S.gate_length }
     ensures { gate.new ≡ S.answer_shown gate.old number }
 {
-    if number == 4 {
+    if number == STOPPED {
         gate[48] = 1;
     }
 }
 
 // The two numbers of a sub-frame.
+#[tactic(auto, unfolding(valve_rules::specs::Gate::subframe_shown))]
 pub fn show_subframe(gate: &mut [u8], hkroot: u32, mack: u32)
     requires { length gate.old ≡ S.gate_length }
     ensures { gate.new ≡ S.subframe_shown gate.old hkroot mack }
 {
-    if hkroot == 4 {
-        gate[48] = 1;
-        return;
-    }
-    if mack == 4 {
+    if hkroot == STOPPED || mack == STOPPED {
         gate[48] = 1;
     }
 }

@@ -1,15 +1,12 @@
 -- `aes::sub_byte` meets its contract: the table's entry at a byte is the rule's.
-use mathlib.Core.Path.{ap, ◌∙◌}
-use mathlib.Core.List.{List}
-use Prim.Native.Nat.{ℕ, ◌<◌}
+use Prim.Native.Nat.{◌<◌}
 use borrow.Author.Rules.{rules}
-use lib.ListN.{get_or}
+use Rattle.aes.specs.Aes as S
 use Rattle.aes.proofs.Table.{entry_rule}
 use Rattle.aes.proofs.sub_byte.Goals as goal
-use Rattle.aes.proofs.sub_byte.Goals.{Start}
-
-byte : (c : Start) → c.args.b < 256
-byte c = search rules
 
 pub returns : goal.returns
-returns c = ap (λ (l : List ℕ). get_or l c.args.b 0) c.requires ∙ entry_rule c.args.b (byte (goal.at.returns c).Start)
+unfolding S.SBOX
+returns c =
+    let h : c.args.b < 256 = search rules in
+    rw c.from.ensures (entry_rule c.args.b h)

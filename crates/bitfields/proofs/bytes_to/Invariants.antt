@@ -1,12 +1,8 @@
--- `bitfields::bytes_to` meets its contract: after each turn the first i bytes are spliced in.
+-- `bitfields::bytes_to` meets its contract: after i turns the first i bytes are spliced in.
 use mathlib.Core.Path.{◌≡◌}
-use Prim.Native.Nat.{◌-◌, ◌≤◌}
 use Rattle.laws.specs.Lists.{splice}
 use Rattle.rules.specs.Bits.{bytes_at}
 use Rattle.bitfields.proofs.bytes_to.Given as goal
 
 abbrev pub invariant-loop-i : goal.invariant-loop-i
-invariant-loop-i l = (l.i ≤ l.n) × (l.out ≡ splice l.initial.out l.to (bytes_at l.s l.at l.i))
-
-abbrev pub decreases-loop-i : goal.decreases-loop-i
-decreases-loop-i l = l.n - l.i
+invariant-loop-i l = l.out ≡ splice l.initial.out l.to (bytes_at l.s l.at l.i)

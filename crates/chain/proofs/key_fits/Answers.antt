@@ -1,34 +1,27 @@
 -- `chain::key_fits` meets its contract: the key of the higher slot is hashed down and compared with the other.
 use mathlib.Core.Path.{◌∙◌}
-use Rattle.chain.proofs.Steps.{between, fits_is, met_higher}
+use native.Mathlib.Omega.{arith}
+use lib.ListN.{take}
+use Rattle.rules.specs.Chain as S
+use Rattle.chain.proofs.Steps.{fits_up, fits_down, higher_up, higher_down}
 use Rattle.chain.proofs.key_fits.Goals as goal
 
-pub stop_over-stop-requires : goal.stop_over-stop-requires
-stop_over-stop-requires c =
+pub returns-then-up : goal.returns-then-up
+returns-then-up c =
     let g = c.args in
-    (between g.held g.slot _ _ c.pick-high.ensures c.pick-low.ensures).ordered
+    let h = S.held g.held (take g.c.width g.known) in
+    let k = take g.c.width g.key in
+    let d = c.descend.ensures in (
+      fits_up g.c h g.slot k _ c.if-up.true d.0,
+      (rw (higher_up h g.slot k c.if-up.true, d.1.1) d.1.0, (λ l m. d.1.1 ∙ c.stop_over.ensures.1 l m, λ l m. absurd (omega arith))),
+    )
 
-pub descend-requires : goal.descend-requires
-descend-requires c =
+pub returns-else-up : goal.returns-else-up
+returns-else-up c =
     let g = c.args in
-    let b = between g.held g.slot _ _ c.pick-high.ensures c.pick-low.ensures in
-    (c.requires.0, (b.bounded _ c.requires.1.0 c.requires.1.1, c.stop_over-stop.ensures.0))
-
-pub returns : goal.returns
-returns c =
-    let g = c.args in
-    let high = c.pick-high.ensures in
-    let low = c.pick-low.ensures in
-    let top = c.pick_key.ensures in
-    let end = c.pick_key-2.ensures in
-    let d = c.descend.ensures in
-    let b = between g.held g.slot _ _ high low in (
-      fits_is g.c g.held g.slot _ _ g.known g.key _ _ high low top end _ d.0,
-      (
-        rw d.1.1 (met_higher g.c g.held g.slot _ _ g.known g.key _ _ high low top end _ _ d.1.0),
-        (
-          λ l m. d.1.1 ∙ c.stop_over-stop.ensures.1 (b.up_low g.via l m) (b.up_high g.via l m),
-          λ l m. d.1.1 ∙ c.stop_over-stop.ensures.1 (b.down_low g.via l m) (b.down_high g.via l m),
-        ),
-      ),
+    let h = S.held g.held (take g.c.width g.known) in
+    let k = take g.c.width g.key in
+    let d = c.descend-else-up.ensures in (
+      fits_down g.c h g.slot k _ c.if-up.false d.0,
+      (rw (higher_down h g.slot k c.if-up.false, d.1.1) d.1.0, (λ l m. d.1.1 ∙ c.stop_over-else-up.ensures.1 (omega arith) (omega arith), λ l m. d.1.1 ∙ c.stop_over-else-up.ensures.1 l m)),
     )

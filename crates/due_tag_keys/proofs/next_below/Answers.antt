@@ -9,18 +9,18 @@ use Rattle.due_tag_keys.proofs.Falling.{best_one, tag_one, tag_of_more}
 use Rattle.due_tag_keys.proofs.next_below.Goals as goal
 
 pub loop-k-init : goal.loop-k-init
-loop-k-init c = (omega arith, (omega arith, ((λ j h. absurd (omega arith)), inl refl)))
+loop-k-init c = (omega arith, ((λ j h. absurd (omega arith)), inl refl))
 
 pub loop-k-preserved : goal.loop-k-preserved
 loop-k-preserved c =
     let l = c.loop-k in
     let g = c.args in
     let r = c.higher-best.ensures in
-    let slots = best_one (λ (j : ℕ). entry_slot g.c (entry_at g.waiting.now j)) l.k g.below l.best c.higher-best.result l.invariant.1.1.0 r.1.0 (rw (← c.entry_slot.ensures) r.1.1.0) in
-    let tag = tag_one g.c g.waiting.now l.k l.best c.entry_slot.result c.higher-best.result c.entry_slot.ensures l.invariant.1.1.1 r.1.1.1 in
-    (omega arith, (r.0, (slots, tag)))
+    let slots = best_one (λ (j : ℕ). entry_slot g.c (entry_at g.waiting.now j)) l.k g.below l.best c.higher-best.result l.invariant.1.0 r.1.0 (rw (← c.entry_slot.ensures) r.1.1.0) in
+    let tag = tag_one g.c g.waiting.now l.k l.best c.entry_slot.result c.higher-best.result c.entry_slot.ensures l.invariant.1.1 r.1.1.1 in
+    (r.0, (slots, tag))
 
 pub returns : goal.returns
 returns c =
     let l = c.loop-k in
-    (l.invariant.1.0, ((λ k h. l.invariant.1.1.0 k (omega arith)), tag_of_more _ _ _ _ _ l.invariant.0 l.invariant.1.1.1))
+    (l.invariant.0, ((λ k h. l.invariant.1.0 k (omega arith)), tag_of_more _ _ _ _ _ (omega arith) l.invariant.1.1))

@@ -1,5 +1,5 @@
 -- `due_tag_keys::outcomes` meets its contract: at each turn the tags above slot m are judged, and the key of slot `at` is at hand.
-use mathlib.Core.Path.{◌≡◌, refl}
+use mathlib.Core.Path.{◌≡◌, refl, ap}
 use mathlib.Core.Logic.{⊎_elim}
 use Prim.Native.Nat.{◌≤◌, ◌<◌}
 use native.Mathlib.Omega.{arith}
@@ -8,6 +8,8 @@ use Rattle.laws.proofs.Splice.{below?}
 use Rattle.rules.specs.Chain.{held}
 use Rattle.chain.specs.Sound.{Met}
 use Rattle.chain.proofs.Steps.{met_here}
+use Rattle.rules.specs.declared.Outcome.TheVariants.{Waits}
+use Rattle.due_tag_keys.specs.Outcomes.{due_number}
 use Rattle.due_tag_keys.proofs.Falling.{none_above, next_above, all_judged}
 use borrow.Author.Rules.{rules}
 use Rattle.due_tag_keys.proofs.outcomes.Goals as goal
@@ -35,7 +37,7 @@ loop-m-init c =
       (((begun (goal.at.loop-m-init c).After-nearer-at).not_above, begins (goal.at.loop-m-init c).After-nearer-at), (c.nearer-at.ensures.0.0, refl)),
       λ h e k. (
         k,
-        none_above g.c h g.waiting.now g.n r.result (rw e r.ensures.1.0) (replicate 256 0) (λ k q. get_or-replicate 256 k 0 0 (omega (arith, c.requires.walks.1.0.1))),
+        none_above g.c h g.waiting.now g.n r.result (rw e r.ensures.1.0) (replicate 256 Waits) (λ k q. ap due_number (get_or-replicate 256 k Waits Waits (omega (arith, c.requires.walks.1.0.1)))),
       ),
     )
 

@@ -9,33 +9,23 @@ use Rattle.due_tags.proofs.sweep.Goals as goal
 pub loop-k-init : goal.loop-k-init
 loop-k-init c =
     let g = c.args in
-    ((search rules), none_swept g.ms g.outcomes.now g.waiting.now g.sets.now g.arrivals.now g.area.now)
-
-pub bounds-outcomes-k : goal.bounds-outcomes-k
-bounds-outcomes-k c = search rules
+    none_swept g.ms g.outcomes.now g.waiting.now g.sets.now g.arrivals.now g.area.now
 
 pub sweep_one-kept-requires : goal.sweep_one-kept-requires
-sweep_one-kept-requires c =
-    let few = c.loop-k.invariant.1.1.few in
-    record {
-      sets_len = search rules;
-      kept_le_k = ((few, search rules), search rules);
-    }
+sweep_one-kept-requires c = record { sets_len = search rules; kept_le_k = ((c.loop-k.invariant.1.few, search rules), search rules) }
 
 pub loop-k-preserved : goal.loop-k-preserved
 loop-k-preserved c =
     let l = c.loop-k in
     let g = c.args in
-    let p = c.sweep_one-kept in (
-      search rules,
-      one_swept g.ms g.outcomes.now g.waiting.now g.area.now l.waiting l.sets l.arrivals l.area
-          c.sweep_one-kept.new.waiting c.sweep_one-kept.new.sets c.sweep_one-kept.new.arrivals c.sweep_one-kept.new.area
-          l.k l.kept p.result (start 0 g.sets.now g.arrivals.now)
-          (omega (arith, c.requires)) (omega (arith, c.requires)) (omega (arith, c.requires)) l.invariant.1.0 l.invariant.1.1 p.ensures,
-    )
+    let p = c.sweep_one-kept in
+    one_swept g.ms g.outcomes.now g.waiting.now g.area.now l.waiting l.sets l.arrivals l.area
+    p.new.waiting p.new.sets p.new.arrivals p.new.area
+    l.k l.kept p.result (start 0 g.sets.now g.arrivals.now)
+    (omega (arith, c.requires)) (omega (arith, c.requires)) (omega (arith, c.requires)) (omega (arith, c.requires)) l.invariant.0 l.invariant.1 p.ensures
 
 pub returns : goal.returns
 returns c =
     let l = c.loop-k in
     let h : l.k ≡ c.args.n = omega arith in
-    rw (← h) l.invariant.1
+    rw (← h) l.invariant

@@ -7,6 +7,6 @@ pub returns-then-k-gt64 : goal.returns-then-k-gt64
 unfolding Spec.key_block
 returns-then-k-gt64 c = rw (lt-ltb _ _ c.if-k-gt64.true) (cc)
 
-pub returns : goal.returns
+pub returns-else-k-gt64 : goal.returns-else-k-gt64
 unfolding Spec.key_block
-returns c = rw (le-ltb _ _ c.if-k-gt64.false) c.zero_padded-2.ensures
+returns-else-k-gt64 c = rw (le-ltb _ _ c.if-k-gt64.false) c.zero_padded-else-k-gt64.ensures

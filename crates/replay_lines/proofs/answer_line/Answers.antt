@@ -6,6 +6,6 @@ use Rattle.replay_lines.proofs.answer_line.Goals as goal
 
 pub returns : goal.returns
 returns c =
-    rw (← c.low.ensures.0, ← c.low-2.ensures.0, ← c.low-3.ensures.0)
+    rw (← c.from.ensures, ← c.from-2.ensures, ← c.from-3.ensures)
     (let p = line_put _ _ _ _ _ _ _ _ _ _ _ _ _ c.put_ended-a.ensures c.put_ended-b.ensures c.put_ended-c.ensures c.put_ended.ensures c.requires in
     (p.is, (p.past ∙ zero-add _, p.few)))

@@ -1,12 +1,15 @@
 -- `sha256::bytes` meets its contract: the words are written one after the other.
-use Rattle.std.proofs.Common.{◌≡◌, length, rules}
-use Rattle.sha256.proofs.Written.{bytes_is}
+use Rattle.std.proofs.Common.{◌≡◌, length, refl, arith, rules}
+use Rattle.sha256.specs.Sha256 as S
+use Rattle.sha256.proofs.Written.{one_word}
 use Rattle.sha256.proofs.bytes.Goals as goal
-use Rattle.sha256.proofs.bytes.Goals.{Start}
 
-length-h : (c : Start) → length c.args.h ≡ 8
-length-h c = search rules
+pub loop-i-init : goal.loop-i-init
+unfolding S.bytes
+loop-i-init c = (refl, refl)
 
-pub returns : goal.returns
-returns c =
-    bytes_is _ (length-h (goal.at.returns c).Start) c.put_u32.ensures c.put_u32-2.ensures c.put_u32-3.ensures c.put_u32-4.ensures c.put_u32-5.ensures c.put_u32-6.ensures c.put_u32-7.ensures c.put_u32-8.ensures
+pub loop-i-preserved : goal.loop-i-preserved
+loop-i-preserved c =
+    let l = c.loop-i in
+    let n : length c.args.h ≡ 8 = search rules in
+    (search rules, rw c.put_u32.ensures (one_word c.args.h l.d l.i (omega arith) (omega arith) l.invariant.1))

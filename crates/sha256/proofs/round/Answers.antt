@@ -1,5 +1,5 @@
 -- `sha256::round` meets its contract, by what its calls ensure.
-use Rattle.sha256.proofs.Rounds.{round_is}
+use Rattle.sha256.proofs.Computed.{round_is}
 use Rattle.sha256.proofs.round.Goals as goal
 
 pub returns : goal.returns

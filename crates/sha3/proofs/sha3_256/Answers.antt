@@ -1,7 +1,7 @@
--- `sha3::sha3_256` meets its contract: it is the sponge at a rate of 136 bytes.
+-- `sha3::sha3_256` meets its contract: the rate is what the digest's length gives.
 use Rattle.sha3.specs.Sha3 as S
 use Rattle.sha3.proofs.sha3_256.Goals as goal
 
 pub returns : goal.returns
 unfolding S.sha3_256
-returns c = c.sponge.ensures
+returns c = c.sha3_of.ensures

@@ -1,11 +1,7 @@
--- `sha3::sponge` meets its contract: before each turn, the blocks before place `at` are absorbed.
-use Prim.Native.Nat.{◌-◌, ◌≤◌}
-use lib.ListN.{length}
-use Rattle.sha3.proofs.Message.{Reached}
+-- `sha3::sponge` meets its contract: before turn i, the first i blocks are absorbed.
+use Rattle.std.proofs.Common.{◌≡◌}
+use Rattle.sha3.specs.Sha3 as S
 use Rattle.sha3.proofs.sponge.Given as goal
 
-abbrev pub invariant-loop-at : goal.invariant-loop-at
-invariant-loop-at l = (l.at ≤ length l.m) × Reached l.rate l.m l.at l.s
-
-abbrev pub decreases-loop-at : goal.decreases-loop-at
-decreases-loop-at l = length l.m - l.at
+abbrev pub invariant-loop-i : goal.invariant-loop-i
+invariant-loop-i l = l.s ≡ S.absorbed l.rate (S.padded l.rate l.m) l.i

@@ -5,4 +5,5 @@ use Rattle.tag_records.proofs.put_record.Goals as goal
 
 pub returns : goal.returns
 unfolding tag_record be2 be4
-returns c = c.copy_at.ensures
+returns c =
+    rw (c.to_be_bytes-issue.ensures, c.to_be_bytes-time.ensures) at c.copy_at.ensures

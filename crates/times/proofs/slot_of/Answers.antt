@@ -18,17 +18,17 @@ pub overflow_mul-result-2 : goal.overflow_mul-result-2
 overflow_mul-result-2 c = omega (arith, prods (goal.at.overflow_mul-result-2 c).Start)
 
 pub overflow_mul-result-3 : goal.overflow_mul-result-3
-overflow_mul-result-3 c = rw c.less_one.ensures (omega (arith, prods (goal.at.overflow_mul-result-3 c).Start))
+overflow_mul-result-3 c = rw c.saturating_sub.ensures (omega (arith, prods (goal.at.overflow_mul-result-3 c).Start))
 
 pub overflow_add-result : goal.overflow_add-result
-overflow_add-result c = rw c.less_one.ensures (omega (arith, prods (goal.at.overflow_add-result c).Start))
+overflow_add-result c = rw c.saturating_sub.ensures (omega (arith, prods (goal.at.overflow_add-result c).Start))
 
 pub overflow_add-result-2 : goal.overflow_add-result-2
-overflow_add-result-2 c = rw c.less_one.ensures (omega (arith, prods (goal.at.overflow_add-result-2 c).Start, mod-lt c.less_one-2.result c.requires.0.0))
+overflow_add-result-2 c = rw c.saturating_sub.ensures (omega (arith, prods (goal.at.overflow_add-result-2 c).Start, mod-lt c.saturating_sub-2.result c.requires.0.0))
 
 pub overflow_add-result-3 : goal.overflow_add-result-3
-overflow_add-result-3 c = rw c.less_one.ensures (omega (arith, prods (goal.at.overflow_add-result-3 c).Start, mod-lt c.less_one-2.result c.requires.0.0))
+overflow_add-result-3 c = rw c.saturating_sub.ensures (omega (arith, prods (goal.at.overflow_add-result-3 c).Start, mod-lt c.saturating_sub-2.result c.requires.0.0))
 
 pub returns : goal.returns
 unfolding S.slot_of
-returns c = rw (c.less_one.ensures, c.less_one-2.ensures)
+returns c = rw (c.saturating_sub.ensures, c.saturating_sub-2.ensures)

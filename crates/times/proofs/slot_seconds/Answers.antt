@@ -11,13 +11,9 @@ use Rattle.times.proofs.slot_seconds.Goals.{Start}
 parts : (c : Start) → (c.args.ns * c.args.nmack ≤ 108) × ((0 < c.args.ns * c.args.nmack) × ((c.args.m - 1) / (c.args.ns * c.args.nmack) ≤ c.args.m))
 parts c = slot_quotient c.args.ns c.args.nmack c.args.root c.args.m (search rules) (search rules) (search rules) (search rules)
 
-pub returns-then-root-lt30 : goal.returns-then-root-lt30
-unfolding S.slot_seconds
-returns-then-root-lt30 c = rw (eq-eqb _ _ c.if-m-eq0.true) (omega arith)
-
 pub returns-then-m-eq0 : goal.returns-then-m-eq0
 unfolding S.slot_seconds
-returns-then-m-eq0 c = rw (eq-eqb _ _ c.if-m-eq0.true)
+returns-then-m-eq0 c = rw (eq-eqb _ _ c.if-m-eq0.true) c.saturating_sub.ensures
 
 pub overflow_mul-result : goal.overflow_mul-result
 overflow_mul-result c = omega (arith, parts (goal.at.overflow_mul-result c).Start)

@@ -18,4 +18,4 @@ lowest_slot-requires c = (search rules, (search rules, (omega (arith, slots (goa
 
 pub returns : goal.returns
 unfolding S.tag_slot
-returns c = rw (c.lowest_slot.ensures, c.subframe_at.ensures, c.key_seconds.ensures)
+returns c = rw (c.lowest_slot.ensures, c.from.ensures, c.subframe_at.ensures, c.key_seconds.ensures)

@@ -1,8 +1,0 @@
--- `times::seconds_of` meets its contract: the code is the definition.
-use Rattle.rules.specs.Times as S
-use mathlib.Core.Path.{refl}
-use Rattle.times.proofs.seconds_of.Goals as goal
-
-pub returns : goal.returns
-unfolding S.seconds_of S.week_of S.second_of
-returns c = refl

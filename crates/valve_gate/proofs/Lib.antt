@@ -1,2 +1,0 @@
--- What the calls over lent memory give.
-mod Answers

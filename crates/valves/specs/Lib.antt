@@ -1,0 +1,2 @@
+-- what the contracts of the inner functions cite
+pub mod Rule
