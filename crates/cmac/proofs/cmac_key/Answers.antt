@@ -1,4 +1,4 @@
--- `cmac::keep` meets its contract: the round keys, and what comes after them.
+-- `cmac::cmac_key` meets its contract: the round keys, and what comes after them.
 use mathlib.Core.Path.{◌≡◌, sym, ap, ◌∙◌}
 use lib.ListN.{length, length-append, length-drop}
 use lib.Seq.{length-take-le}
@@ -6,7 +6,7 @@ use Rattle.aes.proofs.Keys.{length-expanded}
 use Rattle.aes.proofs.Lengths.{rounds_range}
 use Rattle.cmac.proofs.Kept.{kept_parts}
 use native.Mathlib.Omega.{arith}
-use Rattle.cmac.proofs.keep.Goals as goal
+use Rattle.cmac.proofs.cmac_key.Goals as goal
 
 pub slice_bounds-expand_key-end-2 : goal.slice_bounds-expand_key-end-2
 slice_bounds-expand_key-end-2 c = sym (length-take-le 240 c.args.kept.now (omega arith))
