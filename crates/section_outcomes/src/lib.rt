@@ -33,6 +33,7 @@ fn slot_key(c: Chain, slot: u64, known: [u8; 32], way: Way, m: u64, kept: &mut [
 }
 
 // The same for the tags without delay of field j's block.
+#[tactic(auto, using(crate::proofs::Keys::block_small), unfolding(crate::specs::Outcomes::block_key))]
 pub fn block_key(
     c: Chain,
     slot: u64,

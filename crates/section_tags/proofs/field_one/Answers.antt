@@ -8,13 +8,6 @@ use Rattle.section_tags.proofs.Fields.{lost_judged, own_judged_lem}
 use borrow.Author.Rules.{rules}
 use Rattle.section_tags.proofs.field_one.Goals as goal
 
-pub settle-requires : goal.settle-requires
-settle-requires c =
-    record {
-      sets_len = c.requires.sets_len;
-      set_len = (((search rules, c.requires.laid.1.1), (c.requires.laid.1.0, λ e. absurd (omega arith))), c.requires.laid.0.0.0.fit.ms_high);
-    }
-
 pub returns-then-field_lost : goal.returns-then-field_lost
 returns-then-field_lost c h k f m =
     let g = c.args in

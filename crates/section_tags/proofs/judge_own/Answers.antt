@@ -12,21 +12,6 @@ use Rattle.section_outcomes.proofs.Keys.{next-block, macseq_is}
 use Rattle.section_tags.proofs.Fields.{none_judged, next_judged}
 use Rattle.section_tags.proofs.judge_own.Goals as goal
 
-pub overflow_mul-j-end : goal.overflow_mul-j-end
-overflow_mul-j-end c = omega (arith, c.requires.walks.0.1.0.few)
-
-pub block_key-requires : goal.block_key-requires
-block_key-requires c =
-    ((c.requires.walks.0.0, (c.requires.walks.1.0.0, (c.requires.walks.0.1.0.fields_low, omega arith))), c.requires.walks.1.0.1)
-
-pub macseq_came-macseq-requires : goal.macseq_came-macseq-requires
-macseq_came-macseq-requires c =
-    (c.requires.walks.0.1.0, (c.requires.config_len.0.0, c.requires.config_len.1.1))
-
-pub macseq_fits-fits-requires : goal.macseq_fits-fits-requires
-macseq_fits-fits-requires c =
-    (c.requires.walks.0.1.0, (c.requires.config_len.0.0, c.requires.config_len.1.1))
-
 pub loop-j-init : goal.loop-j-init
 loop-j-init c =
     let g = c.args in (
@@ -44,10 +29,6 @@ next_key-requires c =
       walks = ((c.requires.walks.0.0, (c.requires.walks.1.0.0, (c.requires.walks.0.1.0.fields_low, omega (arith, c.requires.walks.0.1.0.few, c.loop-j-test.true)))), c.requires.walks.1.0.1);
       kept_value = c.loop-j.invariant.1.0;
     }
-
-pub overflow_add-at : goal.overflow_add-at
-overflow_add-at c =
-    omega (arith, c.requires.walks.1.1.1, c.loop-j-test.true)
 
 pub field_one-kept-requires : goal.field_one-kept-requires
 field_one-kept-requires c =
@@ -77,18 +58,6 @@ loop-j-preserved c =
             c.macseq_came-macseq.ensures),
       ),
     )
-
-pub shape_of-waiting : goal.shape_of-waiting
-shape_of-waiting c = c.loop-j.invariant.0.0 ∙ sym c.requires.sets_len.1.0
-
-pub shape_of-sets : goal.shape_of-sets
-shape_of-sets c = c.loop-j.invariant.0.1.0 ∙ sym c.requires.sets_len.0.0
-
-pub shape_of-arrivals : goal.shape_of-arrivals
-shape_of-arrivals c = c.loop-j.invariant.0.1.1.0 ∙ sym c.requires.sets_len.0.1
-
-pub shape_of-area : goal.shape_of-area
-shape_of-area c = c.loop-j.invariant.0.1.1.1 ∙ sym c.requires.sets_len.1.1
 
 pub returns : goal.returns
 returns c =

@@ -22,13 +22,6 @@ outcome_of-outcome-requires c =
       ms_bound = ((c.requires.laid.0.0.fit.ms_high, omega (arith, c.requires.laid.0.0.few, c.requires.laid.0.1)), c.heard-p.ensures.0);
     }
 
-pub settle-requires : goal.settle-requires
-settle-requires c =
-    record {
-      sets_len = c.requires.sets_len;
-      set_len = (((set_long (goal.at.settle-requires c).After-set_of-set, c.requires.laid.1.1), (c.requires.laid.1.0, c.outcome_of-outcome.ensures.0)), c.requires.laid.0.0.fit.ms_high);
-    }
-
 pub returns : goal.returns
 returns c h k f =
     let g = c.args in

@@ -6,10 +6,6 @@ use Rattle.section_tags.proofs.Fields.{other_number, told_leaves, waits_leaves}
 use borrow.Author.Rules.{rules}
 use Rattle.section_tags.proofs.settle.Goals as goal
 
-pub put_entry-requires : goal.put_entry-requires
-put_entry-requires c =
-    (omega (arith, c.requires.set_len.0.1.1 (ap outcome_number c.in-Waits.is), c.requires.sets_len.1.0), search rules)
-
 pub returns-in-Waits : goal.returns-in-Waits
 returns-in-Waits c =
     let g = c.args in
