@@ -12,43 +12,50 @@ ghost use Rattle.received.specs.Items.{item_at};
 ghost use Rattle.rules.specs.Mack.{field_at};
 ghost use Rattle.rules.specs.Received.{key_came};
 
-use received::Item;
 use rules::Chain;
 
+// The n bits of field j from its bit `from` on.
+fn field_item(c: Chain, m: &[u8], marks: u16, j: usize, from: usize, n: usize) -> Option<u64>
+    requires { (FieldsFit c × ((j < c.nmack * c.fields) × (length m.now ≡ 60))) × ((from + n ≤ c.ms + 16) × (n ≤ 56)) }
+    ensures { result ≡ item_at m.now marks (field_at c j + from) n }
+{
+    received::item_at(m, marks, mack::field_place(c, j) + from, n)
+}
+
 // Field j's tag.
-pub fn tag_item(c: Chain, m: &[u8], marks: u16, j: usize) -> Item
+pub fn tag_item(c: Chain, m: &[u8], marks: u16, j: usize) -> Option<u64>
     requires { FieldsFit c × ((j < c.nmack * c.fields) × (length m.now ≡ 60)) }
     ensures { result ≡ item_at m.now marks (field_at c j) c.ms }
 {
-    received::item_at(m, marks, mack::field_place(c, j), c.ms as usize)
+    field_item(c, m, marks, j, 0, c.ms as usize)
 }
 
 // Field j's PRN, ADKD and IOD; of the first field MACSEQ and IOD.
-pub fn info_item(c: Chain, m: &[u8], marks: u16, j: usize) -> Item
+pub fn info_item(c: Chain, m: &[u8], marks: u16, j: usize) -> Option<u64>
     requires { FieldsFit c × ((j < c.nmack * c.fields) × (length m.now ≡ 60)) }
     ensures { result ≡ item_at m.now marks (field_at c j + c.ms) 16 }
 {
-    received::item_at(m, marks, mack::field_place(c, j) + c.ms as usize, 16)
+    field_item(c, m, marks, j, c.ms as usize, 16)
 }
 
 // Field j's PRN.
-pub fn prn_item(c: Chain, m: &[u8], marks: u16, j: usize) -> Item
+pub fn prn_item(c: Chain, m: &[u8], marks: u16, j: usize) -> Option<u64>
     requires { FieldsFit c × ((j < c.nmack * c.fields) × (length m.now ≡ 60)) }
     ensures { result ≡ item_at m.now marks (field_at c j + c.ms) 8 }
 {
-    received::item_at(m, marks, mack::field_place(c, j) + c.ms as usize, 8)
+    field_item(c, m, marks, j, c.ms as usize, 8)
 }
 
 // Field j's ADKD.
-pub fn adkd_item(c: Chain, m: &[u8], marks: u16, j: usize) -> Item
+pub fn adkd_item(c: Chain, m: &[u8], marks: u16, j: usize) -> Option<u64>
     requires { FieldsFit c × ((j < c.nmack * c.fields) × (length m.now ≡ 60)) }
     ensures { result ≡ item_at m.now marks (field_at c j + c.ms + 8) 4 }
 {
-    received::item_at(m, marks, mack::field_place(c, j) + c.ms as usize + 8, 4)
+    field_item(c, m, marks, j, c.ms as usize + 8, 4)
 }
 
 // MACSEQ, after tag0.
-pub fn macseq_item(c: Chain, m: &[u8], marks: u16) -> Item
+pub fn macseq_item(c: Chain, m: &[u8], marks: u16) -> Option<u64>
     requires { (c.ms ≤ 40) × (length m.now ≡ 60) }
     ensures { result ≡ item_at m.now marks c.ms 12 }
 {
@@ -60,6 +67,5 @@ pub fn key_came(c: Chain, marks: u16, b: u64) -> bool
     requires { KeysFit c × ((1 ≤ b) × (b ≤ c.nmack)) }
     ensures { result ≡ key_came c marks b }
 {
-    let width = c.width;
-    received::bits_came(marks, mack::key_place(c, b), 8 * width)
+    received::bits_came(marks, mack::key_place(c, b), 8 * c.width)
 }

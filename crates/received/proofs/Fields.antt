@@ -1,15 +1,20 @@
 -- One field more: those that came in their places, and how many came.
 -- Assumes nothing.
-use mathlib.Core.Path.{◌≡◌, sym, ap, ◌∙◌}
+use mathlib.Core.Path.{◌≡◌, refl, sym, ap, ◌∙◌}
+use borrow.Author.Tests.{lt-leb}
+use native.Mathlib.Nat.{div-eq_of_lt, mod-lt}
+use lib.Count.{ones}
+use lib.Dec.{eqb}
+use lib.Pow.{shr-shr}
+use Rattle.std.proofs.lemmas.Nat.{ones_cat, div-add-mod'}
 use mathlib.Core.Bool.{Bool, true, false, cond}
 use mathlib.Core.List.{List, ◌++◌, append_assoc}
-use Prim.Native.Nat.{ℕ, ◌+◌, ◌-◌, ◌*◌, ◌≤◌, ◌<◌}
+use Prim.Native.Nat.{ℕ, zero, suc, ◌+◌, ◌-◌, ◌*◌, ◌/◌, ◌%◌, ◌^◌, ◌≤◌, ◌<◌}
 use native.Mathlib.Numerals.{add-one}
 use native.Mathlib.Omega.{arith}
 use lib.ListN.{length, replicate, replicate-append-replicate}
 use lib.Seq.{take_at, drop_at}
 use Rattle.laws.specs.Lists.{part, splice}
-use Rattle.laws.proofs.Refusal.{by_test}
 use Rattle.laws.proofs.Splice.{length_part, drop-replicate}
 use Rattle.rules.specs.Received.{field_came, fields_came, received}
 use Rattle.rules.proofs.Received.{length-received}
@@ -46,9 +51,26 @@ next_field marks f d e k h m p q =
 
 -- ---- how many came
 
-pub next-count : (marks n k r : ℕ) → n ≡ fields_came marks k → r ≡ cond (field_came marks k) 1 0 → n + r ≡ fields_came marks (k + 1)
-unfolding fields_came
-next-count marks n k r p q = rw (add-one k, p, q)
+-- a mark is a digit: 1 is one of the ones, and 0 is not
+one_mark : (d : ℕ) → d < 2 → cond (eqb d 1) 1 0 ≡ ones d
+unfolding ones
+one_mark zero l = refl
+one_mark (suc zero) l = refl
+one_mark (suc (suc d)) l = absurd (omega arith)
 
-pub one_mark : (marks k r : ℕ) → r ≡ cond (field_came marks k) 1 0 → r ≤ 1
-one_mark marks k r q = rw q (by_test (λ (n : ℕ). n ≤ 1) (field_came marks k) (λ _. omega arith) (λ _. omega arith))
+no_ones : 0 ≡ ones 0
+unfolding ones
+no_ones = refl
+
+-- the first k marks stand above the other 16 - k
+pub came_is : (marks k : ℕ) → marks < 2 ^ 16 → k ≤ 15 → fields_came marks k ≡ ones (marks / 2 ^ (16 - k))
+unfolding fields_came field_came
+came_is marks zero l h = rw (div-eq_of_lt l) no_ones
+came_is marks (suc k) l h =
+    let x = marks / 2 ^ (15 - k) in
+    let e : 16 - k ≡ 15 - k + 1 = omega arith in
+    let d : x % 2 < 2 = mod-lt x (omega arith) in
+    let s : x / 2 * 2 + x % 2 ≡ x = div-add-mod' x 2 in
+    let p : 16 - suc k ≡ 15 - k = omega arith in
+    rw (lt-leb 15 k (omega arith), one_mark (x % 2) d, came_is marks k l (omega arith), e, p)
+    (rw (← (shr-shr marks (15 - k) 1)) (sym (ones_cat 1 (x / 2) (x % 2) d) ∙ ap ones s))

@@ -6,8 +6,7 @@
 //   field_came, fields_came   whether a field came, and how many did
 //   received                  the fields as they came
 //   bits_came, item_at        whether all of some bits of the MACK section came; their number, or that one of them is lost
-ghost use Rattle.std.specs.Prelude.{◌≡◌, cond, ◌+◌, ◌*◌, ◌≤◌, ◌<◌, length};
-ghost use Rattle.laws.specs.Lists.{part, splice};
+ghost use Rattle.std.specs.Prelude.{◌≡◌, ◌+◌, ◌≤◌, ◌<◌, length};
 ghost use Rattle.rules.specs.Received.{field_came, fields_came, received, bits_came};
 ghost use Rattle.received.specs.Items.{item_at};
 
@@ -21,40 +20,11 @@ pub fn field_came(marks: u16, k: usize) -> bool
     (marks >> (15 - k)) % 2 == 1
 }
 
-// 1 where field k came, else 0.
-fn mark_of(marks: u16, k: usize) -> usize
-    requires { k < 15 }
-    ensures { result ≡ cond (field_came marks k) 1 0 }
-{
-    if field_came(marks, k) {
-        return 1;
-    }
-    0
-}
-
 // How many of the fifteen fields came.
 pub fn fields_came(marks: u16) -> usize
     ensures { result ≡ fields_came marks 15 }
 {
-    let mut n: usize = 0;
-    let mut k: usize = 0;
-    while k < 15 {
-        n += mark_of(marks, k);
-        k += 1;
-    }
-    n
-}
-
-// Field k of f in its place, if it came.
-fn put_field(marks: u16, f: &[u8], k: usize, fields: &mut [u8])
-    requires { (k < 15) × ((length f.now ≡ 75) × (length fields.old ≡ 75)) }
-    ensures { fields.new ≡ cond (field_came marks k) (splice fields.old (5 * k) (part f.now (5 * k) 5))
-        fields.old }
-{
-    if !field_came(marks, k) {
-        return;
-    }
-    buffer::copy_part(fields, 5 * k, f, 5 * k, 5);
+    (marks >> 1).count_ones() as usize
 }
 
 // The fifteen fields of five bytes as they came: zeros stand for a field that did not.
@@ -63,22 +33,15 @@ pub fn received(marks: u16, f: &[u8]) -> [u8; 75]
     ensures { result ≡ received marks f.now 15 }
 {
     let mut fields = [0u8; 75];
-    let mut k: usize = 0;
-    while k < 15 {
-        put_field(marks, f, k, &mut fields);
-        k += 1;
+    for k in 0..15 {
+        if field_came(marks, k) {
+            buffer::copy_part(&mut fields, 5 * k, f, 5 * k, 5);
+        }
     }
     fields
 }
 
 // ---- the items of a MACK section
-
-// A number taken off a section, or that one of its bits is lost.
-#[derive(Clone, Copy)]
-pub enum Item {
-    Came(u64),
-    Lost,
-}
 
 // Whether all of the n bits from bit `at` of the section on came: a field brings 32 of them, so the marks from the first bit's field to the last bit's
 // must all be 1.
@@ -90,18 +53,18 @@ pub fn bits_came(marks: u16, at: usize, n: usize) -> bool
         return true;
     }
     let last = (at + n - 1) / 32;
-    let one: u16 = 1;
-    let whole = one << (last - at / 32 + 1);
+    let whole = 1u16 << (last - at / 32 + 1);
     (marks >> (15 - last)) % whole == whole - 1
 }
 
 // The number in the n bits from bit `at` on, if all of them came.
-pub fn item_at(m: &[u8], marks: u16, at: usize, n: usize) -> Item
+pub fn item_at(m: &[u8], marks: u16, at: usize, n: usize) -> Option<u64>
     requires { (length m.now ≡ 60) × ((at + n ≤ 480) × (n ≤ 56)) }
     ensures { result ≡ item_at m.now marks at n }
 {
-    if !bits_came(marks, at, n) {
-        return Item::Lost;
+    if bits_came(marks, at, n) {
+        Some(bitfields::bits_at(m, at, n))
+    } else {
+        None
     }
-    Item::Came(bitfields::bits_at(m, at, n))
 }

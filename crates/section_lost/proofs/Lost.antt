@@ -1,19 +1,26 @@
 -- Which fields of a section are lost, test by test as `field_lost` (rules, Received.antt) has them.
 -- Assumes nothing.
-use mathlib.Core.Path.{◌≡◌, refl}
-use mathlib.Core.Bool.{true, false, not, ◌&&◌, ◌||◌}
+use mathlib.Core.Path.{◌≡◌, refl, sym, ◌∙◌}
+use mathlib.Core.Bool.{Bool, true, false, not, ◌&&◌, ◌||◌}
 use mathlib.Core.Logic.{⊎_elim}
 use mathlib.Core.List.{List}
-use Prim.Native.Nat.{ℕ, ◌+◌, ◌*◌, ◌/◌, ◌≤◌, ◌<◌}
+use Prim.Native.Nat.{ℕ, zero, suc, ◌+◌, ◌*◌, ◌/◌, ◌≤◌, ◌<◌}
 use native.Mathlib.Omega.{arith}
 use native.Mathlib.Nat.{mul-le-mul_right, div-mul-le_self, le_trans}
 use native.Mathlib.Numerals.{add-one}
 use borrow.Author.Tests.{eq-eqb, ne_eqb}
 use Rattle.laws.proofs.Splice.{below?}
 use Rattle.laws.proofs.Tests.{or_false}
+use Rattle.std.specs.Prelude.{Option, is_some}
+use Rattle.received.specs.Items.{item_at}
+use Rattle.received.proofs.Cases.{item_came}
 use Rattle.rules.specs.Received.{bits_came, key_came, tag_came, info_came, flexible_came, macseq_came, field_lost}
 use Rattle.rules.specs.Tags.{flexible}
 use Rattle.rules.specs.declared.Chain.{Chain}
+
+and_false : (b : Bool) → (b && false) ≡ false
+and_false true = refl
+and_false false = refl
 
 -- field j's block is one of the section's
 pub block_in : (n f j : ℕ) → j < n * f → j / f < n
@@ -34,6 +41,18 @@ module _ (config : List ℕ) (c : Chain) (time marks : ℕ) where
   pub next_flexible : (j : ℕ) → flexible_came config c time marks (j + 1) ≡ (flexible_came config c time marks j && (not (flexible config time j) || info_came c marks j))
   unfolding flexible_came
   next_flexible j = rw (add-one j)
+
+  -- one that did not come is enough
+  pub one_lost : (n j : ℕ) → j < n → (not (flexible config time j) || info_came c marks j) ≡ false → flexible_came config c time marks n ≡ false
+  unfolding flexible_came
+  one_lost zero j l e = absurd (omega arith)
+  one_lost (suc n) j l e =
+      ⊎_elim
+      (λ (b : j < n). rw (one_lost n j b e) refl)
+      (λ (b : n ≤ j).
+      let q : j ≡ n = omega arith in
+      rw (rw q at e) (and_false (flexible_came config c time marks n)))
+      (below? j n)
 
   pub macseq_lost : bits_came marks c.ms 12 ≡ false → macseq_came config c time marks ≡ false
   unfolding macseq_came
@@ -65,10 +84,15 @@ module _ (config : List ℕ) (c : Chain) (time marks j : ℕ) where
         unfolding field_lost
         first_whole e = rw (k, t, f, eq-eqb j 0 e)
 
-        pub lost_info : (j ≡ 0 → ⊥) → info_came c marks j ≡ false → field_lost config c time marks j ≡ true
+        pub by_info : (j ≡ 0 → ⊥) → field_lost config c time marks j ≡ not (info_came c marks j)
         unfolding field_lost
-        lost_info e i = rw (k, t, f, ne_eqb j 0 e, i)
+        by_info e = rw (k, t, f, ne_eqb j 0 e) (or_false (not (info_came c marks j)))
 
-        pub whole : (j ≡ 0 → ⊥) → info_came c marks j ≡ true → field_lost config c time marks j ≡ false
-        unfolding field_lost
-        whole e i = rw (k, t, f, ne_eqb j 0 e, i)
+-- ---- an item that is not there
+
+pub none_is : (r s : Bool) → s ≡ not r → r ≡ not s
+none_is true s e = rw e refl
+none_is false s e = rw e refl
+
+pub none_came : (m : List ℕ) (marks at n : ℕ) (o : Option ℕ) (r : Bool) → o ≡ item_at m marks at n → is_some o ≡ not r → bits_came marks at n ≡ not r
+none_came m marks at n o r e i = sym (item_came m marks at n) ∙ rw (← e) i

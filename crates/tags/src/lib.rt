@@ -2,100 +2,82 @@
 
 // The tags of a MACK section, the marks that say which ADKD a field has, and outcomes (01, "MACK"; 000, 4). One proof serves every tag width.
 // Public calls:
-//   own_tag, lost_tag                    a field as a tag; what the record of a lost one says
+//   Section                              a section as it came: `own_tag`, a field as a tag; `lost_tag`, what the record of a lost one says
 //   flexible, not_allowed                what a field's mark says
 //   own_outcome, judged, outcome_number  what becomes of a tag
-ghost use Rattle.std.specs.Prelude.{◌≡◌, true, cond, ◌&&◌, [], ◌∷◌, ◌+◌, ◌*◌, ◌<◌, length};
+ghost use Rattle.std.specs.Prelude.{◌≡◌, true, cond, ◌&&◌, eqb, [], ◌∷◌, ◌*◌, ◌<◌, length};
 ghost use Rattle.laws.specs.Refusal.{refuse, first_refusal};
-ghost use Rattle.rules.specs.Mack.{field_at};
+ghost use Rattle.rules.specs.Bits.{any_of};
 ghost use Rattle.rules.specs.Outcomes.{outcome_number};
-ghost use Rattle.rules.specs.Received.{shown, lost_tag};
-ghost use Rattle.rules.specs.State.{mark_of, config_length};
+ghost use Rattle.rules.specs.Received.{lost_tag};
+ghost use Rattle.rules.specs.State.{mark_of, config_length, prn_valid};
 ghost use Rattle.rules.specs.Tags.{own_tag, second_half, not_allowed};
 ghost use Rattle.rules.specs.Tags as rules;
-ghost use Rattle.tags.specs.Layout.{Laid, section};
+ghost use Rattle.tags.specs.Layout.{Laid, section_of};
 
-use received::Item;
 use rules::{Chain, Outcome, Tag};
 
 // ---- a field as a tag
 
-// One of two bytes, by a test.
-fn pick(b: bool, x: u8, y: u8) -> u8
-    ensures { result ≡ cond b x y }
-{
-    if b { x } else { y }
+// A MACK section of 60 bytes: the satellite that sent it, GST_SF and NMA status, its bytes, and the marks of the fields that came.
+#[derive(Clone, Copy)]
+pub struct Section<'a> {
+    pub prn: u8,
+    pub time: u32,
+    pub status: u8,
+    pub mack: &'a [u8],
+    pub marks: u16,
 }
 
-// Field j as a tag. Tag0 is the sender's own, ADKD 0.
-pub fn own_tag(c: Chain, prn: u8, time: u32, status: u8, mack: &[u8], j: usize) -> Tag
-    requires { Laid c × ((j < c.nmack * c.fields) × (length mack.now ≡ 60)) }
-    ensures { result ≡ own_tag c (section prn time status mack.now) j }
-{
-    let fields = c.fields as usize;
-    let f = mack::read_field(c, mack, j);
-    let info = f.info;
-    let first = j == 0;
-    let named = pick(first, prn, (info / 256) as u8);
-    let adkd = pick(first, 0, (info / 16 % 16) as u8);
-    Tag {
-        sender: prn,
-        prn: named,
-        adkd: adkd,
-        block: (j / fields + 1) as u8,
-        position: (j % fields + 1) as u8,
-        time: time,
-        status: status,
-        bits: f.tag,
+impl<'a> Section<'a> {
+    // Field j as a tag. Tag0 is the sender's own, ADKD 0.
+    pub fn own_tag(self, c: Chain, j: usize) -> Tag
+        requires { Laid c × ((j < c.nmack * c.fields) × (length self.mack.now ≡ 60)) }
+        ensures { result ≡ own_tag c (section_of self.entry) j }
+    {
+        let fields = c.fields as usize;
+        let field = mack::read_field(c, self.mack, j);
+        let tag0 = Tag {
+            sender: self.prn,
+            prn: self.prn,
+            adkd: 0,
+            block: (j / fields + 1) as u8,
+            position: (j % fields + 1) as u8,
+            time: self.time,
+            status: self.status,
+            bits: field.tag,
+        };
+        if j == 0 {
+            return tag0;
+        }
+        Tag {
+            prn: (field.info / 256) as u8,
+            adkd: (field.info / 16 % 16) as u8,
+            ..tag0
+        }
     }
-}
 
-// Field j's PRN, 0 where a bit of it is lost.
-fn shown_prn(c: Chain, mack: &[u8], marks: u16, j: usize) -> u8
-    requires { Laid c × ((j < c.nmack * c.fields) × (length mack.now ≡ 60)) }
-    ensures { result ≡ shown mack.now marks (field_at c j + c.ms) 8 }
-{
-    let Item::Came(prn) = mack_items::prn_item(c, mack, marks, j) else {
-        return 0;
-    };
-    prn as u8
-}
-
-// Field j's ADKD, 0 where a bit of it is lost.
-fn shown_adkd(c: Chain, mack: &[u8], marks: u16, j: usize) -> u8
-    requires { Laid c × ((j < c.nmack * c.fields) × (length mack.now ≡ 60)) }
-    ensures { result ≡ shown mack.now marks (field_at c j + c.ms + 8) 4 }
-{
-    let Item::Came(adkd) = mack_items::adkd_item(c, mack, marks, j) else {
-        return 0;
-    };
-    adkd as u8
-}
-
-// What the record of outcome 8 says of field j: block and position as of any tag, PRN and ADKD as far as they came. It has no tag bits.
-pub fn lost_tag(c: Chain, prn: u8, time: u32, status: u8, mack: &[u8], marks: u16, j: usize) -> Tag
-    requires { Laid c × ((j < c.nmack * c.fields) × (length mack.now ≡ 60)) }
-    ensures { result ≡ lost_tag c (section prn time status mack.now) marks j }
-{
-    let t = own_tag(c, prn, time, status, mack, j);
-    let first = j == 0;
-    let named = pick(first, prn, shown_prn(c, mack, marks, j));
-    let adkd = pick(first, 0, shown_adkd(c, mack, marks, j));
-    Tag {
-        sender: prn,
-        prn: named,
-        adkd: adkd,
-        block: t.block,
-        position: t.position,
-        time: time,
-        status: status,
-        bits: 0,
+    // What the record of outcome 8 says of field j: block and position as of any tag, PRN and ADKD as far as they came, 0 where a bit is lost. It has
+    // no tag bits.
+    pub fn lost_tag(self, c: Chain, j: usize) -> Tag
+        requires { Laid c × ((j < c.nmack * c.fields) × (length self.mack.now ≡ 60)) }
+        ensures { result ≡ lost_tag c (section_of self.entry) self.entry.marks j }
+    {
+        let whole = self.own_tag(c, j);
+        let lost = Tag { bits: 0, ..whole };
+        if j == 0 {
+            return lost;
+        }
+        let prn = mack_items::prn_item(c, self.mack, self.marks, j).unwrap_or(0) as u8;
+        let adkd = mack_items::adkd_item(c, self.mack, self.marks, j).unwrap_or(0) as u8;
+        Tag { prn, adkd, ..lost }
     }
 }
 
 // ---- marks
 
 // Second 30 of the minute.
+#[tactic(auto, unfolding(rules::specs::Tags::second_half))]
 fn second_half(time: u32) -> bool
     ensures { result ≡ second_half time }
 {
@@ -103,17 +85,16 @@ fn second_half(time: u32) -> bool
 }
 
 // The mark of field j.
+#[tactic(auto, unfolding(rules::specs::State::mark_of))]
 fn mark_of(config: &[u8], half: bool, j: usize) -> u8
     requires { (length config.now ≡ config_length) × (j < 14) }
     ensures { result ≡ mark_of config.now half j }
 {
-    if half {
-        return config[16 + j];
-    }
-    config[2 + j]
+    if half { config[16 + j] } else { config[2 + j] }
 }
 
 // Field j has a flexible ADKD.
+#[tactic(auto, unfolding(rules::specs::Tags::flexible))]
 pub fn flexible(config: &[u8], time: u32, j: usize) -> bool
     requires { (length config.now ≡ config_length) × (j < 14) }
     ensures { result ≡ rules.flexible config.now time j }
@@ -121,18 +102,29 @@ pub fn flexible(config: &[u8], time: u32, j: usize) -> bool
     mark_of(config, second_half(time), j) == 255
 }
 
+// "ADKD 0, 11, 12"
+fn known(adkd: u8) -> bool
+    ensures { result ≡ any_of (eqb adkd 0 ∷ eqb adkd 11 ∷ eqb adkd 12 ∷ []) }
+{
+    matches!(adkd, 0 | 11 | 12)
+}
+
+// "PRN 1 to 36"
+#[tactic(auto, unfolding(rules::specs::State::prn_valid))]
+fn heard(prn: u8) -> bool
+    ensures { result ≡ prn_valid prn }
+{
+    1 <= prn && prn <= 36
+}
+
 // "4 ADKD not 0, 11, 12, or not the fixed one, or PRN not 1 to 36"
+#[tactic(auto, unfolding(rules::specs::Tags::not_allowed, rules::specs::Tags::flexible))]
 pub fn not_allowed(config: &[u8], j: usize, t: Tag) -> bool
     requires { (length config.now ≡ config_length) × (j < 14) }
     ensures { result ≡ not_allowed config.now j t }
 {
-    let adkd = t.adkd;
-    let prn = t.prn;
     let mark = mark_of(config, second_half(t.time), j);
-    let known = bools::either(adkd == 0, bools::either(adkd == 11, adkd == 12));
-    let other = bools::both(!(mark == 255), !(adkd == mark));
-    let heard = bools::both(1 <= prn, prn <= 36);
-    bools::either(!known, bools::either(other, !heard))
+    !known(t.adkd) || !heard(t.prn) || mark != 255 && t.adkd != mark
 }
 
 // ---- outcomes
@@ -142,9 +134,10 @@ pub fn judged(matches: bool) -> Outcome
     ensures { outcome_number result ≡ cond matches 1 2 }
 {
     if matches {
-        return Outcome::Agrees;
+        Outcome::Agrees
+    } else {
+        Outcome::Wrong
     }
-    Outcome::Wrong
 }
 
 // What becomes of a field's tag, by the first test that holds: it is not allowed, it is flexible and MACSEQ fails, there is no usable
@@ -162,21 +155,18 @@ pub fn own_outcome(
         []) }
 {
     if refused {
-        return Outcome::NotAllowed;
+        Outcome::NotAllowed
+    } else if unfit {
+        Outcome::SequenceUnfit
+    } else if unusable {
+        Outcome::NoUsableSet
+    } else if prompt {
+        judged(matches)
+    } else if free {
+        Outcome::Waits
+    } else {
+        Outcome::NoPlace
     }
-    if unfit {
-        return Outcome::SequenceUnfit;
-    }
-    if unusable {
-        return Outcome::NoUsableSet;
-    }
-    if prompt {
-        return judged(matches);
-    }
-    if free {
-        return Outcome::Waits;
-    }
-    Outcome::NoPlace
 }
 
 // The outcome's number in a record.

@@ -3,10 +3,10 @@ use mathlib.Core.Path.{refl}
 use Rattle.received.specs.Items.{item_at}
 use Rattle.received.proofs.item_at.Goals as goal
 
-pub returns-then-not-bits_came : goal.returns-then-not-bits_came
+pub returns-then-bits_came : goal.returns-then-bits_came
 unfolding item_at
-returns-then-not-bits_came c = rw (← c.bits_came.ensures, c.if-not-bits_came.true) refl
+returns-then-bits_came c = rw (← c.bits_came.ensures, c.if-bits_came.true, c.bits_at.ensures) refl
 
-pub returns : goal.returns
+pub returns-else-bits_came : goal.returns-else-bits_came
 unfolding item_at
-returns c = rw (← c.bits_came.ensures, c.if-not-bits_came.false, c.bits_at.ensures) refl
+returns-else-bits_came c = rw (← c.bits_came.ensures, c.if-bits_came.false) refl

@@ -1,13 +1,8 @@
 -- `received::received` meets its contract: after k turns the first k fields are as they came, and zeros follow.
 use mathlib.Core.Path.{◌≡◌}
-use Prim.Native.Nat.{◌-◌, ◌≤◌}
-use lib.ListN.{length}
 use Rattle.rules.specs.Received.{received}
 use Rattle.received.proofs.Fields.{followed}
 use Rattle.received.proofs.received.Given as goal
 
 abbrev pub invariant-loop-k : goal.invariant-loop-k
-invariant-loop-k l = (l.k ≤ 15) × ((length l.fields ≡ 75) × (l.fields ≡ followed (received l.marks l.f l.k) l.k))
-
-abbrev pub decreases-loop-k : goal.decreases-loop-k
-decreases-loop-k l = 15 - l.k
+invariant-loop-k l = l.fields ≡ followed (received l.marks l.f l.k) l.k

@@ -1,52 +1,43 @@
--- `section_lost::macseq_came` meets its contract: after k turns r says it of the first k fields.
-use mathlib.Core.Path.{◌≡◌, sym, ◌∙◌}
+-- `section_lost::macseq_came` meets its contract: the MAC-Info of the flexible ones of the first j fields came.
+use mathlib.Core.Path.{◌≡◌, refl, sym, ◌∙◌}
+use mathlib.Core.Bool.{true}
 use Prim.Native.Nat.{◌*◌}
 use native.Mathlib.Omega.{arith}
-use Rattle.received.proofs.Cases.{item_came, item_lost}
-use Rattle.section_lost.proofs.Lost.{none_flexible, next_flexible, macseq_lost, macseq_whole}
+use Rattle.rules.specs.Received.{bits_came}
+use Rattle.section_lost.proofs.Lost.{none_flexible, next_flexible, one_lost, macseq_lost, macseq_whole, none_came}
 use Rattle.section_lost.proofs.macseq_came.Goals as goal
+use Rattle.section_lost.proofs.macseq_came.Goals.{Else-is_none}
 
-pub macseq_item-requires : goal.macseq_item-requires
-macseq_item-requires c =
-    let p = c.requires in
-    (p.0.fit.ms_high, p.1.1)
-
-pub returns-in_default : goal.returns-in_default
-returns-in_default c =
+whole : (c : Else-is_none) → bits_came c.args.x.marks c.args.c.ms 12 ≡ true
+whole c =
     let g = c.args in
-    sym (macseq_lost g.config.now g.c g.time g.marks (item_lost g.mack.now g.marks g.c.ms 12 (sym c.in_default.is ∙ c.macseq_item.ensures)))
+    none_came g.x.mack.now g.x.marks g.c.ms 12 _ _ c.macseq_item.ensures c.is_none.ensures ∙ rw c.if-is_none.false refl
 
-pub overflow_mul-n : goal.overflow_mul-n
-overflow_mul-n c = omega (arith, c.requires.0.few)
-
-pub loop-k-init : goal.loop-k-init
-loop-k-init c =
+pub returns-then-is_none : goal.returns-then-is_none
+returns-then-is_none c =
     let g = c.args in
-    (omega arith, sym (none_flexible g.config.now g.c g.time g.marks))
+    sym
+    (macseq_lost g.config.now g.c g.x.time g.x.marks
+    (none_came g.x.mack.now g.x.marks g.c.ms 12 _ _ c.macseq_item.ensures c.is_none.ensures ∙ rw c.if-is_none.true refl))
 
-pub flexible_came-requires : goal.flexible_came-requires
-flexible_came-requires c =
-    let p = c.requires in
-    ((p.0, c.loop-k-test.true), p.1)
+pub loop-j-init : goal.loop-j-init
+loop-j-init c = let g = c.args in none_flexible g.config.now g.c g.x.time g.x.marks
 
-pub overflow_add-k : goal.overflow_add-k
-overflow_add-k c =
-    omega (arith, c.requires.0.few, c.loop-k-test.true)
+pub returns-then-not-flexible_came : goal.returns-then-not-flexible_came
+returns-then-not-flexible_came c =
+    let g = c.args in
+    sym
+    (macseq_whole g.config.now g.c g.x.time g.x.marks (whole (goal.at.returns-then-not-flexible_came c).Else-is_none)
+    ∙ one_lost g.config.now g.c g.x.time g.x.marks (g.c.nmack * g.c.fields) c.loop-j.j (omega arith) (sym c.flexible_came.ensures ∙ c.if-not-flexible_came.true))
 
-pub loop-k-smaller : goal.loop-k-smaller
-loop-k-smaller c = omega (arith, c.loop-k-test.true)
-
-pub loop-k-preserved : goal.loop-k-preserved
-loop-k-preserved c =
-    let g = c.args in (
-      omega (arith, c.loop-k-test.true),
-      c.both-r.ensures ∙ rw (c.flexible_came.ensures, c.loop-k.invariant.1) (sym (next_flexible g.config.now g.c g.time g.marks c.loop-k.k)),
-    )
+pub loop-j-preserved : goal.loop-j-preserved
+loop-j-preserved c =
+    let g = c.args in
+    next_flexible g.config.now g.c g.x.time g.x.marks c.loop-j.j
+    ∙ rw (c.loop-j.invariant, ← c.flexible_came.ensures, c.if-not-flexible_came.false) refl
 
 pub returns : goal.returns
 returns c =
     let g = c.args in
-    let h : c.loop-k.k ≡ g.c.nmack * g.c.fields = omega (arith, c.loop-k-test.false, c.loop-k.invariant.0) in
-    c.loop-k.invariant.1
-    ∙ rw h
-    (sym (macseq_whole g.config.now g.c g.time g.marks (item_came g.mack.now g.marks g.c.ms 12 _ (sym c.in-Came.is ∙ c.macseq_item.ensures))))
+    let h : c.loop-j.j ≡ g.c.nmack * g.c.fields = omega arith in
+    sym (macseq_whole g.config.now g.c g.x.time g.x.marks (whole (goal.at.returns c).Else-is_none) ∙ rw (← h) c.loop-j.invariant)

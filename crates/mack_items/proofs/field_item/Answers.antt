@@ -1,14 +1,14 @@
--- `mack_items::info_item` meets its contract: what follows the tag ends inside the section, with the field.
+-- `mack_items::field_item` meets its contract: the bits end inside the section, with the field.
 use Prim.Native.Nat.{◌+◌, ◌≤◌}
 use native.Mathlib.Omega.{arith}
 use borrow.Author.Rules.{rules}
 use Rattle.mack.proofs.Places.{field_inside}
-use Rattle.mack_items.proofs.info_item.Goals as goal
-use Rattle.mack_items.proofs.info_item.Goals.{After-field_place}
+use Rattle.mack_items.proofs.field_item.Goals as goal
+use Rattle.mack_items.proofs.field_item.Goals.{After-field_place}
 
 inside : (c : After-field_place) → c.field_place.result + (c.args.c.ms + 16) ≤ 480
 inside c =
-    rw c.field_place.ensures (field_inside c.args.c c.requires.0 c.args.j c.requires.1.0)
+    rw c.field_place.ensures (field_inside c.args.c c.requires.0.0 c.args.j c.requires.0.1.0)
 
 pub overflow_add-field_place : goal.overflow_add-field_place
 overflow_add-field_place c = omega (arith, inside (goal.at.overflow_add-field_place c).After-field_place)
