@@ -1,7 +1,7 @@
 #![tactic(auto)]
 
 // The calls that only ask (01, "Verdicts", "MACK"; 02, P5, P9), over the lent regions that they read; they write none of them. The caller has seen that every
-// length is right, and hands in numbers that are 0: where a read is refused, the lent bytes and the numbers stay.
+// length is right. Where a read is refused, the lent bytes stay.
 //   read_set        a PRN's authentic set, its IODnav and its tag's GST_SF
 //   read_message    the message that waits for a verdict, its signature, and its key with ID and type
 //   four_met        whether four satellites have an authentic set whose tag is recent
@@ -12,37 +12,42 @@ ghost use Rattle.rules.specs.Four as S;
 ghost use Rattle.rules.specs.Progress as P;
 ghost use Rattle.rules.specs.State.{State, set_lent, offer_lent, four_lent, progress_lent, clocks_length, blocks_length, dsm_ids, pubkeys_length, offer_length, sets_length, arrivals_length};
 ghost use Rattle.rules.specs.Times.{seconds_of};
-ghost use Rattle.call_reads.specs.Reads.{set_told, offer_told};
+ghost use Rattle.call_reads.specs.Reads.{set_answered, offer_answered};
 
-use rules::Progress;
+use rules::{Progress, Refusal};
+
+// What a read of a set gives beside its bytes: the set's IODnav, and the GST_SF of its tag.
+#[derive(Clone, Copy, Debug, PartialEq, Eq)]
+pub struct SetRead {
+    pub issue: u16,
+    pub time: u32,
+}
+
+// What a read of the waiting message gives beside its bytes: ID and type of the key that signed it.
+#[derive(Clone, Copy, Debug, PartialEq, Eq)]
+pub struct SignedBy {
+    pub id: u8,
+    pub kind: u8,
+}
 
 // A satellite's authentic set into 69 lent bytes.
-pub fn read_set(
-    sets: &[u8],
-    arrivals: &[u32],
-    prn: u8,
-    out: &mut [u8],
-    issue: &mut u16,
-    time: &mut u32,
-) -> u32
-    requires sets_len { ((length sets.now ≡ sets_length) × (length arrivals.now ≡ arrivals_length)) × (length out.old ≡ 69) }
-    requires issue_value { (issue.old ≡ 0) × (time.old ≡ 0) }
+pub fn read_set(sets: &[u8], arrivals: &[u32], prn: u8, out: &mut [u8]) -> Result<SetRead, Refusal>
+    requires { ((length sets.now ≡ sets_length) × (length arrivals.now ≡ arrivals_length)) × (length out.old ≡ 69) }
     ensures { (s : State) →
-        set_told result out.new issue.new time.new
-        ≡ set_read (set_lent s sets.now arrivals.now) prn out.old }
+        set_answered result out.new ≡ set_read (set_lent s sets.now arrivals.now) prn out.old }
 {
     if !regions::prn_valid(prn) {
-        return 2;
+        return Err(Refusal::OutOfRange);
     }
     let satellite = bitfields::index(prn);
     let stamp = authentic_sets::stamp_of(arrivals, satellite);
     if stamp == 0 {
-        return 16;
+        return Err(Refusal::NoSet);
     }
     authentic_sets::copy_set(sets, satellite, out);
-    *issue = navdata::set_issue(out);
-    *time = stamp - 1;
-    0
+    let issue = navdata::set_issue(out);
+    let time = stamp - 1;
+    Ok(SetRead { issue, time })
 }
 
 // What waits for a verdict: the message into 45 lent bytes, its signature into 132, its key into 67. The key ID that stands in the region counts
@@ -53,38 +58,31 @@ pub fn read_message(
     message: &mut [u8],
     signature: &mut [u8],
     pubkey: &mut [u8],
-    id: &mut u8,
-    kind: &mut u8,
-) -> u32
+) -> Result<SignedBy, Refusal>
     requires pubkeys_len { (length pubkeys.now ≡ pubkeys_length) × (length offer.now ≡ offer_length) }
     requires message_len { (length message.old ≡ 45) × ((length signature.old ≡ 132) × (length pubkey.old ≡ 67)) }
-    requires id_value { (id.old ≡ 0) × (kind.old ≡ 0) }
     ensures { (s : State) →
-        offer_told result message.new signature.new pubkey.new id.new kind.new
+        offer_answered result message.new signature.new pubkey.new
         ≡ offer_read (offer_lent s pubkeys.now offer.now) message.old signature.old pubkey.old }
 {
     if offer[0] != 1 {
-        return 14;
+        return Err(Refusal::NotWaiting);
     }
-    let which = offer[1] % 16;
-    buffer::copy_part(message, 0, offer, 2, 45);
-    buffer::copy_part(signature, 0, offer, 47, 132);
-    public_keys::key_bytes(pubkeys, which, pubkey);
-    *kind = public_keys::key_type(pubkeys, which);
-    *id = which;
-    0
+    let id = offer[1] % 16;
+    message.copy_from_slice(&offer[2..47]);
+    signature.copy_from_slice(&offer[47..179]);
+    public_keys::key_bytes(pubkeys, id, pubkey);
+    let kind = public_keys::key_type(pubkeys, id);
+    Ok(SignedBy { id, kind })
 }
 
 // Whether there is an authentic set, by the stamp of its tag's arrival, and that tag came at most `limit` sub-frames before `last`, the seconds of the last
 // one noted.
+#[tactic(auto, unfolding(rules::specs::Four::recent, rules::specs::Four::age_at))]
 fn recent(last: u64, limit: u32, arrival: u32) -> bool
     ensures { (clock : ℕ) → last ≡ seconds_of (clock - 1) → result ≡ S.recent clock limit arrival }
 {
-    if arrival == 0 {
-        false
-    } else {
-        times::subframe_at(times::seconds_of(arrival - 1), last) <= limit as u64
-    }
+    arrival != 0 && times::subframe_at(times::seconds_of(arrival - 1), last) <= u64::from(limit)
 }
 
 // "Answer as soon as the fourth is met" (02, P5): the scan over the 36 satellites ends there. Before any sub-frame is noted the answer is no.
@@ -98,19 +96,15 @@ pub fn four_met(clocks: &[u32], arrivals: &[u32], limit: u32) -> bool
     }
     let last = times::seconds_of(clock - 1);
     let mut met: u32 = 0;
-    let mut i: usize = 0;
-    loop {
-        if i == 36 {
-            break false;
-        }
+    for i in 0..36 {
         if recent(last, limit, arrivals[i]) {
             if met == 3 {
-                break true;
+                return true;
             }
-            met = met + 1;
+            met += 1;
         }
-        i = i + 1;
     }
+    false
 }
 
 // ---- progress (02, P9)
@@ -122,10 +116,7 @@ pub const UNKNOWN_TOTAL: u8 = 255;
 fn missing_of(total: u8, held: u8) -> u8
     ensures { result ≡ total - held }
 {
-    if total < held {
-        return 0;
-    }
-    total - held
+    total.saturating_sub(held)
 }
 
 // How far along the message of a DSM ID is.
@@ -134,7 +125,7 @@ fn progress_of(blocks: &[u8], present: &[u16], id: usize) -> Progress
     ensures { (s : State) → result ≡ P.progress_of (progress_lent s blocks.now present.now).store id }
 {
     let marks = present[id];
-    let held = u16::count_ones(marks) as u8;
+    let held = marks.count_ones() as u8;
     if !gather::marked(marks, 0) {
         return Progress::Unknown(held);
     }
@@ -157,10 +148,8 @@ pub fn read_progress(blocks: &[u8], present: &[u16], out: &mut [u8])
     requires { ((length blocks.now ≡ blocks_length) × (length present.now ≡ dsm_ids)) × (length out.old ≡ 32) }
     ensures { (s : State) → out.new ≡ P.pairs_of (progress_lent s blocks.now present.now).store dsm_ids }
 {
-    let mut id: usize = 0;
-    while id < 16 {
+    for id in 0..16 {
         let pair = pair_of(progress_of(blocks, present, id));
-        buffer::copy_part(out, 2 * id, &pair, 0, 2);
-        id += 1;
+        out[2 * id..2 * id + 2].copy_from_slice(&pair);
     }
 }

@@ -1,39 +1,37 @@
 -- What a start writes: regions of zeros, and the settings. Assumes nothing.
-use mathlib.Core.Path.{◌≡◌, sym, ap, ◌∙◌}
+use mathlib.Core.Path.{◌≡◌, refl, sym, ap, ◌∙◌}
 use mathlib.Core.List.{List, [], ◌∷◌, ◌++◌, append_assoc}
 use mathlib.Core.Bool.{Bool, ◌&&◌}
-use Prim.Native.Nat.{ℕ, ◌+◌, ◌-◌, ◌≤◌, ◌<◌}
-use native.Mathlib.Numerals.{add-one}
+use Prim.Native.Nat.{ℕ, zero, suc, ◌+◌, ◌-◌, ◌≤◌}
 use native.Mathlib.Omega.{arith}
-use lib.ListN.{length, get_or, take, replicate, set, length-append, length-replicate, get_or-replicate}
-use Rattle.authentic_sets.specs.Regions.{auth}
-use Rattle.gather.specs.Store.{store}
+use lib.ListN.{length, get_or, take, replicate, set, length-append}
+use lib.Seq.{take-suc, take_all}
+use Rattle.std.specs.List.{list_all}
+use Rattle.std.proofs.lemmas.List.Recursion.{and_push}
 use Rattle.laws.specs.Lists.{splice}
-use Rattle.laws.proofs.Splice.{length_splice, splice_more, splice_two, splice-append, splice_whole, splice_one, two_set}
-use Rattle.navdata.specs.Pieces.{nav}
-use Rattle.regions.specs.Tesla.{tesla}
+use Rattle.laws.proofs.Splice.{length_splice, splice_two, splice-append, splice_whole, splice_one}
 use Rattle.rules.specs.Calls.{mark_valid, marks_valid}
 use Rattle.rules.specs.PublicKeys.{key_length, with_key}
-use Rattle.rules.specs.State.{config_length, words_length, stamps_length, blocks_length, dsm_ids, pubkeys_length, numbers_length, heldkey_length, waiting_length, sets_length, arrivals_length, stopped_at}
-use Rattle.call_start_parts.specs.Blank.{settings, no_words, no_blocks, no_tags, no_sets}
-
--- a loop that clears: one more number is 0
-pub clear_more : (d : List ℕ) (n i : ℕ) → n ≤ length d → i < n → set (splice d 0 (take i (replicate n 0))) i 0 ≡ splice d 0 (take (i + 1) (replicate n 0))
-clear_more d n i h k =
-    let z : 0 + i ≡ i = omega arith in
-    let l = length-replicate {A = ℕ} n 0 in
-    ap (λ (j : ℕ). set (splice d 0 (take i (replicate n 0))) j 0) (sym z)
-    ∙ splice_more d 0 (replicate n 0) i 0 (omega arith) (omega arith) (sym (get_or-replicate n i 0 0 k))
+use Rattle.rules.specs.State.{config_length, pubkeys_length, stopped_at}
+use Rattle.call_start_parts.specs.Blank.{settings}
 
 -- a whole region is cleared
-pub cleared : (d e : List ℕ) (n : ℕ) → length d ≡ n → e ≡ splice d 0 (replicate n 0) → e ≡ replicate n 0
-cleared d e n h p = p ∙ splice_whole d (replicate n 0) (length-replicate {A = ℕ} n 0 ∙ sym h)
+pub cleared : (d e : List ℕ) (n : ℕ) → length d ≡ n → e ≡ replicate (length d) 0 → e ≡ replicate n 0
+cleared d e n h p = p ∙ ap (λ (k : ℕ). replicate k 0) h
 
 -- ---- marks
 
-pub marks_more : (m : List ℕ) (i : ℕ) (a b r : Bool) → a ≡ marks_valid m i → b ≡ mark_valid (get_or m i 0) → r ≡ (a && b) → r ≡ marks_valid m (i + 1)
+-- the first n marks, one by one
+marks_first : (m : List ℕ) (n : ℕ) → n ≤ length m → list_all mark_valid (take n m) ≡ marks_valid m n
 unfolding marks_valid
-marks_more m i a b r p q e = rw (add-one i) (e ∙ rw (p, q))
+marks_first m zero l = refl
+marks_first m (suc n) l =
+    ap (list_all mark_valid) (take-suc m n 0 (omega arith))
+    ∙ and_push (list_all mark_valid) mark_valid refl (λ _ _. refl) (take n m) (get_or m n 0)
+    ∙ ap (λ (b : Bool). b && mark_valid (get_or m n 0)) (marks_first m n (omega arith))
+
+pub marks_all : (m : List ℕ) (n : ℕ) → length m ≡ n → list_all mark_valid m ≡ marks_valid m n
+marks_all m n h = ap (list_all mark_valid) (sym (take_all n m (omega arith))) ∙ marks_first m n (omega arith)
 
 -- ---- settings
 
@@ -59,22 +57,6 @@ config-set d e f ns maclt marks root ld lm lr p q =
     ∙ splice-append d 0 (b ++ root) (0 ∷ []) (omega arith)
     ∙ splice_whole d ((b ++ root) ++ (0 ∷ [])) (length-append (b ++ root) (0 ∷ []) ∙ omega arith)
     ∙ append_assoc b root (0 ∷ [])
-
--- ---- parts of a state
-
-pub words_clear : (d e f g : List ℕ) → length d ≡ words_length → length f ≡ stamps_length → e ≡ splice d 0 (replicate words_length 0) → g ≡ splice f 0 (replicate stamps_length 0) → nav e g ≡ no_words
-words_clear d e f g ld lf p q = rw (cleared d e words_length ld p, cleared f g stamps_length lf q)
-
-pub tags_clear : (n d e f g : List ℕ) → length n ≡ numbers_length → length d ≡ heldkey_length → length f ≡ waiting_length → e ≡ splice d 0 (replicate heldkey_length 0) → g ≡ splice f 0 (replicate waiting_length 0)
-    → tesla (set (set n 0 0) 1 0) e g ≡ no_tags
-tags_clear n d e f g ln ld lf p q =
-    rw (two_set n 0 0 ln, cleared d e heldkey_length ld p, cleared f g waiting_length lf q)
-
-pub blocks_clear : (b h m t : List ℕ) → b ≡ replicate blocks_length 0 → h ≡ replicate dsm_ids 0 → m ≡ replicate dsm_ids 0 → t ≡ replicate dsm_ids 0 → store b h m t ≡ no_blocks
-blocks_clear b h m t eb eh em et = rw (eb, eh, em, et)
-
-pub sets_clear : (d e f g : List ℕ) → length d ≡ sets_length → length f ≡ arrivals_length → e ≡ splice d 0 (replicate sets_length 0) → g ≡ splice f 0 (replicate arrivals_length 0) → auth e g ≡ no_sets
-sets_clear d e f g ld lf p q = rw (cleared d e sets_length ld p, cleared f g arrivals_length lf q)
 
 -- ---- the key
 

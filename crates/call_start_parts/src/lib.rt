@@ -23,25 +23,14 @@ ghost use Rattle.call_start_parts.specs.Blank.{settings, no_words, no_blocks, no
 // ---- what refuses a start
 
 // NS, key ID, key type or a mark out of range.
+#[tactic(auto, unfolding(rules::specs::Calls::start_unfit))]
 pub fn start_unfit(ns: u8, id: u8, kind: u8, marks: &[u8]) -> bool
     requires { length marks.now ≡ 28 }
     ensures { ((maclt : ℕ) (root key : List ℕ) →
         result ≡ start_unfit (record { ns = ns; id = id; type = kind; maclt = maclt; marks = marks.now; root = root; key = key }))
         × (result ≡ false → (id < 16) × (kind < 4)) }
 {
-    if ns < 1 {
-        return true;
-    }
-    if 36 < ns {
-        return true;
-    }
-    if 15 < id {
-        return true;
-    }
-    if 3 < kind {
-        return true;
-    }
-    marks_unfit(marks)
+    !(1..=36).contains(&ns) || 15 < id || 3 < kind || marks_unfit(marks)
 }
 
 // A mark is out of range, or the first of a list is not 0.
@@ -50,37 +39,24 @@ fn marks_unfit(marks: &[u8]) -> bool
     ensures { result ≡ (not (marks_valid marks.now 28) ||
         (neb (get_or marks.now 0 0) 0 || (neb (get_or marks.now 14 0) 0 || false))) }
 {
-    if !marks_valid(marks) {
-        return true;
-    }
-    if marks[0] != 0 {
-        return true;
-    }
-    marks[14] != 0
+    !marks_valid(marks) || marks[0] != 0 || marks[14] != 0
 }
 
 // Each mark is in range.
+#[tactic(auto, unfolding(rules::specs::Calls::marks_valid))]
 fn marks_valid(marks: &[u8]) -> bool
     requires { length marks.now ≡ 28 }
     ensures { result ≡ marks_valid marks.now 28 }
 {
-    let mut ok = true;
-    let mut i: usize = 0;
-    while i < 28 {
-        ok = bools::both(ok, mark_valid(marks[i]));
-        i += 1;
-    }
-    ok
+    marks.iter().all(|&mark| mark_valid(mark))
 }
 
 // 0 to 15, an ADKD; or 255, flexible.
+#[tactic(auto, unfolding(rules::specs::Calls::mark_valid))]
 fn mark_valid(mark: u8) -> bool
     ensures { result ≡ mark_valid mark }
 {
-    if mark <= 15 {
-        return true;
-    }
-    mark == 255
+    matches!(mark, 0..=15 | 255)
 }
 
 // ---- what an accepted start writes
@@ -102,9 +78,9 @@ pub fn clear_signal(clocks: &mut [u32], words: &mut [u8], stamps: &mut [u32])
     requires { (length clocks.old ≡ clocks_length) × ((length words.old ≡ words_length) × (length stamps.old ≡ stamps_length)) }
     ensures { (clocks.new ≡ replicate clocks_length 0) × (nav words.new stamps.new ≡ no_words) }
 {
-    clear_u32(clocks, regions::CLOCKS_LENGTH);
-    buffer::fill(words, 0, regions::WORDS_LENGTH, 0);
-    clear_u32(stamps, regions::STAMPS_LENGTH);
+    clocks.fill(0);
+    words.fill(0);
+    stamps.fill(0);
 }
 
 // No DSM block is held.
@@ -113,10 +89,10 @@ pub fn clear_blocks(blocks: &mut [u8], headers: &mut [u8], present: &mut [u16], 
         × ((length present.old ≡ dsm_ids) × (length since.old ≡ dsm_ids)) }
     ensures { store blocks.new headers.new present.new since.new ≡ no_blocks }
 {
-    buffer::fill(blocks, 0, regions::BLOCKS_LENGTH, 0);
-    buffer::fill(headers, 0, regions::DSM_IDS, 0);
-    clear_u16(present, regions::DSM_IDS);
-    clear_u32(since, regions::DSM_IDS);
+    blocks.fill(0);
+    headers.fill(0);
+    present.fill(0);
+    since.fill(0);
 }
 
 // Only the given key is held; bytes past its type's length are not read.
@@ -124,18 +100,19 @@ pub fn hold_key(pubkeys: &mut [u8], id: u8, kind: u8, pubkey: &[u8])
     requires { ((length pubkeys.old ≡ pubkeys_length) × (length pubkey.now ≡ 67)) × ((id < 16) × (kind < 4)) }
     ensures { pubkeys.new ≡ with_key (replicate pubkeys_length 0) id kind (take (key_length kind) pubkey.now) }
 {
-    buffer::fill(pubkeys, 0, regions::PUBKEYS_LENGTH, 0);
+    pubkeys.fill(0);
     let n = public_keys::key_length(kind);
     public_keys::add_key(pubkeys, id, kind, &pubkey[0..n]);
 }
 
 // No message waits, and no chain was put in force.
+#[tactic(auto, unfolding(rules::specs::Kroot::no_offer))]
 pub fn clear_message(offer: &mut [u8], chain: &mut [u8])
     requires { (length offer.old ≡ offer_length) × (length chain.old ≡ chain_length) }
     ensures { (offer.new ≡ no_offer) × (chain.new ≡ replicate chain_length 0) }
 {
-    buffer::fill(offer, 0, regions::OFFER_LENGTH, 0);
-    buffer::fill(chain, 0, regions::CHAIN_LENGTH, 0);
+    offer.fill(0);
+    chain.fill(0);
 }
 
 // No TESLA key is held and no tag waits.
@@ -145,8 +122,8 @@ pub fn clear_tags(numbers: &mut [u64], heldkey: &mut [u8], waiting: &mut [u8])
 {
     numbers[0] = 0;
     numbers[1] = 0;
-    buffer::fill(heldkey, 0, regions::HELDKEY_LENGTH, 0);
-    buffer::fill(waiting, 0, regions::WAITING_LENGTH, 0);
+    heldkey.fill(0);
+    waiting.fill(0);
 }
 
 // No satellite has an authentic set or a candidate.
@@ -154,30 +131,6 @@ pub fn clear_sets(sets: &mut [u8], arrivals: &mut [u32])
     requires { (length sets.old ≡ sets_length) × (length arrivals.old ≡ arrivals_length) }
     ensures { auth sets.new arrivals.new ≡ no_sets }
 {
-    buffer::fill(sets, 0, regions::SETS_LENGTH, 0);
-    clear_u32(arrivals, regions::ARRIVALS_LENGTH);
-}
-
-// The first n numbers become 0.
-fn clear_u32(dst: &mut [u32], n: usize)
-    requires { n ≤ length dst.old }
-    ensures { dst.new ≡ splice dst.old 0 (replicate n 0) }
-{
-    let mut i: usize = 0;
-    while i < n {
-        dst[i] = 0;
-        i += 1;
-    }
-}
-
-// The first n numbers become 0.
-fn clear_u16(dst: &mut [u16], n: usize)
-    requires { n ≤ length dst.old }
-    ensures { dst.new ≡ splice dst.old 0 (replicate n 0) }
-{
-    let mut i: usize = 0;
-    while i < n {
-        dst[i] = 0;
-        i += 1;
-    }
+    sets.fill(0);
+    arrivals.fill(0);
 }

@@ -1,26 +1,30 @@
 #![tactic(auto)]
 
 // The call that lends the authentication fields of a sub-frame (01, "HKROOT", "MACK"; "Checks go 1, 2, 4, 3, 5"), past the check of lengths.
-//   take_subframe       the call: 2, 4, 3 or 5 for both halves, or the time is noted and both halves are done
+//   take_subframe       the call: both halves are refused, or the time is noted and both halves are done
 ghost use Rattle.std.specs.Prelude.{◌≡◌, true, List, ℕ, length};
 ghost use Rattle.gather.specs.Store.{Lent};
 ghost use Rattle.rules.specs.Calls.{halves_done, subframe_call};
+ghost use Rattle.mack_half.specs.Half.{records_written};
 ghost use Rattle.rules.specs.Received.{received};
+ghost use Rattle.rules.specs.Refusals.{answer_number};
 ghost use Rattle.rules.specs.State.{state, shaped, config_length, words_length, stamps_length, pubkeys_length, offer_length, chain_length};
 ghost use Rattle.rules.specs.State.{numbers_length, heldkey_length, waiting_length, sets_length, arrivals_length, area_length};
 ghost use Rattle.regions.specs.Told.{subframe_told, subframe};
 
-// What the call gives: a number for each half, and how many tag records were written.
+use hkroot_half::Half;
+use rules::Refusal;
+
+// What the call gives: what refuses each half, or how many tag records the MACK half wrote.
 #[derive(Clone, Copy)]
 pub struct Halves {
-    pub hkroot: u32,
-    pub mack: u32,
-    pub count: u32,
+    pub hkroot: Result<(), Refusal>,
+    pub mack: Result<u32, Refusal>,
 }
 
 // ---- both halves
 
-// The HKROOT half, then the MACK half; a proved emergency message gives 0 and 4. `fields` are the fields as they came.
+// The HKROOT half, then the MACK half, which a proved emergency message stops. `fields` are the fields as they came.
 fn both_halves(
     config: &mut [u8],
     words: &[u8],
@@ -51,7 +55,7 @@ fn both_halves(
         × ((length waiting.old ≡ waiting_length) × (length area.old ≡ area_length)) }
     requires fields_len { length fields.now ≡ 75 }
     ensures { (clocks lent : List ℕ) → fields.now ≡ received marks lent 15 →
-        subframe_told result.hkroot result.mack result.count
+        subframe_told (answer_number result.hkroot) (answer_number result.mack) (records_written result.mack)
         (state config.new clocks words.now stamps.now blocks.new headers.new present.new
         since.new pubkeys.new offer.new chain.now numbers.new heldkey.new
         waiting.new sets.new arrivals.new) area.new
@@ -63,17 +67,20 @@ fn both_halves(
 {
     let hk = gather::hkroot_of(fields);
     let mack = gather::mack_of(fields);
-    let a = hkroot_half::hkroot_received(
+    let half = hkroot_half::hkroot_received(
         config, blocks, headers, present, since, pubkeys, offer, time, marks, &hk,
     );
-    if a.stops {
-        return Halves {
-            hkroot: a.code,
-            mack: 4,
-            count: 0,
-        };
-    }
-    let m = mack_half::mack_half(
+    let hkroot = match half {
+        Ok(Half::Stops) => {
+            return Halves {
+                hkroot: Ok(()),
+                mack: Err(Refusal::Stopped),
+            };
+        }
+        Ok(Half::Goes) => Ok(()),
+        Err(refusal) => Err(refusal),
+    };
+    let written = mack_half::mack_half(
         config,
         words,
         stamps,
@@ -90,11 +97,11 @@ fn both_halves(
         gather::header_of(&hk),
         &mack,
     );
-    Halves {
-        hkroot: a.code,
-        mack: m.code,
-        count: m.count as u32,
-    }
+    let mack = match written {
+        Ok(count) => Ok(count as u32),
+        Err(refusal) => Err(refusal),
+    };
+    Halves { hkroot, mack }
 }
 
 // The fields of a sub-frame, 15 of five bytes, that satellite `prn` sent at `time`; `marks` say which of them came, and what is lent for the others is
@@ -127,7 +134,7 @@ pub fn take_subframe(
         chain.now numbers.old heldkey.old waiting.old sets.old arrivals.old)
         ≡ true)
         × ((length area.old ≡ area_length) × (length bytes.now ≡ 75)) }
-    ensures { subframe_told result.hkroot result.mack result.count
+    ensures { subframe_told (answer_number result.hkroot) (answer_number result.mack) (records_written result.mack)
         (state config.new clocks.new words.now stamps.now blocks.new headers.new
         present.new since.new pubkeys.new offer.new chain.now numbers.new
         heldkey.new waiting.new sets.new arrivals.new) area.new
@@ -138,25 +145,25 @@ pub fn take_subframe(
         (subframe prn time marks bytes.now) }
 {
     let fields = received::received(marks, bytes);
-    let code = subframe_checks::subframe_refusal(config, clocks, prn, time, marks, &fields);
-    if code == 5 {
-        regions::note_subframe(clocks, prn, time);
-        return Halves {
-            hkroot: 5,
-            mack: 5,
-            count: 0,
-        };
+    let checked =
+        subframe_checks::subframe_refusal(config, clocks, prn, time, marks, &fields);
+    match checked {
+        Ok(()) => {
+            regions::note_subframe(clocks, prn, time);
+            both_halves(
+                config, words, stamps, blocks, headers, present, since, pubkeys, offer, chain,
+                numbers, heldkey, waiting, sets, arrivals, area, prn, time, marks, &fields,
+            )
+        }
+        Err(refusal) => {
+            // zeros say at least when they came
+            if refusal == Refusal::AllZero {
+                regions::note_subframe(clocks, prn, time);
+            }
+            Halves {
+                hkroot: Err(refusal),
+                mack: Err(refusal),
+            }
+        }
     }
-    if code != 0 {
-        return Halves {
-            hkroot: code,
-            mack: code,
-            count: 0,
-        };
-    }
-    regions::note_subframe(clocks, prn, time);
-    both_halves(
-        config, words, stamps, blocks, headers, present, since, pubkeys, offer, chain, numbers,
-        heldkey, waiting, sets, arrivals, area, prn, time, marks, &fields,
-    )
 }

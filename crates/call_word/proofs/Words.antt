@@ -1,26 +1,29 @@
 -- The word call by its cases: refused, another type, held. Assumes nothing.
 use mathlib.Core.Path.{◌≡◌, ap, sym}
-use mathlib.Core.Bool.{true, ◌&&◌}
+use mathlib.Core.Bool.{true, false, ◌&&◌}
 use mathlib.Core.List.{List}
-use Prim.Native.Nat.{ℕ, ◌+◌, ◌≤◌, ◌<◌}
+use Prim.Native.Nat.{ℕ, ◌+◌, ◌≤◌}
 use lib.Dec.{eqb}
 use lib.ListN.{length, set}
-use borrow.Author.Tests.{lt-leb, le-leb}
-use native.Mathlib.Omega.{arith}
+use borrow.Author.Tests.{le-leb}
 use Rattle.laws.specs.Refusal.{first_refusal}
 use Rattle.laws.proofs.Refusal.{unless_refused}
+use Rattle.regions.proofs.Faults.{refusal_above_0}
 use Rattle.regions.specs.Told.{told}
 use Rattle.rules.specs.Calls.{Word, word_checks, word_taken, word_call}
 use Rattle.rules.specs.State.{State, word_shaped, word_lent, config_length, clocks_length, words_length, stamps_length}
 use Rattle.rules.specs.Navdata.{word_type, held_type, word_stored}
+use Rattle.rules.specs.Refusals.{refusal_number}
 use Rattle.rules.specs.Times.{stamp_of}
+use Rattle.rules.specs.declared.Refusal.{Refusal}
 use Rattle.rules.proofs.Lengths.{word-shaped}
 use Rattle.navdata.specs.Pieces.{nav}
 
--- a number other than 0 leaves the state as it was
-pub refused : (s : State) (w : Word) (n : ℕ) → (n ≡ 0 → ⊥) → n ≡ first_refusal (word_checks s w) → told n s ≡ word_call s w
+-- an answer that is a refusal leaves the state as it was
+pub refused : (s : State) (w : Word) (r : Refusal) → refusal_number r ≡ first_refusal (word_checks s w) → told (refusal_number r) s ≡ word_call s w
 unfolding word_call
-refused s w n h e = rw (← e) (ap (told n) (sym (unless_refused n (word_taken s w) s h)))
+refused s w r e =
+    rw (← e) (ap (told (refusal_number r)) (sym (unless_refused (refusal_number r) (word_taken s w) s (refusal_above_0 r))))
 
 -- 0 leaves what the rule makes of it
 pub accepted : (s : State) (w : Word) → 0 ≡ first_refusal (word_checks s w) → told 0 (word_taken s w) ≡ word_call s w
@@ -28,17 +31,14 @@ unfolding word_call
 accepted s w e = rw (← e)
 
 -- "others answer 0 and change nothing"
-pub type_low : (s : State) (w : Word) → word_type w.bytes < 1 → word_taken s w ≡ s
-unfolding word_taken held_type
-type_low s w h = rw (lt-leb 1 (word_type w.bytes) h)
+pub not-held : (s : State) (w : Word) → held_type (word_type w.bytes) ≡ false → word_taken s w ≡ s
+unfolding word_taken
+not-held s w h = rw h
 
-pub type_high : (s : State) (w : Word) → 5 < word_type w.bytes → word_taken s w ≡ s
-unfolding word_taken held_type
-type_high s w h = rw (le-leb 1 (word_type w.bytes) (omega arith), lt-leb (word_type w.bytes) 5 h)
-
-pub type_held : (k : ℕ) → 1 ≤ k → k ≤ 5 → held_type k ≡ true
+-- types 1 to 5 are held
+pub type_held : (k : ℕ) → (1 ≤ k) × (k ≤ 5) → held_type k ≡ true
 unfolding held_type
-type_held k h g = rw (le-leb 1 k h, le-leb k 5 g)
+type_held k h = rw (le-leb 1 k h.0, le-leb k 5 h.1)
 
 -- a word of type 1 to 5, whose satellite's clock, words and stamps are these
 pub held : (s : State) (config clocks words stamps clocks' words' stamps' : List ℕ) (w : Word) → held_type (word_type w.bytes) ≡ true

@@ -41,6 +41,7 @@ pub fn take_word(
 }
 
 // What refuses a word.
+#[tactic(auto, unfolding(rules::specs::Calls::word_checks))]
 fn word_refusal(
     config: &[u8],
     clocks: &[u32],
@@ -67,6 +68,7 @@ fn word_refusal(
 }
 
 // PRN or time out of range, or a word 4 whose SVID is not the PRN.
+#[tactic(auto, using(regions::proofs::Faults::time_small), unfolding(rules::specs::Calls::word_unfit))]
 fn word_unfit(prn: u8, time: u32, bytes: &[u8]) -> bool
     requires { length bytes.now ≡ 16 }
     ensures { (result ≡ word_unfit (record { prn = prn; time = time; bytes = bytes.now }))

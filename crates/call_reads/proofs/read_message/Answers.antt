@@ -1,8 +1,6 @@
 -- `call_reads::read_message` meets its contract: each part of the region goes to the bytes lent for it.
-use mathlib.Core.Path.{sym, ◌∙◌}
-use native.Mathlib.Omega.{arith}
+use mathlib.Core.Path.{◌≡◌}
 use Rattle.laws.specs.Lists.{part}
-use Rattle.laws.proofs.Splice.{length_part, splice_whole}
 use Rattle.rules.specs.Kroot.{offer_id, offer_message, offer_signature}
 use Rattle.call_reads.proofs.Answers.{offer_missing, offer_found}
 use Rattle.call_reads.proofs.read_message.Goals as goal
@@ -11,26 +9,23 @@ pub returns-then-offer-ne1 : goal.returns-then-offer-ne1
 returns-then-offer-ne1 c =
     let g = c.args in
     λ s.
-    rw (c.requires.id_value.0, c.requires.id_value.1)
-    (offer_missing s g.pubkeys.now g.offer.now g.message.now g.signature.now g.pubkey.now (c.requires.pubkeys_len, c.requires.message_len) c.if-offer-ne1.true)
+    offer_missing s g.pubkeys.now g.offer.now g.message.now g.signature.now g.pubkey.now (c.requires.pubkeys_len, c.requires.message_len) c.if-offer-ne1.true
 
 -- the lent bytes are those of the region
 pub returns : goal.returns
-unfolding offer_id offer_message offer_signature
+unfolding offer_id offer_message offer_signature part
 returns c =
     let g = c.args in
-    let m = part g.offer.now 2 45 in
-    let n = part g.offer.now 47 132 in
-    let lm = length_part g.offer.now 2 45 (omega arith) in
-    let ln = length_part g.offer.now 47 132 (omega arith) in
+    let m : c.copy_from_slice.new.self ≡ part g.offer.now 2 45 = c.copy_from_slice.ensures.after in
+    let n : c.copy_from_slice-2.new.self ≡ part g.offer.now 47 132 = c.copy_from_slice-2.ensures.after in
     λ s.
     offer_found s g.pubkeys.now g.offer.now g.message.now g.signature.now g.pubkey.now (c.requires.pubkeys_len, c.requires.message_len)
     c.if-offer-ne1.false
-    c.copy_part.new.dst
-    c.copy_part-2.new.dst
+    c.copy_from_slice.new.self
+    c.copy_from_slice-2.new.self
     c.key_bytes.new.out
-    c.key_type.result
-    (c.copy_part.ensures ∙ splice_whole g.message.now m (lm ∙ sym c.requires.message_len.0))
-    (c.copy_part-2.ensures ∙ splice_whole g.signature.now n (ln ∙ sym c.requires.message_len.1.0))
+    c.key_type-kind.result
+    m
+    n
     c.key_bytes.ensures
-    c.key_type.ensures
+    c.key_type-kind.ensures

@@ -1,9 +1,13 @@
--- `call_start_parts::clear_tags` meets its contract. Assumes nothing.
-use Rattle.call_start_parts.proofs.Cleared.{tags_clear}
+-- `call_start_parts::clear_tags` meets its contract: the regions are zeros.
+use mathlib.Core.Path.{◌≡◌}
+use lib.ListN.{replicate}
+use Rattle.laws.proofs.Splice.{two_set}
+use Rattle.rules.specs.State.{heldkey_length, waiting_length}
+use Rattle.call_start_parts.proofs.Cleared.{cleared}
 use Rattle.call_start_parts.proofs.clear_tags.Goals as goal
 
 pub returns : goal.returns
 returns c =
-    let k = c.fill in
-    let w = c.fill-2 in
-    tags_clear c.args.numbers.now c.args.heldkey.now k.new.dst c.args.waiting.now w.new.dst c.requires.0 c.requires.1.0 c.requires.1.1 k.ensures w.ensures
+    let k : c.fill.new.self ≡ replicate heldkey_length 0 = cleared _ _ heldkey_length c.requires.1.0 (c.fill.ensures.after (λ _ e. e)) in
+    let w : c.fill-2.new.self ≡ replicate waiting_length 0 = cleared _ _ waiting_length c.requires.1.1 (c.fill-2.ensures.after (λ _ e. e)) in
+    rw (two_set c.args.numbers.now 0 0 c.requires.0, k, w)

@@ -1,20 +1,15 @@
 -- `call_word::take_word` meets its contract: refused, another type, or held.
 use mathlib.Core.Path.{◌≡◌, refl, ap, sym, ◌∙◌}
-use Prim.Native.Nat.{◌≤◌, ◌<◌}
-use borrow.Author.Rules.{rules}
-use native.Mathlib.Omega.{arith}
+use mathlib.Core.Bool.{true, false}
+use Rattle.std.proofs.Common.{rules}
 use Rattle.regions.specs.Told.{told}
-use Rattle.laws.specs.Refusal.{first_refusal}
-use Rattle.rules.specs.Calls.{Word, word_checks}
+use Rattle.rules.specs.Calls.{Word}
+use Rattle.rules.specs.Navdata.{held_type}
 use Rattle.rules.specs.State.{State, word_lent}
 use Rattle.rules.specs.Times.{stamp_of}
-use Rattle.call_word.proofs.Words.{refused, accepted, type_low, type_high, type_held, held, fits}
+use Rattle.call_word.proofs.Words.{refused, accepted, not-held, held, fits}
 use Rattle.call_word.proofs.take_word.Goals as goal
-use Rattle.call_word.proofs.take_word.Goals.{After-word_refusal-code, Else-code-ne0, Start}
-
--- a word that is not refused has its PRN and time in range
-in-range : (c : Else-code-ne0) → ((1 ≤ c.args.prn) × (c.args.prn ≤ 36)) × (c.args.time < 4294967295)
-in-range c = c.word_refusal-code.ensures.1 c.if-code-ne0.false
+use Rattle.call_word.proofs.take_word.Goals.{Start}
 
 -- the state with the lent regions, and the word
 abbrev lent : Start → State → State
@@ -23,45 +18,31 @@ lent c s = word_lent s c.args.config.now c.args.clocks.now c.args.words.now c.ar
 abbrev word : Start → Word
 word c = record { prn = c.args.prn; time = c.args.time; bytes = c.args.bytes.now }
 
--- the number is that of the rule's checks
-number_is : (c : After-word_refusal-code) (s : State) → c.word_refusal-code.result ≡ first_refusal (word_checks (word_lent s c.args.config.now c.args.clocks.now c.args.words.now c.args.stamps.now) (record { prn = c.args.prn; time = c.args.time; bytes = c.args.bytes.now }))
-number_is c s =
-    c.word_refusal-code.ensures.0 (word_lent s c.args.config.now c.args.clocks.now c.args.words.now c.args.stamps.now) refl refl (fits s c.args.config.now c.args.clocks.now c.args.words.now c.args.stamps.now c.args.bytes.now c.requires)
-
-pub returns-then-code-ne0 : goal.returns-then-code-ne0
-returns-then-code-ne0 c = λ s. refused (lent (goal.at.returns-then-code-ne0 c).Start s) (word (goal.at.returns-then-code-ne0 c).Start) _ c.if-code-ne0.true (number_is (goal.at.returns-then-code-ne0 c).After-word_refusal-code s)
-
-pub returns-then-kind-lt1 : goal.returns-then-kind-lt1
-returns-then-kind-lt1 c =
+pub returns-in_err-word_refusal : goal.returns-in_err-word_refusal
+returns-in_err-word_refusal c =
+    let e : c.from_residual.result ≡ c.word_refusal.result = search rules in
     λ s.
-    ap (told 0) (sym (type_low (lent (goal.at.returns-then-kind-lt1 c).Start s) (word (goal.at.returns-then-kind-lt1 c).Start) (rw (← c.word_type-kind.ensures) c.if-kind-lt1.true)))
-    ∙ accepted (lent (goal.at.returns-then-kind-lt1 c).Start s) (word (goal.at.returns-then-kind-lt1 c).Start) (sym c.if-code-ne0.false ∙ number_is (goal.at.returns-then-kind-lt1 c).After-word_refusal-code s)
+    rw (e, c.in_err-word_refusal.was)
+    (refused (lent (goal.at.returns-in_err-word_refusal c).Start s) (word (goal.at.returns-in_err-word_refusal c).Start) _ (c.in_err-word_refusal.ensures.0 _ refl refl (fits s _ _ _ _ _ c.requires)))
 
-pub returns-then-kind-gt5 : goal.returns-then-kind-gt5
-returns-then-kind-gt5 c =
-    λ s.
-    ap (told 0) (sym (type_high (lent (goal.at.returns-then-kind-gt5 c).Start s) (word (goal.at.returns-then-kind-gt5 c).Start) (rw (← c.word_type-kind.ensures) c.if-kind-gt5.true)))
-    ∙ accepted (lent (goal.at.returns-then-kind-gt5 c).Start s) (word (goal.at.returns-then-kind-gt5 c).Start) (sym c.if-code-ne0.false ∙ number_is (goal.at.returns-then-kind-gt5 c).After-word_refusal-code s)
-
-pub note_word-requires : goal.note_word-requires
-note_word-requires c = let k = in-range (goal.at.note_word-requires c).Else-code-ne0 in search (rules, k.0.1, k.1)
-
-pub overflow_add-time : goal.overflow_add-time
-overflow_add-time c = let k = in-range (goal.at.overflow_add-time c).Else-code-ne0 in omega (arith, k.1)
-
-pub store_word-requires : goal.store_word-requires
-store_word-requires c =
-    let k = in-range (goal.at.store_word-requires c).Else-code-ne0 in
-    rw c.index.ensures.0 (search (rules, k.0.0, k.0.1))
-
-pub returns : goal.returns
-unfolding stamp_of
-returns c =
+pub returns-then-held : goal.returns-then-held
+unfolding stamp_of held_type
+returns-then-held c =
+    let h : held_type c.word_type-kind.result ≡ true = search rules in
     let k = c.word_type-kind.ensures in
     λ s.
     ap (told 0)
-    (held s c.args.config.now c.args.clocks.now c.args.words.now c.args.stamps.now _ _ _ (word (goal.at.returns c).Start)
-    (rw (← k) (type_held _ c.if-kind-lt1.false c.if-kind-gt5.false))
+    (held s c.args.config.now c.args.clocks.now c.args.words.now c.args.stamps.now _ _ _ (word (goal.at.returns-then-held c).Start)
+    (rw (← k) h)
     c.note_word.ensures
     (rw (← k) (rw c.index.ensures.0 at c.store_word.ensures)))
-    ∙ accepted (lent (goal.at.returns c).Start s) (word (goal.at.returns c).Start) (sym c.if-code-ne0.false ∙ number_is (goal.at.returns c).After-word_refusal-code s)
+    ∙ accepted (lent (goal.at.returns-then-held c).Start s) (word (goal.at.returns-then-held c).Start) (c.in_ok-word_refusal.ensures.0 _ refl refl (fits s _ _ _ _ _ c.requires))
+
+pub returns-else-held : goal.returns-else-held
+unfolding held_type
+returns-else-held c =
+    let h : held_type c.word_type-kind.result ≡ false = search rules in
+    let k = c.word_type-kind.ensures in
+    λ s.
+    ap (told 0) (sym (not-held (lent (goal.at.returns-else-held c).Start s) (word (goal.at.returns-else-held c).Start) (rw (← k) h)))
+    ∙ accepted (lent (goal.at.returns-else-held c).Start s) (word (goal.at.returns-else-held c).Start) (c.in_ok-word_refusal.ensures.0 _ refl refl (fits s _ _ _ _ _ c.requires))

@@ -1,2 +1,0 @@
--- Laws of the checks.
-mod Checks
