@@ -93,7 +93,7 @@ fn came_before(stamps: &[u32], prn: usize, t: u32, kind: usize) -> bool
     1 <= stamp && stamp <= t
 }
 
-// A satellite's set can be used for a section of sub-frame t.
+// A satellite's set can be used for a section of sub-frame t. The words are asked one by one, as in the definition: a loop would be no shorter.
 #[tactic(auto, unfolding(rules::specs::Navdata::usable, rules::specs::Navdata::set_usable))]
 pub fn usable(words: &[u8], stamps: &[u32], prn: usize, t: u32) -> bool
     requires { ((length words.now ≡ words_length) × (length stamps.now ≡ stamps_length)) × ((1 ≤ prn) × (prn ≤ 36)) }
