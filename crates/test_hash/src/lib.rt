@@ -30,7 +30,7 @@ ghost use Rattle.test_hash.specs.Calls.{
 // 2 ^ 61 bytes: SHA-256 takes messages of fewer.
 const LIMIT: usize = 2305843009213693952;
 
-// The answers.
+// The answers, numbers as C gets them.
 const WRITTEN: u32 = 0;
 
 const REFUSED: u32 = 1;
