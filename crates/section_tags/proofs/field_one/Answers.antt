@@ -1,11 +1,9 @@
 -- `section_tags::field_one` meets its contract: a lost field has its record alone, any other is judged.
 use mathlib.Core.Path.{refl, sym, ◌∙◌}
-use native.Mathlib.Omega.{arith}
 use Rattle.navdata.specs.Pieces.{nav}
 use Rattle.tags.specs.Layout.{section_of}
 use Rattle.tag_records.specs.Told.{start}
 use Rattle.section_tags.proofs.Fields.{lost_judged, own_judged_lem}
-use borrow.Author.Rules.{rules}
 use Rattle.section_tags.proofs.field_one.Goals as goal
 
 pub returns-then-field_lost : goal.returns-then-field_lost

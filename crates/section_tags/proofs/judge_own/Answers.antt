@@ -1,5 +1,5 @@
 -- `section_tags::judge_own` meets its contract: after j turns the regions hold the work of the first j fields.
-use mathlib.Core.Path.{◌≡◌, sym, ap, ◌∙◌}
+use mathlib.Core.Path.{◌≡◌, ap, ◌∙◌}
 use Prim.Native.Nat.{ℕ, ◌*◌, ◌/◌}
 use native.Mathlib.Omega.{arith}
 use lib.ListN.{take}
@@ -22,22 +22,6 @@ loop-j-init c =
             g.waiting.now g.sets.now g.arrivals.now g.area.now g.marks g.count g.at c.requires.walks.1.1.0,
       ),
     )
-
-pub next_key-requires : goal.next_key-requires
-next_key-requires c =
-    record {
-      walks = ((c.requires.walks.0.0, (c.requires.walks.1.0.0, (c.requires.walks.0.1.0.fields_low, omega (arith, c.requires.walks.0.1.0.few, c.loop-j-test.true)))), c.requires.walks.1.0.1);
-      kept_value = c.loop-j.invariant.1.0;
-    }
-
-pub field_one-kept-requires : goal.field_one-kept-requires
-field_one-kept-requires c =
-    let v = c.loop-j.invariant in
-    record {
-      config_len = c.requires.config_len;
-      sets_len = ((v.0.1.0, v.0.1.1.0), (v.0.0, v.0.1.1.1));
-      laid = ((c.requires.walks.0.1, c.loop-j-test.true), (v.1.1.1.places, omega (arith, c.requires.walks.1.1.1, c.loop-j-test.true)));
-    }
 
 pub loop-j-preserved : goal.loop-j-preserved
 loop-j-preserved c =

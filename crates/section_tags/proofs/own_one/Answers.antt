@@ -1,26 +1,11 @@
 -- `section_tags::own_one` meets its contract: the tag is the field's, and it is judged by the words and the set of its satellite.
-use mathlib.Core.Path.{◌≡◌, ap, ◌∙◌}
-use native.Mathlib.Omega.{arith}
-use lib.ListN.{length}
 use Rattle.rules.specs.Outcomes.{outcome_number}
 use Rattle.navdata.specs.Pieces.{nav}
 use Rattle.tags.specs.Layout.{section_of}
 use Rattle.tag_records.specs.Told.{start}
 use Rattle.section_outcomes.proofs.Keys.{tag_block, tag_key_lem}
 use Rattle.section_tags.proofs.Fields.{one_judged}
-use Rattle.rules.proofs.Parts.{length-set_of}
 use Rattle.section_tags.proofs.own_one.Goals as goal
-use Rattle.section_tags.proofs.own_one.Goals.{After-set_of-set}
-
-set_long : (c : After-set_of-set) → length c.set_of-set.result ≡ 69
-set_long c = ap length c.set_of-set.ensures ∙ length-set_of c.args.words.now c.heard-p.result
-
-pub outcome_of-outcome-requires : goal.outcome_of-outcome-requires
-outcome_of-outcome-requires c =
-    record {
-      config_len = (c.requires.config_len.0, (c.requires.config_len.1.0, set_long (goal.at.outcome_of-outcome-requires c).After-set_of-set));
-      ms_bound = ((c.requires.laid.0.0.fit.ms_high, omega (arith, c.requires.laid.0.0.few, c.requires.laid.0.1)), c.heard-p.ensures.0);
-    }
 
 pub returns : goal.returns
 returns c h k f =

@@ -1,9 +1,7 @@
 -- `section_tags::settle` meets its contract: a tag that waits takes the next place.
 use mathlib.Core.Path.{ap}
-use native.Mathlib.Omega.{arith}
 use Rattle.rules.specs.Outcomes.{outcome_number}
 use Rattle.section_tags.proofs.Fields.{other_number, told_leaves, waits_leaves}
-use borrow.Author.Rules.{rules}
 use Rattle.section_tags.proofs.settle.Goals as goal
 
 pub returns-in-Waits : goal.returns-in-Waits
