@@ -1,17 +1,12 @@
 -- The contract of each exported call IS the rule: what a caller learns (`Learnt`, which the checker makes of the `ensures`) is the equation with the
--- definition, in both directions, and a call asks nothing (`Asked`). A weaker `ensures` of the boundary makes this crate fail.
+-- definition (`..Learnt` of specs/Run.antt), in both directions, and a call asks nothing (`Asked`). A weaker `ensures` of the boundary makes this crate fail.
 -- `args` are the parameters at entry, `last` those at exit. A call that is lent some of the regions has the equation for every state that has them.
 -- Assumes nothing.
-use mathlib.Core.Path.{◌≡◌}
-use Prim.Native.Nat.{ℕ}
+use mathlib.Core.List.{[]}
+use Prim.Native.Nat.{ℕ, zero, suc}
 use contract.Lifetimes.{Lfts}
 use borrow.Fn.Kinds.{Dens, ended_of}
 use denote.Triple.Clauses.{AtExit}
-use Rattle.regions.specs.Told.{told}
-use Rattle.regions.specs.Told.{subframe_told, subframe}
-use Rattle.call_reads.specs.Reads.{set_told, offer_told, four_told, progress_told}
-use Rattle.rules.specs.Calls.{start_call, word_call, subframe_call, verdict_call, set_read, offer_read, four_read, progress_read}
-use Rattle.rules.specs.State.{State, state, set_lent, offer_lent, four_lent, progress_lent}
 use Rattle.osnma.proofs.osnma_regions_start.Reads as start-reads
 use Rattle.osnma.proofs.osnma_regions_start.Kinds as start-kinds
 use Rattle.osnma.proofs.osnma_regions_word.Reads as word-reads
@@ -28,7 +23,8 @@ use Rattle.osnma.proofs.osnma_regions_four.Reads as four-reads
 use Rattle.osnma.proofs.osnma_regions_four.Kinds as four-kinds
 use Rattle.osnma.proofs.osnma_regions_progress.Reads as progress-reads
 use Rattle.osnma.proofs.osnma_regions_progress.Kinds as progress-kinds
-use Rattle.assurance.specs.Run.{word_before, word_given, word_after, verdict_before, verdict_given, verdict_after}
+use Rattle.assurance.specs.Run.{StartArgs, WordArgs, SubframeArgs, VerdictArgs, ReadSetArgs, ReadOfferArgs, FourArgs, ProgressArgs, StartLearnt, WordLearnt, SubframeLearnt, VerdictLearnt, ReadSetLearnt, ReadOfferLearnt, FourLearnt, ProgressLearnt, Clauses, written}
+use Rattle.assurance.proofs.Contracts.{contracts}
 
 -- ---- start: its number, and all sixteen regions at exit
 
@@ -36,9 +32,7 @@ pub start_asks_nothing : (κs : Lfts 19) (args : Dens κs start-kinds.ps) → st
 start_asks_nothing κs args = tt
 
 abbrev start_rule : (κs : Lfts 19) (args : Dens κs start-kinds.ps) (r : ℕ) (last : AtExit (ended_of 19 start-kinds.ps start-kinds.r) κs) → Type 0
-start_rule κs (config, (clocks, (words, (stamps, (blocks, (headers, (present, (since, (pubkeys, (offer, (chain, (numbers, (heldkey, (waiting, (sets, (arrivals, (ns, (id, (kind, (maclt, (marks, (root, (pubkey, _))))))))))))))))))))))) r (config', (clocks', (words', (stamps', (blocks', (headers', (present', (since', (pubkeys', (offer', (chain', (numbers', (heldkey', (waiting', (sets', (arrivals', (_, (_, (_, (_, (_, (_, (_, _))))))))))))))))))))))) =
-    told r (state config'.now clocks'.now words'.now stamps'.now blocks'.now headers'.now present'.now since'.now pubkeys'.now offer'.now chain'.now numbers'.now heldkey'.now waiting'.now sets'.now arrivals'.now)
-    ≡ start_call (state config.now clocks.now words.now stamps.now blocks.now headers.now present.now since.now pubkeys.now offer.now chain.now numbers.now heldkey.now waiting.now sets.now arrivals.now) (record { ns = ns; id = id; type = kind; maclt = maclt; marks = marks.now; root = root.now; key = pubkey.now })
+start_rule κs = StartLearnt
 
 pub start_is : (κs : Lfts 19) (args : Dens κs start-kinds.ps) (r : ℕ) (last : AtExit (ended_of 19 start-kinds.ps start-kinds.r) κs) → start-reads.Learnt κs args r last → start_rule κs args r last
 start_is κs args r last d = d
@@ -52,7 +46,7 @@ pub word_asks_nothing : (κs : Lfts 5) (args : Dens κs word-kinds.ps) → word-
 word_asks_nothing κs args = tt
 
 abbrev word_rule : (κs : Lfts 5) (args : Dens κs word-kinds.ps) (r : ℕ) (last : AtExit (ended_of 5 word-kinds.ps word-kinds.r) κs) → Type 0
-word_rule κs args r last = (s : State) → told r (word_after args last s) ≡ word_call (word_before args s) (word_given args)
+word_rule κs = WordLearnt
 
 pub word_is : (κs : Lfts 5) (args : Dens κs word-kinds.ps) (r : ℕ) (last : AtExit (ended_of 5 word-kinds.ps word-kinds.r) κs) → word-reads.Learnt κs args r last → word_rule κs args r last
 word_is κs args r last d = d
@@ -66,9 +60,7 @@ pub subframe_asks_nothing : (κs : Lfts 20) (args : Dens κs subframe-kinds.ps) 
 subframe_asks_nothing κs args = tt
 
 abbrev subframe_rule : (κs : Lfts 20) (args : Dens κs subframe-kinds.ps) (r : ℕ) (last : AtExit (ended_of 20 subframe-kinds.ps subframe-kinds.r) κs) → Type 0
-subframe_rule κs (config, (clocks, (words, (stamps, (blocks, (headers, (present, (since, (pubkeys, (offer, (chain, (numbers, (heldkey, (waiting, (sets, (arrivals, (area, (prn, (time, (marks, (bytes, (_, (_, _))))))))))))))))))))))) r (config', (clocks', (_, (_, (blocks', (headers', (present', (since', (pubkeys', (offer', (_, (numbers', (heldkey', (waiting', (sets', (arrivals', (area', (_, (_, (_, (_, (hkroot', (mack', _))))))))))))))))))))))) =
-    subframe_told hkroot'.now mack'.now r (state config'.now clocks'.now words.now stamps.now blocks'.now headers'.now present'.now since'.now pubkeys'.now offer'.now chain.now numbers'.now heldkey'.now waiting'.now sets'.now arrivals'.now) area'.now
-    ≡ subframe_call (state config.now clocks.now words.now stamps.now blocks.now headers.now present.now since.now pubkeys.now offer.now chain.now numbers.now heldkey.now waiting.now sets.now arrivals.now) area.now (subframe prn time marks bytes.now)
+subframe_rule κs = SubframeLearnt
 
 pub subframe_is : (κs : Lfts 20) (args : Dens κs subframe-kinds.ps) (r : ℕ) (last : AtExit (ended_of 20 subframe-kinds.ps subframe-kinds.r) κs) → subframe-reads.Learnt κs args r last → subframe_rule κs args r last
 subframe_is κs args r last d = d
@@ -82,7 +74,7 @@ pub verdict_asks_nothing : (κs : Lfts 10) (args : Dens κs verdict-kinds.ps) �
 verdict_asks_nothing κs args = tt
 
 abbrev verdict_rule : (κs : Lfts 10) (args : Dens κs verdict-kinds.ps) (r : ℕ) (last : AtExit (ended_of 10 verdict-kinds.ps verdict-kinds.r) κs) → Type 0
-verdict_rule κs args r last = (s : State) → told r (verdict_after args last s) ≡ verdict_call (verdict_before args s) (verdict_given args)
+verdict_rule κs = VerdictLearnt
 
 pub verdict_is : (κs : Lfts 10) (args : Dens κs verdict-kinds.ps) (r : ℕ) (last : AtExit (ended_of 10 verdict-kinds.ps verdict-kinds.r) κs) → verdict-reads.Learnt κs args r last → verdict_rule κs args r last
 verdict_is κs args r last d = d
@@ -96,7 +88,7 @@ pub read_set_asks_nothing : (κs : Lfts 5) (args : Dens κs read-set-kinds.ps) �
 read_set_asks_nothing κs args = tt
 
 abbrev read_set_rule : (κs : Lfts 5) (args : Dens κs read-set-kinds.ps) (r : ℕ) (last : AtExit (ended_of 5 read-set-kinds.ps read-set-kinds.r) κs) → Type 0
-read_set_rule κs (sets, (arrivals, (prn, (out, _)))) r (_, (_, (_, (out', (issue', (time', _)))))) = (s : State) → set_told r out'.now issue'.now time'.now ≡ set_read (set_lent s sets.now arrivals.now) prn out.now
+read_set_rule κs = ReadSetLearnt
 
 pub read_set_is : (κs : Lfts 5) (args : Dens κs read-set-kinds.ps) (r : ℕ) (last : AtExit (ended_of 5 read-set-kinds.ps read-set-kinds.r) κs) → read-set-reads.Learnt κs args r last → read_set_rule κs args r last
 read_set_is κs args r last d = d
@@ -110,7 +102,7 @@ pub read_message_asks_nothing : (κs : Lfts 7) (args : Dens κs read-message-kin
 read_message_asks_nothing κs args = tt
 
 abbrev read_message_rule : (κs : Lfts 7) (args : Dens κs read-message-kinds.ps) (r : ℕ) (last : AtExit (ended_of 7 read-message-kinds.ps read-message-kinds.r) κs) → Type 0
-read_message_rule κs (pubkeys, (offer, (message, (signature, (key, _))))) r (_, (_, (message', (signature', (key', (id', (kind', _))))))) = (s : State) → offer_told r message'.now signature'.now key'.now id'.now kind'.now ≡ offer_read (offer_lent s pubkeys.now offer.now) message.now signature.now key.now
+read_message_rule κs = ReadOfferLearnt
 
 pub read_message_is : (κs : Lfts 7) (args : Dens κs read-message-kinds.ps) (r : ℕ) (last : AtExit (ended_of 7 read-message-kinds.ps read-message-kinds.r) κs) → read-message-reads.Learnt κs args r last → read_message_rule κs args r last
 read_message_is κs args r last d = d
@@ -124,7 +116,7 @@ pub four_asks_nothing : (κs : Lfts 3) (args : Dens κs four-kinds.ps) → four-
 four_asks_nothing κs args = tt
 
 abbrev four_rule : (κs : Lfts 3) (args : Dens κs four-kinds.ps) (r : ℕ) (last : AtExit (ended_of 3 four-kinds.ps four-kinds.r) κs) → Type 0
-four_rule κs (clocks, (arrivals, (limit, _))) r (_, (_, (_, (yes', _)))) = (s : State) → four_told r yes'.now ≡ four_read (four_lent s clocks.now arrivals.now) limit
+four_rule κs = FourLearnt
 
 pub four_is : (κs : Lfts 3) (args : Dens κs four-kinds.ps) (r : ℕ) (last : AtExit (ended_of 3 four-kinds.ps four-kinds.r) κs) → four-reads.Learnt κs args r last → four_rule κs args r last
 four_is κs args r last d = d
@@ -138,10 +130,54 @@ pub progress_asks_nothing : (κs : Lfts 3) (args : Dens κs progress-kinds.ps) �
 progress_asks_nothing κs args = tt
 
 abbrev progress_rule : (κs : Lfts 3) (args : Dens κs progress-kinds.ps) (r : ℕ) (last : AtExit (ended_of 3 progress-kinds.ps progress-kinds.r) κs) → Type 0
-progress_rule κs (blocks, (present, (out, _))) r (_, (_, (out', _))) = (s : State) → progress_told r out'.now ≡ progress_read (progress_lent s blocks.now present.now) out.now
+progress_rule κs = ProgressLearnt
 
 pub progress_is : (κs : Lfts 3) (args : Dens κs progress-kinds.ps) (r : ℕ) (last : AtExit (ended_of 3 progress-kinds.ps progress-kinds.r) κs) → progress-reads.Learnt κs args r last → progress_rule κs args r last
 progress_is κs args r last d = d
 
 pub progress_only : (κs : Lfts 3) (args : Dens κs progress-kinds.ps) (r : ℕ) (last : AtExit (ended_of 3 progress-kinds.ps progress-kinds.r) κs) → progress_rule κs args r last → progress-reads.Learnt κs args r last
 progress_only κs args r last d = d
+
+-- ---- all eight
+
+-- the contracts of k say at least what those of l say
+pub record Says (k l : Clauses) : Type 0 where
+  pub start : (args : StartArgs) (r : ℕ) (last : StartArgs) → k.start args r last → l.start args r last
+  pub word : (args : WordArgs) (r : ℕ) (last : WordArgs) → k.word args r last → l.word args r last
+  pub subframe : (args : SubframeArgs) (r : ℕ) (last : SubframeArgs) → k.subframe args r last → l.subframe args r last
+  pub verdict : (args : VerdictArgs) (r : ℕ) (last : VerdictArgs) → k.verdict args r last → l.verdict args r last
+  pub read_set : (args : ReadSetArgs) (r : ℕ) (last : ReadSetArgs) → k.read_set args r last → l.read_set args r last
+  pub read_offer : (args : ReadOfferArgs) (r : ℕ) (last : ReadOfferArgs) → k.read_offer args r last → l.read_offer args r last
+  pub four : (args : FourArgs) (r : ℕ) (last : FourArgs) → k.four args r last → l.four args r last
+  pub progress : (args : ProgressArgs) (r : ℕ) (last : ProgressArgs) → k.progress args r last → l.progress args r last
+
+-- lifetimes: none is named
+none : (n : ℕ) → Lfts n
+none zero = tt
+none (suc n) = ([], none n)
+
+pub contracts_say : Says contracts written
+contracts_say =
+    record {
+      start = λ args r last d. start_is d.0 args r last d.1;
+      word = λ args r last d. word_is d.0 args r last d.1;
+      subframe = λ args r last d. subframe_is d.0 args r last d.1;
+      verdict = λ args r last d. verdict_is d.0 args r last d.1;
+      read_set = λ args r last d. read_set_is d.0 args r last d.1;
+      read_offer = λ args r last d. read_message_is d.0 args r last d.1;
+      four = λ args r last d. four_is d.0 args r last d.1;
+      progress = λ args r last d. progress_is d.0 args r last d.1;
+    }
+
+pub written_says : Says written contracts
+written_says =
+    record {
+      start = λ args r last d. (none 19, start_only (none 19) args r last d);
+      word = λ args r last d. (none 5, word_only (none 5) args r last d);
+      subframe = λ args r last d. (none 20, subframe_only (none 20) args r last d);
+      verdict = λ args r last d. (none 10, verdict_only (none 10) args r last d);
+      read_set = λ args r last d. (none 5, read_set_only (none 5) args r last d);
+      read_offer = λ args r last d. (none 7, read_message_only (none 7) args r last d);
+      four = λ args r last d. (none 3, four_only (none 3) args r last d);
+      progress = λ args r last d. (none 3, progress_only (none 3) args r last d);
+    }

@@ -1,6 +1,6 @@
 -- Runs of exported calls: lists of calls of which the contracts of the boundary, and nothing else, say what each gave and left; and what is claimed of
--- them. `..Learnt` is what the `ensures` of a call of `osnma` says, written out here, since a contract names nothing that the checker makes;
--- proofs/Boundary.antt has that it is what the checker makes of that `ensures`, all that a caller learns.
+-- them. What the contracts say is a parameter, `Clauses`. `written` are the `ensures` of the calls of `osnma`, written out here, since a contract names nothing
+-- that the checker makes; proofs/Boundary.antt has that they are what the checker makes of them, all that a caller learns.
 -- For each call, from its parameters at entry and at exit (a parameter after the other, in the function's order; ' at exit): the state with what it was
 -- lent in its places, what else it was given, the state that it left, and its reply.
 use Rattle.std.specs.Prelude.{ℕ, ◌≡◌, List, [], ◌∷◌}
@@ -22,10 +22,14 @@ use Rattle.rules.specs.Whole.{LostFields}
 
 -- ---- a call that was made
 
+-- what a contract says of parameters at entry, a number, and parameters at exit
+abbrev pub Clause : Type 0 → Type 1
+Clause Args = Args → ℕ → Args → Type 0
+
 -- In the state s the call c gave this reply and left the state s': it was lent the regions of s, and its contract held. Of the call: its parameters at
 -- entry and at exit, and what its contract says; then how parameters are read
 pub record Made (Args : Type 0)
-    (Learnt : Args → ℕ → Args → Type 0)
+    (Learnt : Clause Args)
     (before : Args → State → State)
     (given : Args → Call)
     (after : Args → Args → State → State)
@@ -57,7 +61,7 @@ Put = MutBor ℕ
 abbrev pub StartArgs : Type 0
 StartArgs = Written × (Written × (Written × (Written × (Written × (Written × (Written × (Written × (Written × (Written × (Written × (Written × (Written × (Written × (Written × (Written × (ℕ × (ℕ × (ℕ × (ℕ × (Read × (Read × (Read × Unit {0}))))))))))))))))))))))
 
-abbrev pub StartLearnt : StartArgs → ℕ → StartArgs → Type 0
+abbrev pub StartLearnt : Clause StartArgs
 StartLearnt (config, (clocks, (words, (stamps, (blocks, (headers, (present, (since, (pubkeys, (offer, (chain, (numbers, (heldkey, (waiting, (sets, (arrivals, (ns, (id, (kind, (maclt, (marks, (root, (pubkey, _))))))))))))))))))))))) r (config', (clocks', (words', (stamps', (blocks', (headers', (present', (since', (pubkeys', (offer', (chain', (numbers', (heldkey', (waiting', (sets', (arrivals', _)))))))))))))))) =
     told r (state config'.now clocks'.now words'.now stamps'.now blocks'.now headers'.now present'.now since'.now pubkeys'.now offer'.now chain'.now numbers'.now heldkey'.now waiting'.now sets'.now arrivals'.now)
     ≡ start_call (state config.now clocks.now words.now stamps.now blocks.now headers.now present.now since.now pubkeys.now offer.now chain.now numbers.now heldkey.now waiting.now sets.now arrivals.now) (record { ns = ns; id = id; type = kind; maclt = maclt; marks = marks.now; root = root.now; key = pubkey.now })
@@ -71,9 +75,9 @@ start_given (_, (_, (_, (_, (_, (_, (_, (_, (_, (_, (_, (_, (_, (_, (_, (_, (ns,
 abbrev pub start_after : StartArgs → StartArgs → State → State
 start_after _ (config', (clocks', (words', (stamps', (blocks', (headers', (present', (since', (pubkeys', (offer', (chain', (numbers', (heldkey', (waiting', (sets', (arrivals', _)))))))))))))))) s = state config'.now clocks'.now words'.now stamps'.now blocks'.now headers'.now present'.now since'.now pubkeys'.now offer'.now chain'.now numbers'.now heldkey'.now waiting'.now sets'.now arrivals'.now
 
-abbrev pub StartDid : State → Call → Reply → State → Type 0
-StartDid =
-    Made StartArgs StartLearnt start_before (λ args. start (start_given args))
+abbrev pub StartDid : Clause StartArgs → State → Call → Reply → State → Type 0
+StartDid Learnt =
+    Made StartArgs Learnt start_before (λ args. start (start_given args))
     start_after (λ r last. plain r)
 
 -- ---- word: of its four regions clocks, words and stamps are written
@@ -82,7 +86,7 @@ StartDid =
 abbrev pub WordArgs : Type 0
 WordArgs = Read × (Written × (Written × (Written × (ℕ × (ℕ × (Read × Unit {0}))))))
 
-abbrev pub WordLearnt : WordArgs → ℕ → WordArgs → Type 0
+abbrev pub WordLearnt : Clause WordArgs
 WordLearnt (config, (clocks, (words, (stamps, (prn, (time, (bytes, _))))))) r (_, (clocks', (words', (stamps', _)))) =
     (s : State) → told r (word_lent s config.now clocks'.now words'.now stamps'.now)
     ≡ word_call (word_lent s config.now clocks.now words.now stamps.now) (record { prn = prn; time = time; bytes = bytes.now })
@@ -96,9 +100,9 @@ word_given (_, (_, (_, (_, (prn, (time, (bytes, _))))))) = record { prn = prn; t
 abbrev pub word_after : WordArgs → WordArgs → State → State
 word_after (config, _) (_, (clocks', (words', (stamps', _)))) s = word_lent s config.now clocks'.now words'.now stamps'.now
 
-abbrev pub WordDid : State → Call → Reply → State → Type 0
-WordDid =
-    Made WordArgs WordLearnt word_before (λ args. word (word_given args))
+abbrev pub WordDid : Clause WordArgs → State → Call → Reply → State → Type 0
+WordDid Learnt =
+    Made WordArgs Learnt word_before (λ args. word (word_given args))
     word_after (λ r last. plain r)
 
 -- ---- sub-frame: all regions but words, stamps and chain are written, and the record area
@@ -107,7 +111,7 @@ WordDid =
 abbrev pub SubframeArgs : Type 0
 SubframeArgs = Written × (Written × (Read × (Read × (Written × (Written × (Written × (Written × (Written × (Written × (Read × (Written × (Written × (Written × (Written × (Written × (Written × (ℕ × (ℕ × (ℕ × (Read × (Put × (Put × Unit {0}))))))))))))))))))))))
 
-abbrev pub SubframeLearnt : SubframeArgs → ℕ → SubframeArgs → Type 0
+abbrev pub SubframeLearnt : Clause SubframeArgs
 SubframeLearnt (config, (clocks, (words, (stamps, (blocks, (headers, (present, (since, (pubkeys, (offer, (chain, (numbers, (heldkey, (waiting, (sets, (arrivals, (area, (prn, (time, (marks, (bytes, _))))))))))))))))))))) r (config', (clocks', (_, (_, (blocks', (headers', (present', (since', (pubkeys', (offer', (_, (numbers', (heldkey', (waiting', (sets', (arrivals', (area', (_, (_, (_, (_, (hkroot', (mack', _))))))))))))))))))))))) =
     subframe_told hkroot'.now mack'.now r (state config'.now clocks'.now words.now stamps.now blocks'.now headers'.now present'.now since'.now pubkeys'.now offer'.now chain.now numbers'.now heldkey'.now waiting'.now sets'.now arrivals'.now) area'.now
     ≡ subframe_call (state config.now clocks.now words.now stamps.now blocks.now headers.now present.now since.now pubkeys.now offer.now chain.now numbers.now heldkey.now waiting.now sets.now arrivals.now) area.now (subframe_brought prn time marks bytes.now)
@@ -124,9 +128,9 @@ subframe_after (_, (_, (words, (stamps, (_, (_, (_, (_, (_, (_, (chain, _)))))))
 abbrev pub subframe_tells : ℕ → SubframeArgs → Reply
 subframe_tells r (_, (_, (_, (_, (_, (_, (_, (_, (_, (_, (_, (_, (_, (_, (_, (_, (area', (_, (_, (_, (_, (hkroot', (mack', _))))))))))))))))))))))) = subframe_reply hkroot'.now mack'.now r area'.now
 
-abbrev pub SubframeDid : State → Call → Reply → State → Type 0
-SubframeDid =
-    Made SubframeArgs SubframeLearnt subframe_before (λ args. subframe (subframe_given args).0 (subframe_given args).1)
+abbrev pub SubframeDid : Clause SubframeArgs → State → Call → Reply → State → Type 0
+SubframeDid Learnt =
+    Made SubframeArgs Learnt subframe_before (λ args. subframe (subframe_given args).0 (subframe_given args).1)
     subframe_after subframe_tells
 
 -- ---- verdict: of its eight regions all but the settings are written
@@ -135,7 +139,7 @@ SubframeDid =
 abbrev pub VerdictArgs : Type 0
 VerdictArgs = Read × (Written × (Written × (Written × (Written × (Written × (Written × (Written × (ℕ × (ℕ × (Read × (Read × Unit {0})))))))))))
 
-abbrev pub VerdictLearnt : VerdictArgs → ℕ → VerdictArgs → Type 0
+abbrev pub VerdictLearnt : Clause VerdictArgs
 VerdictLearnt (config, (pubkeys, (offer, (chain, (numbers, (heldkey, (waiting, (arrivals, (good, (id, (message, (signature, _)))))))))))) r (_, (pubkeys', (offer', (chain', (numbers', (heldkey', (waiting', (arrivals', _)))))))) =
     (s : State) → told r (verdict_lent s config.now pubkeys'.now offer'.now chain'.now numbers'.now heldkey'.now waiting'.now arrivals'.now)
     ≡ verdict_call (verdict_lent s config.now pubkeys.now offer.now chain.now numbers.now heldkey.now waiting.now arrivals.now) (record { good = good; id = id; message = message.now; signature = signature.now })
@@ -149,9 +153,9 @@ verdict_given (_, (_, (_, (_, (_, (_, (_, (_, (good, (id, (message, (signature, 
 abbrev pub verdict_after : VerdictArgs → VerdictArgs → State → State
 verdict_after (config, _) (_, (pubkeys', (offer', (chain', (numbers', (heldkey', (waiting', (arrivals', _)))))))) s = verdict_lent s config.now pubkeys'.now offer'.now chain'.now numbers'.now heldkey'.now waiting'.now arrivals'.now
 
-abbrev pub VerdictDid : State → Call → Reply → State → Type 0
-VerdictDid =
-    Made VerdictArgs VerdictLearnt verdict_before (λ args. verdict (verdict_given args))
+abbrev pub VerdictDid : Clause VerdictArgs → State → Call → Reply → State → Type 0
+VerdictDid Learnt =
+    Made VerdictArgs Learnt verdict_before (λ args. verdict (verdict_given args))
     verdict_after (λ r last. plain r)
 
 -- ---- the read of an authentic set writes no region
@@ -160,7 +164,7 @@ VerdictDid =
 abbrev pub ReadSetArgs : Type 0
 ReadSetArgs = Read × (Read × (ℕ × (Written × (Put × (Put × Unit {0})))))
 
-abbrev pub ReadSetLearnt : ReadSetArgs → ℕ → ReadSetArgs → Type 0
+abbrev pub ReadSetLearnt : Clause ReadSetArgs
 ReadSetLearnt (sets, (arrivals, (prn, (out, _)))) r (_, (_, (_, (out', (issue', (time', _)))))) =
     (s : State) → set_told r out'.now issue'.now time'.now ≡ S.set_read (set_lent s sets.now arrivals.now) prn out.now
 
@@ -173,9 +177,9 @@ read_set_given (_, (_, (prn, (out, _)))) = L.set prn out.now
 abbrev pub read_set_tells : ℕ → ReadSetArgs → Reply
 read_set_tells r (_, (_, (_, (out', (issue', (time', _)))))) = set_reply (set_told r out'.now issue'.now time'.now)
 
-abbrev pub ReadSetDid : State → Call → Reply → State → Type 0
-ReadSetDid =
-    Made ReadSetArgs ReadSetLearnt read_set_before (λ args. ask (read_set_given args))
+abbrev pub ReadSetDid : Clause ReadSetArgs → State → Call → Reply → State → Type 0
+ReadSetDid Learnt =
+    Made ReadSetArgs Learnt read_set_before (λ args. ask (read_set_given args))
     (λ args last. read_set_before args) read_set_tells
 
 -- ---- the read of what waits writes no region
@@ -184,7 +188,7 @@ ReadSetDid =
 abbrev pub ReadOfferArgs : Type 0
 ReadOfferArgs = Read × (Read × (Written × (Written × (Written × (Put × (Put × Unit {0}))))))
 
-abbrev pub ReadOfferLearnt : ReadOfferArgs → ℕ → ReadOfferArgs → Type 0
+abbrev pub ReadOfferLearnt : Clause ReadOfferArgs
 ReadOfferLearnt (pubkeys, (offer, (message, (signature, (key, _))))) r (_, (_, (message', (signature', (key', (id', (kind', _))))))) =
     (s : State) → offer_told r message'.now signature'.now key'.now id'.now kind'.now ≡ S.offer_read (offer_lent s pubkeys.now offer.now) message.now signature.now key.now
 
@@ -197,9 +201,9 @@ read_offer_given (_, (_, (message, (signature, (key, _))))) = L.offer message.no
 abbrev pub read_offer_tells : ℕ → ReadOfferArgs → Reply
 read_offer_tells r (_, (_, (message', (signature', (key', (id', (kind', _))))))) = offer_reply (offer_told r message'.now signature'.now key'.now id'.now kind'.now)
 
-abbrev pub ReadOfferDid : State → Call → Reply → State → Type 0
-ReadOfferDid =
-    Made ReadOfferArgs ReadOfferLearnt read_offer_before (λ args. ask (read_offer_given args))
+abbrev pub ReadOfferDid : Clause ReadOfferArgs → State → Call → Reply → State → Type 0
+ReadOfferDid Learnt =
+    Made ReadOfferArgs Learnt read_offer_before (λ args. ask (read_offer_given args))
     (λ args last. read_offer_before args) read_offer_tells
 
 -- ---- the question for four satellites writes no region
@@ -208,7 +212,7 @@ ReadOfferDid =
 abbrev pub FourArgs : Type 0
 FourArgs = Read × (Read × (ℕ × (Put × Unit {0})))
 
-abbrev pub FourLearnt : FourArgs → ℕ → FourArgs → Type 0
+abbrev pub FourLearnt : Clause FourArgs
 FourLearnt (clocks, (arrivals, (limit, _))) r (_, (_, (_, (yes', _)))) =
     (s : State) → four_told r yes'.now ≡ S.four_read (four_lent s clocks.now arrivals.now) limit
 
@@ -221,9 +225,9 @@ four_given (_, (_, (limit, _))) = L.four limit
 abbrev pub four_tells : ℕ → FourArgs → Reply
 four_tells r (_, (_, (_, (yes', _)))) = four_reply (four_told r yes'.now)
 
-abbrev pub FourDid : State → Call → Reply → State → Type 0
-FourDid =
-    Made FourArgs FourLearnt four_before (λ args. ask (four_given args))
+abbrev pub FourDid : Clause FourArgs → State → Call → Reply → State → Type 0
+FourDid Learnt =
+    Made FourArgs Learnt four_before (λ args. ask (four_given args))
     (λ args last. four_before args) four_tells
 
 -- ---- the question for the progress of messages writes no region
@@ -232,7 +236,7 @@ FourDid =
 abbrev pub ProgressArgs : Type 0
 ProgressArgs = Read × (Read × (Written × Unit {0}))
 
-abbrev pub ProgressLearnt : ProgressArgs → ℕ → ProgressArgs → Type 0
+abbrev pub ProgressLearnt : Clause ProgressArgs
 ProgressLearnt (blocks, (present, (out, _))) r (_, (_, (out', _))) =
     (s : State) → progress_told r out'.now ≡ S.progress_read (progress_lent s blocks.now present.now) out.now
 
@@ -245,23 +249,48 @@ progress_given (_, (_, (out, _))) = L.progress out.now
 abbrev pub progress_tells : ℕ → ProgressArgs → Reply
 progress_tells r (_, (_, (out', _))) = progress_reply (progress_told r out'.now)
 
-abbrev pub ProgressDid : State → Call → Reply → State → Type 0
-ProgressDid =
-    Made ProgressArgs ProgressLearnt progress_before (λ args. ask (progress_given args))
+abbrev pub ProgressDid : Clause ProgressArgs → State → Call → Reply → State → Type 0
+ProgressDid Learnt =
+    Made ProgressArgs Learnt progress_before (λ args. ask (progress_given args))
     (λ args last. progress_before args) progress_tells
+
+-- ---- the contracts of all eight
+
+pub record Clauses : Type 1 where
+  pub start : Clause StartArgs
+  pub word : Clause WordArgs
+  pub subframe : Clause SubframeArgs
+  pub verdict : Clause VerdictArgs
+  pub read_set : Clause ReadSetArgs
+  pub read_offer : Clause ReadOfferArgs
+  pub four : Clause FourArgs
+  pub progress : Clause ProgressArgs
+
+abbrev pub written : Clauses
+written =
+    record {
+      start = StartLearnt;
+      word = WordLearnt;
+      subframe = SubframeLearnt;
+      verdict = VerdictLearnt;
+      read_set = ReadSetLearnt;
+      read_offer = ReadOfferLearnt;
+      four = FourLearnt;
+      progress = ProgressLearnt;
+    }
 
 -- ---- a run
 
 -- the exported call, in the state s, gave this reply and left the state s'
-pub data Did (s : State) (c : Call) (reply : Reply) (s' : State) : Type 0 where
-  started : StartDid s c reply s' → Did s c reply s'
-  worded : WordDid s c reply s' → Did s c reply s'
-  subframed : SubframeDid s c reply s' → Did s c reply s'
-  judged : VerdictDid s c reply s' → Did s c reply s'
-  set_read : ReadSetDid s c reply s' → Did s c reply s'
-  offer_read : ReadOfferDid s c reply s' → Did s c reply s'
-  four_asked : FourDid s c reply s' → Did s c reply s'
-  progress_asked : ProgressDid s c reply s' → Did s c reply s'
+pub data Did (k : Clauses) (s : State) (c : Call) (reply : Reply) (s' : State) : Type 0 where
+  started : StartDid k.start s c reply s' → Did k s c reply s'
+  worded : WordDid k.word s c reply s' → Did k s c reply s'
+  subframed : SubframeDid k.subframe s c reply s' → Did k s c reply s'
+  judged : VerdictDid k.verdict s c reply s' → Did k s c reply s'
+  set_read : ReadSetDid k.read_set s c reply s' → Did k s c reply s'
+  offer_read : ReadOfferDid k.read_offer s c reply s' → Did k s c reply s'
+  four_asked : FourDid k.four s c reply s' → Did k s c reply s'
+  progress_asked : ProgressDid k.progress s c reply s' → Did k s c reply s'
 
 -- a call, its reply, and the state that it left
 pub record Done : Type 0 where
@@ -270,9 +299,9 @@ pub record Done : Type 0 where
   pub left : State
 
 -- "Each call gets the state that the last one, or the accepted start, left; nobody else writes it"
-abbrev pub Run : State → List Done → Type 0
-Run s [] = Unit {0}
-Run s (d ∷ ds) = Did s d.call d.reply d.left × Run d.left ds
+abbrev pub Run : Clauses → State → List Done → Type 0
+Run k s [] = Unit {0}
+Run k s (d ∷ ds) = Did k s d.call d.reply d.left × Run k d.left ds
 
 -- the history that it adds to
 abbrev pub history_of : History → List Done → History
@@ -281,12 +310,12 @@ history_of h (d ∷ ds) = history_of (advanced h d.call d.reply.code d.reply d.l
 
 -- ---- the claim of the exported calls
 
-pub record ExportedClaim : Type 0 where
+pub record ClaimOf (k : Clauses) : Type 0 where
   -- every call gives and leaves what the rule says
-  pub steps : (s s' : State) (c : Call) (r : Reply) → Did s c r s' → step s c ≡ record { reply = r; state = s' }
+  pub steps : (s s' : State) (c : Call) (r : Reply) → Did k s c r s' → step s c ≡ record { reply = r; state = s' }
   -- demand 3, of every run of exported calls after an accepted start
-  pub fair : (s began : State) (x : Start) → Did s (start x) (plain 0) began → (ds : List Done) → Run began ds → FairHistory (history_of (record { origin = x; began = began; log = [] }) ds)
-  pub begins : (s s' left left' : State) (x : Start) → Did s (start x) (plain 0) left → Did s' (start x) (plain 0) left' → left ≡ left'
+  pub fair : (s began : State) (x : Start) → Did k s (start x) (plain 0) began → (ds : List Done) → Run k began ds → FairHistory (history_of (record { origin = x; began = began; log = [] }) ds)
+  pub begins : (s s' left left' : State) (x : Start) → Did k s (start x) (plain 0) left → Did k s' (start x) (plain 0) left' → left ≡ left'
   -- and of every state, what a refused call or half changes; by `steps` it is so of the exported calls
   pub refused : Refused
   -- 02, P3: with all marks 1 a sub-frame is judged as before, and what is lent for a field that did not come changes nothing; of the exported calls by
@@ -299,3 +328,7 @@ pub record ExportedClaim : Type 0 where
   pub four_satellites : FourSatellites
   -- 02, P9: how a block that comes moves the progress of its message; what stands behind the numbers told is in `fair`
   pub message_progress : MessageProgress
+
+-- of the exported calls
+abbrev pub ExportedClaim : Type 0
+ExportedClaim = ClaimOf written

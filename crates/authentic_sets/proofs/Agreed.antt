@@ -1,12 +1,13 @@
 -- What a tag that agrees leaves, case by case: the places that the code writes are the definition's own. Assumes nothing.
-use Prim.Native.Nat.{ℕ, ◌+◌, ◌-◌, ◌*◌, ◌≤◌, ◌<◌}
+use Prim.Native.Nat.{ℕ, max, ◌+◌, ◌-◌, ◌*◌, ◌≤◌, ◌<◌}
 use mathlib.Core.Path.{◌≡◌, refl, ap, sym, ◌∙◌}
 use mathlib.Core.Logic.{⊎_elim}
 use mathlib.Core.Bool.{Bool, true, false, cond, not}
 use mathlib.Core.List.{List}
 use lib.Dec.{ltb, eqb}
 use lib.ListN.{length, get_or, set}
-use borrow.Author.Tests.{le-leb, lt-leb, lt-ltb, le-ltb}
+use native.Mathlib.Omega.{arith}
+use borrow.Author.Tests.{ltb-true, ltb-false, le-leb, lt-leb, lt-ltb, le-ltb}
 use Rattle.laws.proofs.Same.{same_true}
 use Rattle.laws.proofs.Splice.{either}
 use Rattle.laws.proofs.Tests.{and_right}
@@ -16,6 +17,15 @@ use Rattle.rules.proofs.Written.{set_back, new_set, new_candidate, sets_back, ne
 use Rattle.rules.specs.Candidates.{SetPair, later_stamp, set_entered, candidate_gone, candidate_held, on_set, on_candidate, total_with, latest_with, summed, agreed, pair_at, sets_with, arrivals_with}
 use Rattle.rules.specs.State.{satellites, sets_length, arrivals_length, copy_length}
 use Rattle.authentic_sets.specs.Places.{holds_at, sets_entered, arrivals_entered, numbers_put, Agrees}
+
+-- the later of two stamps
+pub later_is : (a b : ℕ) → max a b ≡ later_stamp a b
+unfolding later_stamp
+later_is a b =
+    ⊎_elim
+    (λ t. let h = ltb-true b a t in rw t (omega arith))
+    (λ f. let h = ltb-false b a f in rw f (omega arith))
+    (either (ltb b a))
 
 -- a stamp that is not written is the later one
 pub stamp_back : (arrivals : List ℕ) (prn stamp : ℕ) → prn - 1 < length arrivals → ltb stamp (get_or arrivals (prn - 1) 0) ≡ true → arrivals ≡ arrivals_entered arrivals prn stamp

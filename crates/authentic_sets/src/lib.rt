@@ -9,7 +9,7 @@
 //   stamp_of, copy_set  a satellite's authentic set, for a read
 ghost use Rattle.std.specs.Prelude.{◌≡◌, List, ℕ, ◌+◌, ◌-◌, ◌≤◌, ◌<◌, length, set};
 ghost use Rattle.rules.specs.Calls.{auth_stamp, auth_set};
-ghost use Rattle.rules.specs.Candidates.{later_stamp, summed, agreed, pair_at, candidates_cleared};
+ghost use Rattle.rules.specs.Candidates.{summed, agreed, pair_at, candidates_cleared};
 ghost use Rattle.rules.specs.State.{sets_length, arrivals_length, copy_length};
 ghost use Rattle.rules.specs.Times.{stamp_of};
 ghost use Rattle.authentic_sets.specs.Places.{holds_at, sets_entered, arrivals_entered, numbers_put, Agrees};
@@ -32,32 +32,13 @@ const AUTHENTIC_BITS: u64 = 40;
 // ---- a place
 
 // Whether there is a set at this place, and these are its bytes.
+#[tactic(auto, using(laws::proofs::Splice::range_part), unfolding(crate::specs::Places::holds_at))]
 fn holds(sets: &[u8], arrivals: &[u32], place: usize, set: &[u8]) -> bool
     requires { ((length sets.now ≡ sets_length) × (length arrivals.now ≡ arrivals_length)) × (place < 72) }
     ensures { result ≡ holds_at sets.now arrivals.now place set.now }
 {
-    if arrivals[place] == 0 {
-        return false;
-    }
     let a = place * COPY_LENGTH;
-    buffer::equal(&sets[a..a + COPY_LENGTH], set)
-}
-
-// A total as it is summed: whatever number stands there, a tag's bits added to it fit.
-fn wide(x: u32) -> u64
-    ensures { (result ≡ x) × (result < 4294967296) }
-{
-    x as u64
-}
-
-// The later of two stamps.
-fn later_stamp(a: u32, b: u32) -> u32
-    ensures { result ≡ later_stamp a b }
-{
-    if b < a {
-        return a;
-    }
-    b
+    arrivals[place] != 0 && buffer::equal(&sets[a..a + COPY_LENGTH], set)
 }
 
 // "Outcome 1 replaces the satellite's authentic set unless that set's tag came later."
@@ -111,18 +92,17 @@ pub fn agree(sets: &mut [u8], arrivals: &mut [u32], ms: u64, t: Tag, set: &[u8])
     ensures { Agrees (agreed ms (stamp_of t.time) set.now (pair_at sets.old arrivals.old t.prn)) t.prn
         sets.old arrivals.old sets.new arrivals.new result }
 {
-    let named = t.prn;
-    let prn = named as usize;
+    let prn = t.prn as usize;
     let stamp = t.time + 1;
     let place = prn - 1;
     if holds(sets, arrivals, place, set) {
-        arrivals[place] = later_stamp(arrivals[place], stamp);
+        arrivals[place] = arrivals[place].max(stamp);
         return 1;
     }
     let latest = arrivals[CANDIDATES + place];
-    let total = wide(arrivals[TOTALS + place]) + ms;
+    let total = u64::from(arrivals[TOTALS + place]) + ms; // whatever number stands there, the sum fits
     if holds(sets, arrivals, CANDIDATES + place, set) {
-        return sum(sets, arrivals, prn, total, later_stamp(latest, stamp), set);
+        return sum(sets, arrivals, prn, total, latest.max(stamp), set);
     }
     if stamp < latest {
         return 9;
@@ -135,11 +115,7 @@ pub fn clear_candidates(arrivals: &mut [u32])
     requires { length arrivals.old ≡ arrivals_length }
     ensures { (sets : List ℕ) → auth sets arrivals.new ≡ candidates_cleared (auth sets arrivals.old) }
 {
-    let mut i: usize = 0;
-    while i < CANDIDATE_NUMBERS {
-        arrivals[CANDIDATES + i] = 0;
-        i += 1;
-    }
+    arrivals[CANDIDATES..CANDIDATES + CANDIDATE_NUMBERS].fill(0);
 }
 
 // ---- reads

@@ -17,7 +17,7 @@ use Rattle.rules.specs.Calls.{verdict_call, verdict_checks}
 use Rattle.rules.specs.Candidates.{candidates_cleared}
 use Rattle.rules.specs.Gather.{status_of}
 use Rattle.rules.specs.PublicKeys.{without_lower}
-use Rattle.rules.specs.Kroot.{kroot_of, root_seconds_of, chain_contents, in_force}
+use Rattle.rules.specs.Kroot.{kroot_of, root_seconds_of}
 use Rattle.rules.specs.State.{State, Tesla, Auth, verdict_shaped, stopped, with_auth, waiting_count, entry_length}
 use Rattle.rules.specs.State.{config_length, pubkeys_length, offer_length, chain_length, numbers_length, heldkey_length, waiting_length, arrivals_length}
 use Rattle.rules.specs.contracts.RefusalPartialEq.TheImpl.{eq-value as refusal_eq}
@@ -30,17 +30,6 @@ use Rattle.std.specs.contracts.prelude.UnitPartialEq.TheImpl.{eq-value as unit_e
 use Rattle.rules.proofs.Lengths.{verdict_shaped_lem}
 use Rattle.rules.specs.Verdict as S
 use Rattle.regions.specs.Tesla.{tesla}
-
--- ---- the chain that stays
-
-module _ (s : State) (config chain c : List ℕ) (m : s.config ≡ config) (e : s.chain ≡ chain) where
-  pub none_in_force : in_force config chain ≡ false → false ≡ S.chain_stays s c
-  unfolding S.chain_stays
-  none_in_force f = rw (m, e, f)
-
-  pub by_contents : in_force config chain ≡ true → S.chain_unchanged (chain_contents chain) c ≡ S.chain_stays s c
-  unfolding S.chain_stays
-  by_contents f = rw (m, e, f)
 
 -- ---- tags and candidates at a new root
 

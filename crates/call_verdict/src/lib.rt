@@ -194,22 +194,19 @@ fn keep_candidates(config: &[u8], chain: &[u8], arrivals: &mut [u32], c: &[u8])
     ensures { (s : State) → s.config ≡ config.now → s.chain ≡ chain.now → s.auth.arrivals ≡ arrivals.old →
         auth s.auth.sets arrivals.new ≡ S.candidates_at s c.now }
 {
-    if chain_stays(config, chain, c) {
-        return;
+    if !chain_stays(config, chain, c) {
+        authentic_sets::clear_candidates(arrivals);
     }
-    authentic_sets::clear_candidates(arrivals);
 }
 
 // There is a chain in force, and the contents leave it unchanged.
+#[tactic(auto, unfolding(rules::specs::Verdict::chain_stays))]
 fn chain_stays(config: &[u8], chain: &[u8], c: &[u8]) -> bool
     requires { (length config.now ≡ config_length) × ((length chain.now ≡ chain_length) × (length c.now ≡ contents_length)) }
     ensures { (s : State) → s.config ≡ config.now → s.chain ≡ chain.now →
         result ≡ S.chain_stays s c.now }
 {
-    if !kroot::in_force(config, chain) {
-        return false;
-    }
-    kroot::chain_unchanged(kroot::chain_contents(chain), c)
+    kroot::in_force(config, chain) && kroot::chain_unchanged(kroot::chain_contents(chain), c)
 }
 
 // The contents are those in force from now on.
@@ -260,10 +257,11 @@ fn keep_tags(config: &[u8], chain: &[u8], waiting: &mut [u8], n: usize, c: &[u8]
         (waiting.new ≡ splice waiting.old 0 (S.staying_at s c.now))
         × (length (S.staying_at s c.now) ≡ result * entry_length) }
 {
-    if !chain_stays(config, chain, c) {
-        return 0;
+    if chain_stays(config, chain, c) {
+        waiting_tags::keep_staying(waiting, kroot::root_seconds(c), n)
+    } else {
+        0
     }
-    waiting_tags::keep_staying(waiting, kroot::root_seconds(c), n)
 }
 
 // The root key, zeros after a short one.

@@ -17,44 +17,38 @@ ghost use Rattle.rules.specs.Verdict as S;
 use rules::Refusal;
 
 // Whether the contents are those in force.
+#[tactic(auto, unfolding(rules::specs::Verdict::same_contents))]
 pub fn same_contents(config: &[u8], chain: &[u8], c: &[u8]) -> bool
     requires { (length config.now ≡ config_length) × (length chain.now ≡ chain_length) }
     ensures { (s : State) → s.config ≡ config.now → s.chain ≡ chain.now → result ≡ S.same_contents s c.now }
 {
-    if !kroot::in_force(config, chain) {
-        return false;
-    }
-    buffer::equal(kroot::chain_contents(chain), c)
+    kroot::in_force(config, chain) && buffer::equal(kroot::chain_contents(chain), c)
 }
 
 // Whether the chain in force has this CID.
+#[tactic(auto, unfolding(rules::specs::Verdict::cid_in_force))]
 fn cid_in_force(config: &[u8], chain: &[u8], cid: u8) -> bool
     requires { (length config.now ≡ config_length) × (length chain.now ≡ chain_length) }
     ensures { (s : State) → s.config ≡ config.now → s.chain ≡ chain.now → result ≡ S.cid_in_force s cid }
 {
-    if !kroot::in_force(config, chain) {
-        return false;
-    }
-    kroot::cidkr(kroot::chain_contents(chain)) == cid
+    kroot::in_force(config, chain) && kroot::cidkr(kroot::chain_contents(chain)) == cid
 }
 
 // Status 0; status 3 with no chain or other CID; status 1 or 2 with CIDKR not CID.
+#[tactic(auto, unfolding(rules::specs::Verdict::status_unfit))]
 fn status_unfit(config: &[u8], chain: &[u8], header: u8, c: &[u8]) -> bool
     requires { (length config.now ≡ config_length) × ((length chain.now ≡ chain_length) × (contents_length ≤ length c.now)) }
     ensures { (s : State) → s.config ≡ config.now → s.chain ≡ chain.now → result ≡ S.status_unfit s header c.now }
 {
-    let status = gather::status_of(header);
-    if status == 0 {
-        return true;
+    match gather::status_of(header) {
+        0 => true,
+        3 => !cid_in_force(config, chain, gather::cid_of(header)),
+        _ => kroot::cidkr(c) != gather::cid_of(header),
     }
-    let cid = gather::cid_of(header);
-    if status == 3 {
-        return !cid_in_force(config, chain, cid);
-    }
-    kroot::cidkr(c) != cid
 }
 
 // The root is earlier than the last put in force, or equal with other contents, or not later after a drop.
+#[tactic(auto, unfolding(rules::specs::Verdict::root_unfit, rules::specs::Kroot::ever_forced))]
 fn root_unfit(config: &[u8], chain: &[u8], c: &[u8]) -> bool
     requires { (length config.now ≡ config_length) × ((length chain.now ≡ chain_length) × (contents_length ≤ length c.now)) }
     ensures { (s : State) → s.config ≡ config.now → s.chain ≡ chain.now → result ≡ S.root_unfit s c.now }
@@ -62,13 +56,13 @@ fn root_unfit(config: &[u8], chain: &[u8], c: &[u8]) -> bool
     let last = kroot::root_seconds(kroot::chain_contents(chain));
     let root = kroot::root_seconds(c);
     if kroot::in_force(config, chain) {
-        let equal = same_contents(config, chain, c);
-        return (root < last) | ((root == last) & !equal);
+        return root < last || (root == last && !same_contents(config, chain, c));
     }
-    (chain[0] != 0) & (root <= last)
+    chain[0] != 0 && root <= last
 }
 
 // A verdict against what waits and the chain: refused (14, 15, 11 or 9) or not.
+#[tactic(auto, unfolding(rules::specs::Verdict::vouch_checks, rules::specs::Verdict::message_header, rules::specs::Verdict::message_contents, laws::specs::Lists::part))]
 pub fn vouch_refusal(
     config: &[u8],
     chain: &[u8],
@@ -104,12 +98,8 @@ fn new_root_unfit(config: &[u8], chain: &[u8], header: u8, c: &[u8]) -> bool
     ensures { (s : State) → s.config ≡ config.now → s.chain ≡ chain.now →
         result ≡ (within 1 2 (status_of header) && S.root_unfit s c.now) }
 {
-    let status = gather::status_of(header);
-    if status == 0 {
-        return false;
+    match gather::status_of(header) {
+        0 | 3 => false,
+        _ => root_unfit(config, chain, c),
     }
-    if status == 3 {
-        return false;
-    }
-    root_unfit(config, chain, c)
 }

@@ -2,8 +2,10 @@
 -- Assumes nothing.
 use mathlib.Core.Path.{◌≡◌, refl}
 use mathlib.Core.Bool.{Bool, true, false, cond}
-use Prim.Native.Nat.{ℕ, ◌+◌, ◌-◌, ◌*◌, ◌/◌, ◌≤◌, ◌<◌}
+use Prim.Native.Nat.{ℕ, ◌+◌, ◌-◌, ◌*◌, ◌/◌, ◌≤◌, ◌<◌, min, max}
 use native.Mathlib.Omega.{arith}
+use Rattle.std.specs.Int.{div_ceil}
+use Rattle.std.proofs.lemmas.Bool.Decides.{nat_tests}
 use lib.Dec.{eqb}
 use borrow.Author.Tests.{eqb-true, eqb-false}
 use Rattle.cmac.specs.Cmac as S
@@ -26,3 +28,20 @@ blocks_hold len = go (eqb len 0) refl
     go false e =
         let z = eqb-false len 0 e in
         record { some = omega arith; enough = omega arith; full = omega arith; needed = λ h. omega arith }
+
+pub rounded_up : (len : ℕ) → max (div_ceil len 16) 1 ≡ S.blocks len
+unfolding S.blocks
+rounded_up len = go (eqb len 0) refl
+  where
+    go : (t : Bool) → eqb len 0 ≡ t → max (div_ceil len 16) 1 ≡ cond t 1 ((len + 15) / 16)
+    go true e =
+        let z = eqb-true len 0 e in
+        omega arith
+    go false e =
+        let z = eqb-false len 0 e in
+        omega arith
+
+-- a byte as a number of rounds
+pub clamped : (x : ℕ) → max 1 (min x 14) ≡ S.rounds_in x
+unfolding S.rounds_in
+clamped x = grind (arith, nat_tests)

@@ -4,7 +4,7 @@ use mathlib.Core.Path.{◌≡◌, refl, sym, ap, ◌∙◌}
 use mathlib.Core.Bool.{cond}
 use mathlib.Core.Logic.{⊎_elim}
 use mathlib.Core.List.{List, [], ◌∷◌}
-use Prim.Native.Nat.{ℕ, zero, suc, ◌+◌, ◌-◌, ◌*◌, ◌/◌, ◌%◌, ◌^◌, ◌≤◌, ◌<◌}
+use Prim.Native.Nat.{ℕ, zero, suc, ◌+◌, ◌-◌, ◌*◌, ◌/◌, ◌%◌, ◌^◌, ◌≤◌, ◌<◌, min}
 use native.Mathlib.Nat.{mul_assoc}
 use native.Mathlib.Numerals.{unary_clauses}
 use native.Mathlib.Omega.{arith}
@@ -57,12 +57,15 @@ pub all-kept : (n : ℕ) (code : List ℕ) → length code ≡ 16 → 128 ≤ n 
 all-kept n code e h =
     sym (take_all 16 code (omega arith)) ∙ whole_bytes n code 16 h ∙ take_all 16 (S.truncated n code) (omega (arith, length-truncated n code))
 
-fits : (x y r : ℕ) → y + r ≡ x → x < 256 → y % 256 ≡ y
+fits : (x y r : ℕ) → y + r ≡ x → x < 256 → y % 65536 ≡ y
 fits x y r e h = omega arith
 
-pub first_some : (n x : ℕ) → x < 256 → x / 2 ^ (8 - n) * 2 ^ (8 - n) % 256 ≡ S.first_bits n x
+-- what is left of a byte after the two shifts
+pub first_shifted : (n s x y : ℕ) → s ≡ min n 8 → y ≡ x → x < 256 → y / 2 ^ (8 - s) * 2 ^ (8 - s) % 65536 ≡ S.first_bits n x
 unfolding S.first_bits
-first_some n x h = fits x (x / 2 ^ (8 - n) * 2 ^ (8 - n)) (x % 2 ^ (8 - n)) (split x (8 - n)) h
+first_shifted n s x y e f h =
+    let d : 8 - s ≡ 8 - n = omega arith in
+    rw (d, f) (fits x (x / 2 ^ (8 - n) * 2 ^ (8 - n)) (x % 2 ^ (8 - n)) (split x (8 - n)) h)
 
 -- ---- bits
 -- bit j of a byte of which the first k bits are kept

@@ -8,7 +8,8 @@
 //   cmac_with   the code of a message under a kept key; nothing of the key is expanded again
 //   truncate    the first bits of a code
 //   laws_of_padding, laws_of_truncation    do nothing; their contracts carry what is shown of both
-// A kept key is 273 bytes: the round keys (240), K1 (16), K2 (16), and the number of rounds (1).
+// A kept key is 273 bytes: the round keys (240), K1 (16), K2 (16), and the number of rounds (1). It is lent as such by C callers and kept
+// by the chain's callers, so that it is an array and no struct.
 ghost use Rattle.std.specs.Prelude.{◌≡◌, ◌+◌, ◌-◌, ◌≤◌, ◌<◌, length, cond, eqb, [], ◌∷◌, ◌++◌};
 ghost use Rattle.laws.specs.Lists.{part, splice};
 ghost use Rattle.aes.specs.Aes as Aes;
@@ -19,16 +20,17 @@ ghost use Rattle.cmac.specs.Shown.{Padding, Truncation};
 pub fn cmac(key: &[u8], m: &[u8]) -> [u8; 16]
     ensures { result ≡ S.cmac key.now m.now }
 {
-    let mut kept = [0u8; 273];
+    let mut kept = [0; 273];
     cmac_key(key, &mut kept);
     cmac_with(&kept, m)
 }
 
-// What is kept of a key.
+// What is kept of a key: the round keys, and what comes after them.
 pub fn cmac_key(key: &[u8], kept: &mut [u8; 273])
     ensures { kept.new ≡ S.kept_of key.now }
 {
-    keep(key, kept);
+    aes::expand_key(key, &mut kept[..240]);
+    put_subkeys(aes::rounds_of(key.len()), kept);
 }
 
 // The code of the message m under a kept key.
@@ -38,15 +40,6 @@ pub fn cmac_with(kept: &[u8; 273], m: &[u8]) -> [u8; 16]
     chained(rounds_in(kept[272]), kept, m)
 }
 
-// The round keys, and what comes after them.
-fn keep(key: &[u8], kept: &mut [u8])
-    requires { length kept.old ≡ 273 }
-    ensures { kept.new ≡ S.kept_of key.now }
-{
-    aes::expand_key(key, &mut kept[..240]);
-    put_subkeys(aes::rounds_of(key.len()), kept);
-}
-
 // K1, K2 and the number of rounds, from the round keys before them.
 fn put_subkeys(rounds: usize, kept: &mut [u8])
     requires { ((1 ≤ rounds) × (rounds ≤ 14)) × (length kept.old ≡ 273) }
@@ -54,11 +47,10 @@ fn put_subkeys(rounds: usize, kept: &mut [u8])
         (S.K1 (Aes.cipher rounds (part kept.old 0 240)) ++
         (S.K2 (Aes.cipher rounds (part kept.old 0 240)) ++ (rounds ∷ []))) }
 {
-    let zeros = [0u8; 16];
-    let k1 = doubled(aes::cipher(rounds, &kept[..240], zeros));
+    let k1 = doubled(aes::cipher(rounds, &kept[..240], [0; 16]));
     let k2 = doubled(k1);
-    buffer::copy_at(kept, 240, &k1);
-    buffer::copy_at(kept, 256, &k2);
+    kept[240..256].copy_from_slice(&k1);
+    kept[256..272].copy_from_slice(&k2);
     kept[272] = rounds as u8;
 }
 
@@ -68,14 +60,9 @@ fn chained(rounds: usize, kept: &[u8], m: &[u8]) -> [u8; 16]
     ensures { result ≡ S.mac (Aes.cipher rounds (part kept.now 0 240)) (part kept.now 240 16)
         (part kept.now 256 16) m.now }
 {
-    let n = blocks(m.len());
-    let mut c = [0u8; 16];
-    let mut i: usize = 0;
-    while i < n {
-        let x = next(kept, m, i, c);
-        let d = aes::cipher(rounds, &kept[..240], x);
-        c = d;
-        i += 1;
+    let mut c = [0; 16];
+    for i in 0..blocks(m.len()) {
+        c = aes::cipher(rounds, &kept[..240], next(kept, m, i, c));
     }
     c
 }
@@ -84,23 +71,14 @@ fn chained(rounds: usize, kept: &[u8], m: &[u8]) -> [u8; 16]
 fn rounds_in(x: u8) -> usize
     ensures { (result ≡ S.rounds_in x) × ((1 ≤ result) × (result ≤ 14)) }
 {
-    if x < 1 {
-        return 1;
-    }
-    if 14 < x {
-        return 14;
-    }
-    x as usize
+    usize::from(x.clamp(1, 14))
 }
 
 // The number of blocks of a message of so many bytes.
 fn blocks(len: usize) -> usize
     ensures { result ≡ S.blocks len }
 {
-    if len == 0 {
-        return 1;
-    }
-    (len - 1) / 16 + 1
+    len.div_ceil(16).max(1)
 }
 
 // What the cipher takes after i blocks: their chained value c, exclusive or the next block.
@@ -108,12 +86,12 @@ fn next(kept: &[u8], m: &[u8], i: usize, c: [u8; 16]) -> [u8; 16]
     requires { (length kept.now ≡ 273) × (i < S.blocks (length m.now)) }
     ensures { result ≡ Aes.xored c (S.block (part kept.now 240 16) (part kept.now 256 16) m.now (i + 1)) }
 {
-    let at = 16 * i;
-    if 16 < m.len() - at {
-        return xored_at(m, at, c);
+    let rest = &m[16 * i..];
+    if 16 < rest.len() {
+        xored(c, &rest[..16])
+    } else {
+        xored(c, &last_block(kept, rest))
     }
-    let b = last_block(kept, &m[at..]);
-    xored_at(&b, 0, c)
 }
 
 // The last block, from what is left of the message.
@@ -121,8 +99,7 @@ fn last_block(kept: &[u8], rest: &[u8]) -> [u8; 16]
     requires { (length kept.now ≡ 273) × (length rest.now ≤ 16) }
     ensures { result ≡ S.last_block (part kept.now 240 16) (part kept.now 256 16) rest.now }
 {
-    let b = padded(rest);
-    xored_at(kept, subkey_place(rest.len()), b)
+    xored(padded(rest), subkey(kept, rest.len()))
 }
 
 // What is left of the message, as a block.
@@ -130,32 +107,34 @@ fn padded(rest: &[u8]) -> [u8; 16]
     requires { length rest.now ≤ 16 }
     ensures { result ≡ S.padded rest.now }
 {
-    let mut b = [0u8; 16];
-    buffer::copy_at(&mut b, 0, rest);
-    if rest.len() == 16 {
-        return b;
+    let mut b = [0; 16];
+    b[..rest.len()].copy_from_slice(rest);
+    if rest.len() < 16 {
+        b[rest.len()] = 0x80;
     }
-    b[rest.len()] = 0x80;
     b
 }
 
-// The place of the subkey for a last block of n bytes: that of K1 for a complete one, else that of K2.
-fn subkey_place(n: usize) -> usize
-    ensures { result ≡ cond (eqb n 16) 240 256 }
+// The subkey for a last block of n bytes: K1 for a complete one, else K2.
+fn subkey(kept: &[u8], n: usize) -> &[u8]
+    requires { length kept.now ≡ 273 }
+    ensures { result.now ≡ cond (eqb n 16) (part kept.now 240 16) (part kept.now 256 16) }
 {
-    if n == 16 { 240 } else { 256 }
+    if n == 16 {
+        &kept[240..256]
+    } else {
+        &kept[256..272]
+    }
 }
 
-// The 16 bytes of s from place `at`, exclusive or a.
-fn xored_at(s: &[u8], at: usize, a: [u8; 16]) -> [u8; 16]
-    requires { at + 16 ≤ length s.now }
-    ensures { result ≡ Aes.xored (part s.now at 16) a }
+// The block a, exclusive or the 16 bytes of s.
+fn xored(a: [u8; 16], s: &[u8]) -> [u8; 16]
+    requires { length s.now ≡ 16 }
+    ensures { result ≡ Aes.xored a s.now }
 {
-    let mut d = [0u8; 16];
-    let mut i: usize = 0;
-    while i < 16 {
-        d[i] = s[at + i] ^ a[i];
-        i += 1;
+    let mut d = [0; 16];
+    for i in 0..16 {
+        d[i] = a[i] ^ s[i];
     }
     d
 }
@@ -165,10 +144,9 @@ fn doubled(x: [u8; 16]) -> [u8; 16]
     ensures { result ≡ S.doubled x }
 {
     let mut d = shifted(x);
-    if x[0] / 128 % 2 == 0 {
-        return d;
+    if x[0] / 128 % 2 != 0 {
+        d[15] ^= 0x87;
     }
-    d[15] = d[15] ^ 0x87;
     d
 }
 
@@ -176,11 +154,9 @@ fn doubled(x: [u8; 16]) -> [u8; 16]
 fn shifted(x: [u8; 16]) -> [u8; 16]
     ensures { result ≡ S.shifted x }
 {
-    let mut d = [0u8; 16];
-    let mut i: usize = 0;
-    while i < 15 {
+    let mut d = [0; 16];
+    for i in 0..15 {
         d[i] = (x[i] << 1) | (x[i + 1] >> 7);
-        i += 1;
     }
     d[15] = x[15] << 1;
     d
@@ -190,31 +166,19 @@ fn shifted(x: [u8; 16]) -> [u8; 16]
 pub fn truncate(code: [u8; 16], n: usize) -> [u8; 16]
     ensures { result ≡ S.truncated n code }
 {
-    if 128 <= n {
-        return code;
-    }
-    let mut d = code;
-    let mut i = n / 8;
-    while i < 16 {
-        d[i] = first_bits(code[i], n, 8 * i);
-        i += 1;
+    let mut d = [0; 16];
+    for i in 0..16 {
+        d[i] = first_bits(code[i], n.saturating_sub(8 * i));
     }
     d
 }
 
-// The byte x after `before` bits of a code, of which the first n are kept.
-fn first_bits(x: u8, n: usize, before: usize) -> u8
-    ensures { result ≡ S.first_bits (n - before) x }
+// The first n bits of the byte x; the bits after them are zero.
+fn first_bits(x: u8, n: usize) -> u8
+    ensures { result ≡ S.first_bits n x }
 {
-    if n <= before {
-        return 0;
-    }
-    let k = n - before;
-    if 8 <= k {
-        return x;
-    }
-    let s = 8 - k;
-    (x >> s) << s
+    let s = 8 - n.min(8);
+    ((u16::from(x) >> s) << s) as u8
 }
 
 // Does nothing; that it is proved says what the padding is, for a message of any number of bytes (02, P1).

@@ -151,7 +151,7 @@ fn judge_down(
 }
 
 // The outcomes of the first n entries, from the held key: a tag that is not due still waits. `met` is the key of slot `near` on the way down from the held
-// key.
+// key. There is room for the most tags that can wait: the core has no heap.
 pub fn outcomes(
     c: Chain,
     slot: u64,
@@ -169,6 +169,7 @@ pub fn outcomes(
     let mut judged = [Outcome::Waits; 256];
     let mut m = next_below(c, waiting, n, slot + 1);
     let mut at = chain::nearer(slot, near, met, m, &mut key);
+    // m falls from tag to tag, by as much as lies between: no range counts its turns.
     while 0 < m {
         judge_down(c, at, m, &mut key, waiting, n, &mut judged);
         at = m;

@@ -12,7 +12,7 @@ ghost use Rattle.rules.specs.State.{blocks_length, dsm_ids};
 ghost use Rattle.gather.specs.Store.{Lent, store, told, Sized};
 
 // What the coming of a block gives.
-#[derive(Clone, Copy)]
+#[derive(Clone, Copy, Debug, PartialEq, Eq)]
 pub enum Gathered {
     // The block is stored; its DSM is not complete.
     Stored,
@@ -30,10 +30,8 @@ pub fn hkroot_of(f: &[u8]) -> [u8; 15]
     ensures { result ≡ Rule.hkroot_of f.now 15 }
 {
     let mut hk = [0u8; 15];
-    let mut i: usize = 0;
-    while i < 15 {
+    for i in 0..15 {
         hk[i] = f[5 * i];
-        i += 1;
     }
     hk
 }
@@ -44,10 +42,8 @@ pub fn mack_of(f: &[u8]) -> [u8; 60]
     ensures { result ≡ Rule.mack_of f.now 15 }
 {
     let mut mack = [0u8; 60];
-    let mut i: usize = 0;
-    while i < 15 {
+    for i in 0..15 {
         buffer::copy_part(&mut mack, 4 * i, f, 5 * i + 1, 4);
-        i += 1;
     }
     mack
 }
@@ -55,6 +51,7 @@ pub fn mack_of(f: &[u8]) -> [u8; 60]
 // ---- an HKROOT section
 
 // The NMA header.
+#[tactic(auto, unfolding(rules::specs::Gather::header_of))]
 pub fn header_of(hk: &[u8; 15]) -> u8
     ensures { result ≡ Rule.header_of hk.now }
 {
@@ -62,6 +59,7 @@ pub fn header_of(hk: &[u8; 15]) -> u8
 }
 
 // The NMA status of a header.
+#[tactic(auto, unfolding(rules::specs::Gather::status_of))]
 pub fn status_of(header: u8) -> u8
     ensures { result ≡ Rule.status_of header }
 {
@@ -69,6 +67,7 @@ pub fn status_of(header: u8) -> u8
 }
 
 // The CID of a header.
+#[tactic(auto, unfolding(rules::specs::Gather::cid_of))]
 pub fn cid_of(header: u8) -> u8
     ensures { result ≡ Rule.cid_of header }
 {
@@ -76,30 +75,30 @@ pub fn cid_of(header: u8) -> u8
 }
 
 // The DSM ID.
+#[tactic(auto, unfolding(rules::specs::Gather::dsm_id_of))]
 pub fn dsm_id_of(hk: &[u8; 15]) -> usize
     ensures { (result ≡ Rule.dsm_id_of hk.now) × (result < 16) }
 {
-    bitfields::index(hk[1]) / 16 % 16
+    usize::from(hk[1]) / 16 % 16
 }
 
 // The block ID.
+#[tactic(auto, unfolding(rules::specs::Gather::block_id_of))]
 fn block_id_of(hk: &[u8; 15]) -> usize
     ensures { (result ≡ Rule.block_id_of hk.now) × (result < 16) }
 {
-    bitfields::index(hk[1]) % 16
+    usize::from(hk[1]) % 16
 }
 
 // The blocks that an NB names, 7 to 16; 0 for a reserved one.
+#[tactic(auto, unfolding(rules::specs::Gather::blocks_for))]
 fn blocks_for(nb: u8) -> usize
     ensures { result ≡ Rule.blocks_for nb }
 {
-    if nb < 1 {
-        return 0;
+    match nb {
+        1..=10 => nb as usize + 6,
+        _ => 0,
     }
-    if 10 < nb {
-        return 0;
-    }
-    nb as usize + 6
 }
 
 // The blocks that the block 0 at a place names.
@@ -111,18 +110,17 @@ pub fn total_of(s: &[u8], at: usize) -> usize
 }
 
 // Whether this is a block 0 with a reserved NB.
+#[tactic(auto, unfolding(rules::specs::Gather::reserved_count))]
 fn reserved_count(hk: &[u8; 15]) -> bool
     ensures { result ≡ Rule.reserved_count hk.now }
 {
-    if block_id_of(hk) != 0 {
-        return false;
-    }
-    total_of(hk, 2) == 0
+    block_id_of(hk) == 0 && total_of(hk, 2) == 0
 }
 
 // ---- marks of the blocks present
 
 // Whether block k is present.
+#[tactic(auto, unfolding(rules::specs::Gather::marked))]
 pub fn marked(present: u16, k: usize) -> bool
     requires { k < 16 }
     ensures { result ≡ Rule.marked present k }
@@ -135,10 +133,10 @@ fn with_mark(present: u16, k: usize) -> u16
     ensures { result ≡ Rule.with_mark present k }
 {
     if marked(present, k) {
-        return present;
+        present
+    } else {
+        present + (1 << k)
     }
-    let one: u16 = 1;
-    present + (one << k)
 }
 
 // ---- the four reasons to drop an ID's blocks
@@ -163,23 +161,17 @@ fn other_bytes(blocks: &[u8], present: u16, id: usize, k: usize, hk: &[u8; 15]) 
     requires { (length blocks.now ≡ blocks_length) × ((id < 16) × (k < 16)) }
     ensures { result ≡ Rule.marked present k && not (same (Rule.stored_block blocks.now id k) (Rule.block_of hk.now)) }
 {
-    if !marked(present, k) {
-        return false;
-    }
-    !same_block(blocks, id * 208 + k * 13, hk)
+    marked(present, k) && !same_block(blocks, id * 208 + k * 13, hk)
 }
 
 // It is a block 0 whose count is not above every stored block ID.
 fn count_too_low(present: u16, k: usize, hk: &[u8; 15]) -> bool
     ensures { result ≡ eqb k 0 && neb (present / 2 ^ Rule.total_of (Rule.block_of hk.now)) 0 }
 {
-    if k != 0 {
-        return false;
-    }
-    let total = total_of(hk, 2);
-    present as u32 >> total != 0
+    k == 0 && present as u32 >> total_of(hk, 2) != 0
 }
 
+#[tactic(auto, unfolding(rules::specs::Gather::drops_blocks))]
 fn drops_blocks(
     blocks: &[u8],
     headers: &[u8],
@@ -195,21 +187,14 @@ fn drops_blocks(
 {
     let m = present[id];
     let k = block_id_of(hk);
-    if too_old(since[id], t) {
-        return true;
-    }
-    let held = headers[id];
-    let header = header_of(hk);
-    if held != header {
-        return true;
-    }
-    if other_bytes(blocks, m, id, k, hk) {
-        return true;
-    }
-    count_too_low(m, k, hk)
+    too_old(since[id], t)
+        || headers[id] != header_of(hk)
+        || other_bytes(blocks, m, id, k, hk)
+        || count_too_low(m, k, hk)
 }
 
 // The marks that are left of an ID's blocks when this one comes.
+#[tactic(auto, unfolding(rules::specs::Gather::kept_marks))]
 fn kept_marks(
     blocks: &[u8],
     headers: &[u8],
@@ -224,9 +209,10 @@ fn kept_marks(
         hk.now }
 {
     if drops_blocks(blocks, headers, present, since, t, id, hk) {
-        return 0;
+        0
+    } else {
+        present[id]
     }
-    present[id]
 }
 
 // Whether a block ID is not below the count of the block 0 held, of the blocks that are left.
@@ -234,10 +220,7 @@ fn too_high(blocks: &[u8], kept: u16, id: usize, k: usize) -> bool
     requires { (length blocks.now ≡ blocks_length) × (id < 16) }
     ensures { result ≡ Rule.marked kept 0 && leb (Rule.total_of (Rule.stored_block blocks.now id 0)) k }
 {
-    if !marked(kept, 0) {
-        return false;
-    }
-    total_of(blocks, id * 208) <= k
+    marked(kept, 0) && total_of(blocks, id * 208) <= k
 }
 
 // ---- a block in its place
@@ -246,10 +229,7 @@ fn too_high(blocks: &[u8], kept: u16, id: usize, k: usize) -> bool
 fn first_time(kept: u16, t: u32, held: u32) -> u32
     ensures { result ≡ cond (eqb kept 0) t held }
 {
-    if kept == 0 {
-        return t;
-    }
-    held
+    if kept == 0 { t } else { held }
 }
 
 fn put_block(
@@ -290,7 +270,7 @@ fn take_out(blocks: &[u8], present: &mut [u16], id: usize) -> Gathered
         return Gathered::Stored;
     }
     let total = total_of(blocks, id * 208);
-    if u16::count_ones(m) as usize != total {
+    if m.count_ones() as usize != total {
         return Gathered::Stored;
     }
     present[id] = 0;

@@ -8,7 +8,7 @@
 //   names_offer, chain_unchanged      a verdict against what waits; a new root against the chain in force
 //   cidkr, ks, root_seconds           fields of contents: the 44 bytes after the first of a DSM, a message or the chain's region
 //   key_width, least_blocks           bytes of a key by its KS code; blocks that a message fits
-ghost use Rattle.std.specs.Prelude.{◌≡◌, ◌∷◌, ℕ, ◌+◌, ◌≤◌, ◌<◌, length};
+ghost use Rattle.std.specs.Prelude.{◌≡◌, ◌∷◌, ℕ, ◌+◌, ◌*◌, ◌≤◌, ◌<◌, ltb, length};
 ghost use Rattle.laws.specs.Lists.{part};
 ghost use Rattle.rules.specs.Bits.{filled};
 ghost use Rattle.rules.specs.Chain.{hash_bytes};
@@ -16,7 +16,6 @@ ghost use Rattle.rules.specs.Kroot as S;
 ghost use Rattle.rules.specs.Refusals.{answer_number};
 ghost use Rattle.rules.specs.State.{config_length, pubkeys_length, offer_length, chain_length, contents_length};
 ghost use Rattle.rules.specs.Verdict.{names_offer, chain_unchanged};
-ghost use Rattle.kroot.specs.Groups as G;
 
 use rules::{Chain, Refusal};
 
@@ -75,27 +74,23 @@ fn pkid(d: &[u8]) -> u8
 }
 
 // The least number of blocks that n bytes fit.
+#[tactic(auto, unfolding(rules::specs::Kroot::least_blocks))]
 pub fn least_blocks(n: usize) -> usize
     requires { n < 65536 }
     ensures { result ≡ S.least_blocks n }
 {
-    if n <= 91 {
-        return 7;
-    }
-    (n + 12) / 13
+    if n <= 91 { 7 } else { (n + 12) / 13 }
 }
 
 // ---- the chain
 
 // Whether a chain is in force.
+#[tactic(auto, unfolding(rules::specs::Kroot::in_force))]
 pub fn in_force(config: &[u8], chain: &[u8]) -> bool
     requires { (length config.now ≡ config_length) × (length chain.now ≡ chain_length) }
     ensures { result ≡ S.in_force config.now chain.now }
 {
-    if chain[0] != 1 {
-        return false;
-    }
-    !parameters_bad(config, chain_contents(chain))
+    chain[0] == 1 && !parameters_bad(config, chain_contents(chain))
 }
 
 // The contents that were put in force last.
@@ -114,97 +109,82 @@ pub fn chain_with(ns: u64, c: &[u8]) -> Chain
     let width = key_width(ks(c));
     let bits = tag_width(ms(c));
     let blocks = nmack(c);
-    let root = root_seconds(c);
-    let fields = fields_for(blocks, 8 * (width as u64), bits);
-    let alpha = alpha(c);
-    let hf = hf(c);
-    let mf = mf(c);
     Chain {
-        ns: ns,
+        ns,
         nmack: blocks as u64,
-        root: root,
-        alpha: alpha,
-        hf: hf,
-        mf: mf,
-        width: width,
+        root: root_seconds(c),
+        alpha: alpha(c),
+        hf: hf(c),
+        mf: mf(c),
+        width,
         ms: bits,
-        fields: fields,
+        fields: fields_for(blocks, 8 * (width as u64), bits),
     }
 }
 
 // ---- verdicts
 
 // Whether a verdict names what waits: key ID, message and signature.
+#[tactic(auto, unfolding(rules::specs::Verdict::names_offer, rules::specs::Kroot::offer_waits, rules::specs::Kroot::offer_id, rules::specs::Kroot::offer_message, rules::specs::Kroot::offer_signature, laws::specs::Lists::part))]
 pub fn names_offer(offer: &[u8], id: u8, message: &[u8], signature: &[u8]) -> bool
     requires { length offer.now ≡ offer_length }
     ensures { (good : ℕ) →
         result ≡ names_offer offer.now (record { good = good; id = id; message = message.now; signature = signature.now }) }
 {
-    if offer[0] != 1 {
-        return false;
-    }
-    if offer[1] % 16 != id {
-        return false;
-    }
-    if !buffer::equal(&offer[2..47], message) {
-        return false;
-    }
-    buffer::equal(&offer[47..179], signature)
+    offer[0] == 1
+        && offer[1] % 16 == id
+        && buffer::equal(&offer[2..47], message)
+        && buffer::equal(&offer[47..179], signature)
 }
 
 // Whether two contents are of one chain: CID, parameters and α.
+#[tactic(auto, unfolding(rules::specs::Verdict::chain_unchanged, rules::specs::Kroot::alpha_of, laws::specs::Lists::part))]
 pub fn chain_unchanged(a: &[u8], b: &[u8]) -> bool
     requires { (contents_length ≤ length a.now) × (contents_length ≤ length b.now) }
     ensures { result ≡ chain_unchanged a.now b.now }
 {
-    functions_same(a, b) & (widths_same(a, b) & buffer::equal(&a[6..12], &b[6..12]))
-}
-
-// CID, NMACK, HF and MF are equal.
-fn functions_same(a: &[u8], b: &[u8]) -> bool
-    requires { (contents_length ≤ length a.now) × (contents_length ≤ length b.now) }
-    ensures { result ≡ G.functions_same a.now b.now }
-{
-    (cidkr(a) == cidkr(b)) & ((nmack(a) == nmack(b)) & ((hf(a) == hf(b)) & (mf(a) == mf(b))))
-}
-
-// KS, MS, MACLT and MO are equal.
-fn widths_same(a: &[u8], b: &[u8]) -> bool
-    requires { (contents_length ≤ length a.now) × (contents_length ≤ length b.now) }
-    ensures { result ≡ G.widths_same a.now b.now }
-{
-    (ks(a) == ks(b)) & ((ms(a) == ms(b)) & ((maclt_field(a) == maclt_field(b)) & (mo(a) == mo(b))))
+    cidkr(a) == cidkr(b)
+        && nmack(a) == nmack(b)
+        && hf(a) == hf(b)
+        && mf(a) == mf(b)
+        && ks(a) == ks(b)
+        && ms(a) == ms(b)
+        && maclt_field(a) == maclt_field(b)
+        && mo(a) == mo(b)
+        && buffer::equal(&a[6..12], &b[6..12])
 }
 
 // ---- row 8 of the table
 
 // Whether contents have a parameter that is refused.
+#[tactic(auto, unfolding(rules::specs::Kroot::parameters_bad))]
 fn parameters_bad(config: &[u8], c: &[u8]) -> bool
     requires { (length config.now ≡ config_length) × (contents_length ≤ length c.now) }
     ensures { result ≡ S.parameters_bad config.now c.now }
 {
-    functions_bad(c) | (widths_bad(config, c) | root_time_bad(c))
-}
-
-// HF or MF that is refused; MO not 0; NMACK 0.
-fn functions_bad(c: &[u8]) -> bool
-    requires { contents_length ≤ length c.now }
-    ensures { result ≡ G.functions_bad c.now }
-{
-    hf_bad(c) | (mf_bad(c) | ((mo(c) != 0) | (nmack(c) == 0)))
+    hf_bad(c)
+        || mf_bad(c)
+        || mo(c) != 0
+        || nmack(c) == 0
+        || 8 < ks(c)
+        || 9 < ms(c)
+        || maclt_field(c) != regions::maclt_of(config)
+        || block_short(c)
+        || 167 < root_hour(c)
+        || (root_week(c) == 0 && root_hour(c) == 0)
 }
 
 // HF above 2, or a key that is longer than a digest.
+#[tactic(auto, unfolding(rules::specs::Kroot::hf_bad))]
 fn hf_bad(c: &[u8]) -> bool
     requires { contents_length ≤ length c.now }
     ensures { result ≡ S.hf_bad c.now }
 {
-    let f = hf(c);
-    let width = key_width(ks(c));
-    (2 < f) | (hash_bytes(f) < width)
+    2 < hf(c) || hash_bytes(hf(c)) < key_width(ks(c))
 }
 
 // Bytes of a digest, by HF.
+#[tactic(auto, unfolding(rules::specs::Chain::hash_bytes))]
 fn hash_bytes(hf: u8) -> usize
     ensures { result ≡ hash_bytes hf }
 {
@@ -212,69 +192,68 @@ fn hash_bytes(hf: u8) -> usize
 }
 
 // MF above 1, or 1 with a key that is none of AES.
+#[tactic(auto, unfolding(rules::specs::Kroot::mf_bad))]
 fn mf_bad(c: &[u8]) -> bool
     requires { contents_length ≤ length c.now }
     ensures { result ≡ S.mf_bad c.now }
 {
-    let f = mf(c);
-    let width = key_width(ks(c));
-    (1 < f) | ((f == 1) & !aes_width(width))
+    1 < mf(c) || (mf(c) == 1 && !aes_width(key_width(ks(c))))
 }
 
 // Whether a key of so many bytes is an AES key.
+#[tactic(auto, unfolding(rules::specs::Kroot::aes_width))]
 fn aes_width(width: usize) -> bool
     ensures { result ≡ S.aes_width width }
 {
-    (width == 16) | ((width == 24) | (width == 32))
+    matches!(width, 16 | 24 | 32)
 }
 
-// KS code above 8, MS code above 9; other MACLT; block shorter than KS + MS + 16.
-fn widths_bad(config: &[u8], c: &[u8]) -> bool
-    requires { (length config.now ≡ config_length) × (contents_length ≤ length c.now) }
-    ensures { result ≡ G.widths_bad config.now c.now }
-{
-    let k = ks(c);
-    let m = ms(c);
-    let used = 8 * (key_width(k) as u64) + tag_width(m) + 16;
-    let block = bitfields::block_bits(bitfields::wide(nmack(c)));
-    let maclt = regions::maclt_of(config);
-    (8 < k) | ((9 < m) | ((maclt_field(c) != maclt) | (block < used)))
-}
-
-// Hour above 167; week 0 hour 0.
-fn root_time_bad(c: &[u8]) -> bool
+// A block is shorter than KS + MS + 16.
+fn block_short(c: &[u8]) -> bool
     requires { contents_length ≤ length c.now }
-    ensures { result ≡ G.root_time_bad c.now }
+    ensures { result ≡ ltb (S.block_bits (S.nmack_of c.now)) (8 * S.key_width (S.ks_of c.now) + S.tag_width (S.ms_of c.now) + 16) }
 {
-    let hour = root_hour(c);
-    (167 < hour) | ((root_week(c) == 0) & (hour == 0))
+    let used = 8 * (key_width(ks(c)) as u64) + tag_width(ms(c)) + 16;
+    bitfields::block_bits(nmack(c) as u64) < used
 }
 
 // ---- widths
 
-// Tables hold bytes: each use copies its table to the stack.
-const KEY_WIDTHS: [u8; 9] = [12, 13, 14, 15, 16, 20, 24, 28, 32];
-
-const TAG_WIDTHS: [u8; 10] = [10, 12, 14, 16, 18, 20, 24, 28, 32, 40];
-
 // Bytes of a key by its KS code (000, table 12).
+#[tactic(auto, unfolding(rules::specs::Kroot::key_width))]
 pub fn key_width(code: u8) -> usize
     ensures { result ≡ S.key_width code }
 {
-    if 8 < code {
-        return 32;
+    match code {
+        0 => 12,
+        1 => 13,
+        2 => 14,
+        3 => 15,
+        4 => 16,
+        5 => 20,
+        6 => 24,
+        7 => 28,
+        _ => 32,
     }
-    KEY_WIDTHS[code as usize] as usize
 }
 
 // Bits of a tag by its MS code (000, table 13).
+#[tactic(auto, unfolding(rules::specs::Kroot::tag_width))]
 fn tag_width(code: u8) -> u64
     ensures { result ≡ S.tag_width code }
 {
-    if 9 < code {
-        return 40;
+    match code {
+        0 => 10,
+        1 => 12,
+        2 => 14,
+        3 => 16,
+        4 => 18,
+        5 => 20,
+        6 => 24,
+        7 => 28,
+        8 => 32,
+        _ => 40,
     }
-    TAG_WIDTHS[code as usize] as u64
 }
 
 // Fields of a MACK block, for a key of ks bits and tags of ms bits.
@@ -282,7 +261,7 @@ fn fields_for(nmack: u8, ks: u64, ms: u64) -> u64
     requires { ms < 256 }
     ensures { result ≡ S.fields_for nmack ks ms }
 {
-    let block = bitfields::block_bits(bitfields::wide(nmack));
+    let block = bitfields::block_bits(nmack as u64);
     if block < ks {
         return 0;
     }
@@ -290,6 +269,9 @@ fn fields_for(nmack: u8, ks: u64, ms: u64) -> u64
 }
 
 // ---- fields of contents (000, table 7)
+
+// Three of them are public and ask for 44 bytes of a lent slice, as `chain_with` and `chain_unchanged` do, so each takes the slice: a struct
+// round it would be made anew in each of those calls.
 
 pub fn cidkr(c: &[u8]) -> u8
     requires { contents_length ≤ length c.now }
@@ -351,7 +333,7 @@ fn root_week(c: &[u8]) -> u64
     requires { contents_length ≤ length c.now }
     ensures { result ≡ S.root_week_of c.now }
 {
-    bitfields::wide(c[3]) % 16 * 256 + bitfields::wide(c[4])
+    u64::from(c[3]) % 16 * 256 + u64::from(c[4])
 }
 
 fn root_hour(c: &[u8]) -> u8
@@ -366,7 +348,7 @@ pub fn root_seconds(c: &[u8]) -> u64
     requires { contents_length ≤ length c.now }
     ensures { result ≡ S.root_seconds_of c.now }
 {
-    times::hour_seconds(root_week(c), bitfields::wide(root_hour(c)))
+    times::hour_seconds(root_week(c), root_hour(c) as u64)
 }
 
 // The chain's pattern α.

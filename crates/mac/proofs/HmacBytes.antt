@@ -4,11 +4,12 @@ use mathlib.Core.Path.{◌≡◌, refl, sym, ◌∙◌}
 use mathlib.Core.List.{List, [], ◌∷◌, ◌++◌, append_assoc}
 use Prim.Native.Nat.{ℕ, ◌+◌, ◌-◌, ◌*◌, ◌/◌, ◌%◌, ◌^◌, ◌<◌}
 use native.Mathlib.Omega.{arith}
-use lib.ListN.{length, replicate, length-replicate}
+use borrow.Rule.Slice.PartMut.{put_mid}
+use lib.ListN.{length, drop, replicate, length-append}
+use lib.Seq.{take_at, drop_at}
 use Rattle.laws.specs.Bytes.{be4, u32at}
-use Rattle.laws.specs.Lists.{splice}
 use Rattle.laws.proofs.Numbers.{u32at-be4}
-use Rattle.laws.proofs.Splice.{splice-after, splice-start, splice_whole}
+use Rattle.laws.proofs.Splice.{drop-replicate}
 use Rattle.sha256.specs.Sha256 as S
 use Rattle.hmac.specs.Hmac.{key_of, inner_pad, outer_pad}
 use Rattle.hmac.specs.declared.HmacKey.{HmacKey}
@@ -51,16 +52,17 @@ unfolding S.compress S.sums
 second_back h b rest = eight_past _ _ _ _ _ _ _ _ rest
 
 -- two pieces put after each other into zeros
-pub put_is : (h : HmacKey) (k : List ℕ) {i o z d e : List ℕ} → length k ≡ 273 → length i ≡ 32 → length o ≡ 32 → i ≡ S.bytes h.inner → o ≡ S.bytes h.outer
-    → z ≡ splice k 0 (replicate 273 0) → d ≡ splice z 0 i → e ≡ splice d 32 o → e ≡ hmac_kept h
-unfolding hmac_kept filled
-put_is h k {i} {o} lk li lo p q t r s =
-    let zeros : List ℕ = replicate 273 0 in
-    let room : length zeros ≡ 273 = length-replicate {A = ℕ} 273 0 in
-    s
-    ∙ rw (r, t, splice_whole k zeros (room ∙ sym lk)) (splice-after zeros 0 32 i o (omega (arith, li)) (omega (arith, room, lo)))
-    ∙ splice-start 273 0 (i ++ o)
-    ∙ rw (p, q)
+laid_in : (n : ℕ) (x y z : List ℕ) → length x ≡ 32 → length y ≡ 32 → z ≡ replicate n 0 → put_mid 32 32 (x ++ drop 32 z) y ≡ filled n (x ++ y)
+unfolding filled
+laid_in n x y z p q e =
+    let d : n - length (x ++ y) ≡ n - 32 - 32 = simp length-append (omega arith) in
+    rw (e, drop-replicate 32 n 0, take_at x (replicate (n - 32) 0) 32 p, drop_at x (replicate (n - 32) 0) 32 p, drop-replicate 32 (n - 32) 0, d)
+    (sym (append_assoc x y (replicate (n - 32 - 32) 0)))
+
+pub put_is : (h : HmacKey) {x y z : List ℕ} → length x ≡ 32 → length y ≡ 32 → x ≡ S.bytes h.inner → y ≡ S.bytes h.outer → z ≡ replicate 273 0
+    → put_mid 32 32 (x ++ drop 32 z) y ≡ hmac_kept h
+unfolding hmac_kept
+put_is h {x} {y} {z} p q i o e = laid_in 273 x y z p q e ∙ rw (i, o)
 
 -- the two hash values of a key, read from what was put
 pub key_back : (k d i o : List ℕ) → d ≡ hmac_kept (key_of k) → i ≡ words_at d 0 → o ≡ words_at d 32 → ◌≡◌ {A = HmacKey} (record { inner = i; outer = o }) (key_of k)

@@ -12,16 +12,18 @@ ghost use Rattle.mac.specs.Kept.{kept_of, hmac_kept, words_at};
 
 use hmac::HmacKey;
 
+// The MF of CMAC-AES. MF stays the chain's number, as the contracts of the rules have it: any other number is HMAC-SHA-256.
+const CMAC: u8 = 1;
+
 // What is kept of a key.
 pub fn keep(mf: u8, key: &[u8], kept: &mut [u8; 273])
     requires { length key.now ≤ 32 }
     ensures { kept.new ≡ kept_of mf key.now }
 {
-    if mf == 1 {
-        cmac::cmac_key(key, kept);
-        return;
+    match mf {
+        CMAC => cmac::cmac_key(key, kept),
+        _ => put_hmac(hmac::hmac_key(key), kept),
     }
-    put_hmac(hmac::hmac_key(key), kept);
 }
 
 // The first n bits of the code of a message, as a number.
@@ -29,12 +31,10 @@ pub fn mac_bits(mf: u8, n: usize, kept: &[u8; 273], message: &[u8]) -> u64
     requires { (n ≤ 56) × (length message.now ≤ 76) }
     ensures { (k : List ℕ) → kept.now ≡ kept_of mf k → result ≡ mac_bits mf n k message.now }
 {
-    if mf != 1 {
-        let code = hmac::hmac_with(hmac_key_in(kept), message);
-        return bitfields::bits_at(&code, 0, n);
+    match mf {
+        CMAC => bitfields::bits_at(&cmac::cmac_with(kept, message), 0, n),
+        _ => bitfields::bits_at(&hmac::hmac_with(hmac_key_in(kept), message), 0, n),
     }
-    let code = cmac::cmac_with(kept, message);
-    bitfields::bits_at(&code, 0, n)
 }
 
 // ---- HMAC's kept key as bytes
@@ -44,28 +44,22 @@ fn put_hmac(k: HmacKey, kept: &mut [u8])
     requires { length kept.old ≡ 273 }
     ensures { kept.new ≡ hmac_kept k }
 {
-    let inner = k.inner;
-    let outer = k.outer;
-    let i = sha256::bytes(inner);
-    let o = sha256::bytes(outer);
-    buffer::fill(kept, 0, 273, 0);
-    buffer::copy_at(kept, 0, &i);
-    buffer::copy_at(kept, 32, &o);
+    kept.fill(0);
+    kept[..32].copy_from_slice(&sha256::bytes(k.inner));
+    kept[32..64].copy_from_slice(&sha256::bytes(k.outer));
 }
 
 // The two hash values that were put.
 fn hmac_key_in(kept: &[u8; 273]) -> HmacKey
     ensures { (k : List ℕ) → kept.now ≡ hmac_kept (key_of k) → result ≡ key_of k }
 {
-    let inner = words_at(kept, 0);
-    let outer = words_at(kept, 32);
     HmacKey {
-        inner: inner,
-        outer: outer,
+        inner: words_at(kept, 0),
+        outer: words_at(kept, 32),
     }
 }
 
-// Eight words from place `at`.
+// Eight words from place `at`, written out: of the calls in `array::from_fn` its contract does not say that all read the same bytes.
 fn words_at(kept: &[u8; 273], at: usize) -> [u32; 8]
     requires { at + 32 ≤ 273 }
     ensures { result ≡ words_at kept.now at }

@@ -48,14 +48,11 @@ pub fn next_field(c: Chain, m: &[u8], k: Cursor, j: usize) -> Field
     if j % fields + 1 < fields {
         return f;
     }
-    let past = f.next;
-    let used = past.used;
     Field {
-        tag: f.tag,
-        info: f.info,
         next: Cursor {
-            used: used + rest_bits(c),
+            used: f.next.used + rest_bits(c),
         },
+        ..f
     }
 }
 
@@ -64,10 +61,14 @@ pub fn read_field(c: Chain, m: &[u8], j: usize) -> Field
     requires { FieldsFit c × ((j < c.nmack * c.fields) × (length m.now ≡ 60)) }
     ensures { result ≡ field_read c m.now j }
 {
-    let k = Cursor {
-        used: field_place(c, j),
-    };
-    next_field(c, m, k, j)
+    next_field(
+        c,
+        m,
+        Cursor {
+            used: field_place(c, j),
+        },
+        j,
+    )
 }
 
 // The field after the bits used, by the reader.
@@ -75,8 +76,7 @@ fn take_field(c: Chain, m: &[u8], k: Cursor) -> Field
     requires { (k.used + (c.ms + 16) ≤ 480) × ((c.ms ≤ 40) × (length m.now ≡ 60)) }
     ensures { result ≡ field_taken c m.now k }
 {
-    let used = k.used;
-    let f = mack_reader::take_field(m, used, c.ms as usize);
+    let f = mack_reader::take_field(m, k.used, c.ms as usize);
     Field {
         tag: f.tag,
         info: f.info as u16,
@@ -85,6 +85,7 @@ fn take_field(c: Chain, m: &[u8], k: Cursor) -> Field
 }
 
 // MACSEQ, after tag0.
+#[tactic(auto, unfolding(rules::specs::Mack::macseq_of))]
 pub fn macseq_of(c: Chain, m: &[u8]) -> u64
     requires { (c.ms ≤ 40) × (length m.now ≡ 60) }
     ensures { result ≡ S.macseq_of c m.now }
@@ -106,13 +107,11 @@ pub fn next_key(c: Chain, m: &[u8], k: Cursor, b: u64) -> Block
     requires { KeysFit c × ((k.used ≡ S.block_at c b) × (((1 ≤ b) × (b ≤ c.nmack)) × (length m.now ≡ 60))) }
     ensures { result ≡ block_read c m.now b }
 {
-    let used = k.used;
-    let width = c.width;
     let fields = (c.fields * (c.ms + 16)) as usize;
-    let t = mack_reader::take_block(m, used, fields, width, rest_bits(c) - 8 * width);
+    let t = mack_reader::take_block(m, k.used, fields, c.width, rest_bits(c) - 8 * c.width);
     let key = t.key;
     Block {
-        key: key,
+        key,
         spare: t.spare,
         next: Cursor { used: t.used },
     }

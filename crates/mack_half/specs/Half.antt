@@ -1,5 +1,5 @@
 -- The MACK half of a sub-frame: what it gives, and a state whose held key, waiting tags and authentic sets may be others.
-use Rattle.std.specs.Prelude.{ℕ, ◌+◌, ◌*◌, ◌≤◌, ◌<◌, ◌≡◌, true, List, length}
+use Rattle.std.specs.Prelude.{ℕ, Result, Ok, Err, ◌+◌, ◌*◌, ◌≤◌, ◌<◌, ◌≡◌, true, List, length}
 use Rattle.laws.specs.Lists.{splice}
 use Rattle.rules.specs.Calls.{MackDone}
 use Rattle.rules.specs.Chain.{sent_slot, key_slot}
@@ -7,6 +7,7 @@ use Rattle.rules.specs.Received.{key_came}
 use Rattle.rules.specs.State.{State, Tesla, Auth, with_tesla, with_auth}
 use Rattle.rules.specs.Tags.{entry_at}
 use Rattle.rules.specs.declared.Chain.{Chain}
+use Rattle.rules.specs.declared.Refusal.{Refusal}
 use Rattle.chain.specs.declared.Way.{Way}
 use Rattle.due_tag_keys.specs.Outcomes.{entry_slot, TagOfSlot}
 
@@ -16,6 +17,11 @@ tesla numbers heldkey waiting = record { numbers = numbers; key = heldkey; waiti
 
 abbrev pub judging : State → Tesla → Auth → State
 judging s tesla auth = with_auth (with_tesla s tesla) auth
+
+-- how many records the half wrote: none where it is refused
+abbrev pub records_written : Result ℕ Refusal → ℕ
+records_written (Ok n) = n
+records_written (Err _) = 0
 
 -- the number, the count of records, the state and the record area are those of m: the records stand at the front of the area, the bytes
 -- past them stay

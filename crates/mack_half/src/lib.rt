@@ -9,6 +9,7 @@ ghost use Rattle.rules.specs.Bits.{filled};
 ghost use Rattle.rules.specs.Calls.{section_unfit, mack_half};
 ghost use Rattle.rules.specs.Chain.{held};
 ghost use Rattle.rules.specs.Kroot.{in_force};
+ghost use Rattle.rules.specs.Refusals.{answer_number};
 ghost use Rattle.rules.specs.Received.{field_came, keys_received, fields_judged};
 ghost use Rattle.rules.specs.State.{State, config_length, chain_length, numbers_length, heldkey_length, waiting_length, area_length, sets_length, stamps_length, words_length, arrivals_length};
 ghost use Rattle.rules.specs.Tags.{dues_judged};
@@ -18,11 +19,11 @@ ghost use Rattle.navdata.specs.Pieces.{nav};
 ghost use Rattle.tag_records.specs.Told.{start, Leaves};
 ghost use Rattle.tags.specs.Layout.{Laid, section};
 ghost use Rattle.mack_keys.specs.Keys.{Hands};
-ghost use Rattle.mack_half.specs.Half.{tesla, judging, Gives, WalkedOnce};
+ghost use Rattle.mack_half.specs.Half.{tesla, judging, records_written, Gives, WalkedOnce};
 
 use chain::Way;
 use mack_keys::Keys;
-use rules::Chain;
+use rules::{Chain, Refusal};
 
 // ---- the held key
 
@@ -63,11 +64,11 @@ fn prove_keys(
 ) -> Keys
     requires sound { Sound c × ((length mack.now ≡ 60) × ((slot < 2 ^ 34) × (length key.old ≡ 32))) }
     requires waiting_len { (length waiting.now ≡ waiting_length) × (n ≤ 256) }
-    ensures { Hands (keys_received c time prn mack.now marks (held slot (take c.width key.old)) c.nmack) result.code
-        result.slot key.old key.new
+    ensures { Hands (keys_received c time prn mack.now marks (held slot (take c.width key.old)) c.nmack)
+        (answer_number result.judged) result.slot key.old key.new
         × ((result.slot < 2 ^ 34)
         × (OnWay c (held result.slot (take c.width key.new)) result.way
-        × WalkedOnce c waiting.now n slot time prn marks result.code result.slot result.way)) }
+        × WalkedOnce c waiting.now n slot time prn marks (answer_number result.judged) result.slot result.way)) }
 {
     let last = chain::sent_slot(c, time, c.nmack, prn);
     let own = chain::key_slot(c, time, c.nmack as u8, 0);
@@ -123,9 +124,8 @@ fn judge_tags(
         ≡ result.records * 12)
         × (result.records ≤ 270)) }
 {
-    let met = way.met;
     let stay = due_tags::judge_due(
-        c, slot, key, way.near, met, waiting, n, sets, arrivals, area,
+        c, slot, key, way.near, way.met, waiting, n, sets, arrivals, area,
     );
     let told = n - stay;
     let fields = (c.nmack * c.fields) as usize;
@@ -134,19 +134,12 @@ fn judge_tags(
         sets, arrivals, area, told,
     );
     Judged {
-        kept: kept,
+        kept,
         records: told + fields,
     }
 }
 
 // ---- the half
-
-// What the half gives: its number, and how many tag records were written.
-#[derive(Clone, Copy)]
-pub struct Mack {
-    pub code: u32,
-    pub count: usize,
-}
 
 // A section that neither 17 nor row 11 refuses: its keys are proved, then tags are judged, and the highest key proved is held.
 fn judge_section(
@@ -165,7 +158,7 @@ fn judge_section(
     marks: u16,
     header: u8,
     mack: &[u8],
-) -> Mack
+) -> Result<usize, Refusal>
     requires config_len { ((length config.now ≡ config_length) × (length words.now ≡ words_length))
         × ((length stamps.now ≡ stamps_length) × (length mack.now ≡ 60)) }
     requires sets_len { ((length sets.old ≡ sets_length) × (length arrivals.old ≡ arrivals_length))
@@ -175,23 +168,17 @@ fn judge_section(
     ensures { ((s : State) → s.config ≡ config.now → s.nav ≡ nav words.now stamps.now → s.chain ≡ chain.now →
         s.tesla ≡ tesla numbers.old heldkey.old waiting.old →
         s.auth ≡ auth sets.old arrivals.old → field_came marks 0 ≡ true → section_unfit s time header ≡ false →
-        Gives (mack_half s prn time marks header mack.now) result.code result.count
+        Gives (mack_half s prn time marks header mack.now) (answer_number result) (records_written result)
         (judging s (tesla numbers.new heldkey.new waiting.new) (auth sets.new arrivals.new))
         area.old area.new)
-        × (result.count ≤ 270) }
+        × (records_written result ≤ 270) }
 {
     let c = section_checks::chain_of(config, chain);
     let slot = regions::held_slot(numbers);
     let n = regions::waiting_count(numbers);
     let mut key = held_key(heldkey, c.width);
     let p = prove_keys(c, time, prn, mack, marks, slot, waiting, n, &mut key);
-    if p.code != 0 {
-        return Mack {
-            code: p.code,
-            count: 0,
-        };
-    }
-    let way = p.way;
+    p.judged?;
     let w = judge_tags(
         config,
         words,
@@ -199,7 +186,7 @@ fn judge_section(
         c,
         p.slot,
         key,
-        way,
+        p.way,
         prn,
         time,
         gather::status_of(header),
@@ -212,14 +199,12 @@ fn judge_section(
         area,
     );
     hold(numbers, heldkey, p.slot, w.kept, key);
-    Mack {
-        code: 0,
-        count: w.records,
-    }
+    Ok(w.records)
 }
 
 // The MACK section of a sub-frame, 60 bytes, that satellite `prn` sent at `time` with this NMA header, and the marks of the fields that came.
-// Records stand one after the other at the front of `area`; the other bytes stay.
+// Records stand one after the other at the front of `area`; the other bytes stay. Gives how many were written.
+// The regions come one by one, as C lends them, and the section as `call_subframe` has it.
 pub fn mack_half(
     config: &[u8],
     words: &[u8],
@@ -236,7 +221,7 @@ pub fn mack_half(
     marks: u16,
     header: u8,
     mack: &[u8],
-) -> Mack
+) -> Result<usize, Refusal>
     requires config_len { ((length config.now ≡ config_length) × (length words.now ≡ words_length))
         × ((length stamps.now ≡ stamps_length) × (length mack.now ≡ 60)) }
     requires sets_len { ((length sets.old ≡ sets_length) × (length arrivals.old ≡ arrivals_length))
@@ -245,16 +230,16 @@ pub fn mack_half(
     ensures { ((s : State) → s.config ≡ config.now → s.nav ≡ nav words.now stamps.now → s.chain ≡ chain.now →
         s.tesla ≡ tesla numbers.old heldkey.old waiting.old →
         s.auth ≡ auth sets.old arrivals.old →
-        Gives (mack_half s prn time marks header mack.now) result.code result.count
+        Gives (mack_half s prn time marks header mack.now) (answer_number result) (records_written result)
         (judging s (tesla numbers.new heldkey.new waiting.new) (auth sets.new arrivals.new))
         area.old area.new)
-        × (result.count ≤ 270) }
+        × (records_written result ≤ 270) }
 {
     if !received::field_came(marks, 0) {
-        return Mack { code: 17, count: 0 };
+        return Err(Refusal::FieldsMissing);
     }
     if section_checks::section_unfit(config, chain, time, header) {
-        return Mack { code: 11, count: 0 };
+        return Err(Refusal::NotInForce);
     }
     judge_section(
         config, words, stamps, chain, numbers, heldkey, waiting, sets, arrivals, area, prn, time,

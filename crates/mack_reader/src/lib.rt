@@ -62,8 +62,7 @@ pub fn take_macseq(section: &[u8], ms: usize) -> u64
     requires { (length section.now ≡ 60) × (ms ≤ 40) }
     ensures { result ≡ bits section.now ms 12 }
 {
-    let macseq = Reader::over(section, 0).skip(ms).take(12);
-    macseq.value
+    Reader::over(section, 0).skip(ms).take(12).value
 }
 
 // ---- the reader
@@ -102,15 +101,9 @@ impl<'a> Reader<'a> {
         requires { Left self n }
         ensures { result ≡ taken self.entry n }
     {
-        let section = self.section;
-        let used = self.used;
-        let value = number_at(section, used, n);
         Read {
-            value,
-            next: Reader {
-                section,
-                used: used + n,
-            },
+            value: bitfields::bits_at(self.section, self.used, n),
+            next: self.skip(n),
         }
     }
 
@@ -120,8 +113,8 @@ impl<'a> Reader<'a> {
         ensures { result ≡ after self.entry n }
     {
         Reader {
-            section: self.section,
             used: self.used + n,
+            ..self
         }
     }
 
@@ -130,35 +123,11 @@ impl<'a> Reader<'a> {
         requires { KeyLeft self n }
         ensures { result ≡ key_taken self.entry n }
     {
-        let section = self.section;
-        let used = self.used;
-        let key = key_at(section, used, n);
+        let mut key = [0u8; 32];
+        bitfields::bytes_at(self.section, self.used, n, &mut key);
         KeyRead {
             key,
-            next: Reader {
-                section,
-                used: used + 8 * n,
-            },
+            next: self.skip(8 * n),
         }
     }
-}
-
-// ---- the work
-
-// The number in the n bits from a place on.
-fn number_at(section: &[u8], used: usize, n: usize) -> u64
-    requires { (length section.now ≡ 60) × ((used + n ≤ 480) × (n ≤ 56)) }
-    ensures { result ≡ bits section.now used n }
-{
-    bitfields::bits_at(section, used, n)
-}
-
-// The n bytes from a place on, in the first of 32; zeros follow.
-fn key_at(section: &[u8], used: usize, n: usize) -> [u8; 32]
-    requires { (length section.now ≡ 60) × ((used + 8 * n ≤ 480) × (n ≤ 32)) }
-    ensures { result ≡ splice (replicate 32 0) 0 (bytes_at section.now used n) }
-{
-    let mut key = [0u8; 32];
-    bitfields::bytes_at(section, used, n, &mut key);
-    key
 }

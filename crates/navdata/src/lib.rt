@@ -68,6 +68,7 @@ fn word_issue(words: &[u8], prn: usize, kind: usize) -> u64
 }
 
 // Words 1 to 4 have one IODnav.
+#[tactic(auto, unfolding(rules::specs::Navdata::one_issue, rules::specs::Navdata::word_came))]
 fn one_issue(words: &[u8], prn: usize) -> bool
     requires { (length words.now ≡ words_length) × ((1 ≤ prn) × (prn ≤ 36)) }
     ensures { (stamps : List ℕ) →
@@ -78,20 +79,22 @@ fn one_issue(words: &[u8], prn: usize) -> bool
     let two = word_issue(words, prn, 2) == issue;
     let three = word_issue(words, prn, 3) == issue;
     let four = word_issue(words, prn, 4) == issue;
-    bools::both(two, bools::both(three, four))
+    two && three && four
 }
 
 // A word of the type is held, and came in an earlier sub-frame than t.
+#[tactic(auto, unfolding(rules::specs::Navdata::came_before, rules::specs::Navdata::word_came))]
 fn came_before(stamps: &[u32], prn: usize, t: u32, kind: usize) -> bool
     requires { (length stamps.now ≡ stamps_length) × (((1 ≤ prn) × (prn ≤ 36)) × ((1 ≤ kind) × (kind ≤ 5))) }
     ensures { (words : List ℕ) → result ≡ came_before t (word_came (nav words stamps.now) prn kind) }
 {
     let place = word_place(prn, kind);
     let stamp = stamps[place];
-    bools::both(1 <= stamp, stamp <= t)
+    1 <= stamp && stamp <= t
 }
 
-// A satellite's set can be used for a section of sub-frame t.
+// A satellite's set can be used for a section of sub-frame t. The words are asked one by one, as in the definition: a loop would be no shorter.
+#[tactic(auto, unfolding(rules::specs::Navdata::usable, rules::specs::Navdata::set_usable))]
 pub fn usable(words: &[u8], stamps: &[u32], prn: usize, t: u32) -> bool
     requires { ((length words.now ≡ words_length) × (length stamps.now ≡ stamps_length)) × ((1 ≤ prn) × (prn ≤ 36)) }
     ensures { result ≡ rules.usable (nav words.now stamps.now) prn t }
@@ -101,8 +104,7 @@ pub fn usable(words: &[u8], stamps: &[u32], prn: usize, t: u32) -> bool
     let three = came_before(stamps, prn, t, 3);
     let four = came_before(stamps, prn, t, 4);
     let five = came_before(stamps, prn, t, 5);
-    let last = bools::both(four, bools::both(five, one_issue(words, prn)));
-    bools::both(one, bools::both(two, bools::both(three, last)))
+    one && two && three && four && five && one_issue(words, prn)
 }
 
 // ---- a set's bytes
@@ -140,13 +142,11 @@ pub fn status_and_set(status: u8, set: &[u8], out: &mut [u8], to: usize)
     requires { (length set.now ≡ 69) × (to + 69 ≤ length out.old) }
     ensures { out.new ≡ splice out.old to (status_and_set status set.now) }
 {
-    let mut before = bitfields::wide(status);
-    let mut i: usize = 0;
-    while i < 64 {
-        let x = nav_sets::get_u64(set, i);
-        nav_sets::put_u64(out, to + i, nav_sets::pair(before, 62, 2, x, 0));
+    let mut before = u64::from(status);
+    for k in 0..8 {
+        let x = nav_sets::get_u64(set, 8 * k);
+        nav_sets::put_u64(out, to + 8 * k, nav_sets::pair(before, 62, 2, x, 0));
         before = x;
-        i += 8;
     }
     let last = (before % 4) * 137438953472 + bitfields::bits_at(set, 512, 37);
     nav_sets::put_five(out, to + 64, last * 2);

@@ -62,6 +62,9 @@ fn renew(pubkeys: &mut [u8], d: &[u8]) -> Result<(), Refusal>
     Ok(())
 }
 
+// An emergency message fills at least 11 blocks of 13 bytes.
+const EMERGENCY_LENGTH: usize = 143;
+
 // Whether the message has another size than its type asks, or an emergency message another key ID than 0.
 fn size_bad(d: &[u8]) -> bool
     requires { 91 ≤ length d.now }
@@ -69,21 +72,20 @@ fn size_bad(d: &[u8]) -> bool
 {
     let kind = new_type(d);
     if kind == 4 {
-        return (d.len() < 143) | (new_id(d) != 0);
+        return d.len() < EMERGENCY_LENGTH || new_id(d) != 0;
     }
-    let blocks = kroot::least_blocks(130 + public_keys::key_length(kind));
-    (4 < kind) | (d.len() != 13 * blocks)
+    4 < kind || d.len() != 13 * kroot::least_blocks(130 + public_keys::key_length(kind))
 }
 
 // ---- the tree
 
 // Whether the leaf, joined with the four nodes, gives the installed root.
+#[tactic(auto, unfolding(rules::specs::Pkr::tree_proved))]
 fn tree_proved(root: &[u8], d: &[u8]) -> bool
     requires { (S.pkr_size_bad d.now ≡ false) × (length d.now ≤ 208) }
     ensures { result ≡ S.tree_proved root.now d.now }
 {
-    let h = climb(d);
-    buffer::equal(&h, root)
+    buffer::equal(&climb(d), root)
 }
 
 // The leaf's hash, joined with the four nodes.
@@ -93,25 +95,27 @@ fn climb(d: &[u8]) -> [u8; 32]
 {
     let mid = d[0] % 16;
     let mut h = leaf_hash(d);
-    let mut j: usize = 0;
-    while j < 4 {
+    // j names the node and the bit of the message ID
+    for j in 0..4 {
         let at = 1 + 32 * j;
+        // by way of g: a result laid straight into h has no generated proof
         let g = join(mid, j, &d[at..at + 32], h);
         h = g;
-        j += 1;
     }
     h
 }
 
 // A hash joined with a node and hashed again: bit j of the message ID puts the node left.
+#[tactic(auto, unfolding(rules::specs::Pkr::joined))]
 fn join(mid: u8, j: usize, node: &[u8], h: [u8; 32]) -> [u8; 32]
     requires { (j < 4) × (length node.now ≡ 32) }
     ensures { result ≡ S.joined mid j node.now h }
 {
     if (mid >> j) % 2 == 1 {
-        return sha256::sha256_of_two(node, &h);
+        sha256::sha256_of_two(node, &h)
+    } else {
+        sha256::sha256_of_two(&h, node)
     }
-    sha256::sha256_of_two(&h, node)
 }
 
 // SHA-256 of the leaf: type, ID and key; an emergency message's key runs to the last byte.
@@ -133,10 +137,7 @@ fn leaf_hash(d: &[u8]) -> [u8; 32]
 fn new_head(d: &[u8]) -> u8
     ensures { result ≡ get_or d.now 129 0 }
 {
-    if d.len() < 130 {
-        return 0;
-    }
-    d[129]
+    d.get(129).copied().unwrap_or(0)
 }
 
 // The new key's type.

@@ -13,24 +13,21 @@ ghost use Rattle.rules.specs.PublicKeys as S;
 ghost use Rattle.rules.specs.State.{pubkeys_length};
 
 // Whether the key with this ID is held.
+#[tactic(auto, unfolding(rules::specs::PublicKeys::key_held))]
 pub fn key_held(pubkeys: &[u8], id: u8) -> bool
     requires { (length pubkeys.now ≡ pubkeys_length) × (id < 16) }
     ensures { result ≡ S.key_held pubkeys.now id }
 {
-    let first = pubkeys[(id as usize) * 68];
-    1 <= first && first <= 4
+    matches!(pubkeys[(id as usize) * 68], 1..=4)
 }
 
 // The type of the key with this ID; 0 where none is held.
+#[tactic(auto, unfolding(rules::specs::PublicKeys::key_type))]
 pub fn key_type(pubkeys: &[u8], id: u8) -> u8
     requires { (length pubkeys.now ≡ pubkeys_length) × (id < 16) }
     ensures { result ≡ S.key_type pubkeys.now id }
 {
-    let first = pubkeys[(id as usize) * 68];
-    if first == 0 {
-        return 0;
-    }
-    first - 1
+    pubkeys[(id as usize) * 68].saturating_sub(1)
 }
 
 // The key's 67 bytes into `out`, zeros after a short one.
@@ -46,12 +43,10 @@ pub fn above_all(pubkeys: &[u8], id: u8) -> bool
     requires { (length pubkeys.now ≡ pubkeys_length) × (id < 16) }
     ensures { result ≡ S.above_all pubkeys.now id }
 {
-    let mut n: u8 = 0;
-    while n < 16 - id {
-        if key_held(pubkeys, id + n) {
+    for n in id..16 {
+        if key_held(pubkeys, n) {
             return false;
         }
-        n += 1;
     }
     true
 }
@@ -61,15 +56,10 @@ pub fn same_key(pubkeys: &[u8], id: u8, kind: u8, key: &[u8]) -> bool
     requires { (length pubkeys.now ≡ pubkeys_length) × ((id < 16) × (length key.now ≤ 67)) }
     ensures { result ≡ S.same_key pubkeys.now id kind key.now }
 {
-    if !key_held(pubkeys, id) {
-        return false;
-    }
-    if key_type(pubkeys, id) != kind {
-        return false;
-    }
-    let whole = filled_key(key);
     let at = (id as usize) * 68 + 1;
-    buffer::equal(&pubkeys[at..at + 67], &whole)
+    key_held(pubkeys, id)
+        && key_type(pubkeys, id) == kind
+        && buffer::equal(&pubkeys[at..at + 67], &filled_key(key))
 }
 
 // A key's bytes, and zeros to 67.
@@ -101,27 +91,28 @@ pub fn drop_lower(pubkeys: &mut [u8], id: u8)
     buffer::fill(pubkeys, 0, (id as usize) * 68, 0);
 }
 
-// Tables hold bytes: each use copies its table to the stack.
-const KEY_LENGTHS: [u8; 4] = [29, 33, 49, 67];
-
-const SIGNATURE_LENGTHS: [u8; 4] = [56, 64, 96, 132];
-
 // Bytes of a key by its type.
+#[tactic(auto, unfolding(rules::specs::PublicKeys::key_length))]
 pub fn key_length(kind: u8) -> usize
     ensures { result ≡ S.key_length kind }
 {
-    if 3 < kind {
-        return 67;
+    match kind {
+        0 => 29,
+        1 => 33,
+        2 => 49,
+        _ => 67,
     }
-    KEY_LENGTHS[kind as usize] as usize
 }
 
 // Bytes of a signature by its key's type.
+#[tactic(auto, unfolding(rules::specs::PublicKeys::signature_length))]
 pub fn signature_length(kind: u8) -> usize
     ensures { result ≡ S.signature_length kind }
 {
-    if 3 < kind {
-        return 132;
+    match kind {
+        0 => 56,
+        1 => 64,
+        2 => 96,
+        _ => 132,
     }
-    SIGNATURE_LENGTHS[kind as usize] as usize
 }

@@ -13,6 +13,7 @@ ghost use Rattle.received.specs.Items.{item_at};
 // ---- the fields of a sub-frame
 
 // Whether field k came. Of the sixteen marks the first is field 0's, and the last is not read.
+#[tactic(auto, unfolding(rules::specs::Received::field_came))]
 pub fn field_came(marks: u16, k: usize) -> bool
     requires { k < 15 }
     ensures { result ≡ field_came marks k }
@@ -58,6 +59,7 @@ pub fn bits_came(marks: u16, at: usize, n: usize) -> bool
 }
 
 // The number in the n bits from bit `at` on, if all of them came.
+#[tactic(auto, unfolding(crate::specs::Items::item_at))]
 pub fn item_at(m: &[u8], marks: u16, at: usize, n: usize) -> Option<u64>
     requires { (length m.now ≡ 60) × ((at + n ≤ 480) × (n ≤ 56)) }
     ensures { result ≡ item_at m.now marks at n }

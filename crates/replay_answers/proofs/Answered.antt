@@ -17,20 +17,16 @@ use Rattle.regions.specs.Told.{subframe_told}
 use Rattle.rules.specs.Calls.{start_call, start_checks, start_lengths, fresh, word_call, subframe_call, verdict_call}
 use Rattle.rules.specs.State.{State, shaped}
 use Rattle.rules.specs.Replay.{start_of, word_of, subframe_of, verdict_of, start_answered, word_answered, subframe_answered, verdict_answered, answered, kind_of, record_length, Session}
-use Rattle.replay_answers.specs.Answers.{session, gave}
+use Rattle.replay_answers.specs.Answers.{gave}
+
+abbrev pub session : State → List ℕ → ℕ → Session
+session core area started = record { core = core; area = area; started = started }
 
 -- ---- places of a record
 
-module _ (l : List ℕ) (i : ℕ) (e : length l ≡ record_length) where
-  pub in_record : T (ltb i record_length) → i < length l
-  in_record h = rw e (lit< h)
-
-  pub to_record : T (leb i record_length) → i ≤ length l
-  to_record h = rw e (lit≤ h)
-
 pub part_long : (l : List ℕ) (a n : ℕ) → length l ≡ record_length → T (leb (a + n) record_length) → length (take n (drop a l)) ≡ n
 unfolding part
-part_long l a n e h = length_part l a n (to_record l (a + n) e h)
+part_long l a n e h = length_part l a n (rw e (lit≤ h))
 
 -- ---- each kind
 
@@ -59,51 +55,3 @@ module _ (s s' : State) (area : List ℕ) (code started : ℕ) (input : List ℕ
   pub verdict_answered_lem : told code s' ≡ verdict_call s (verdict_of input) → gave code 0 0 (session s' area started) ≡ verdict_answered (session s area started) input
   unfolding verdict_answered
   verdict_answered_lem e = rw (ne_eqb started 0 on, ← e)
-
-module _ (s : State) (area : List ℕ) (started : ℕ) (input : List ℕ) (off : started ≡ 0) where
-  pub word_unstarted : gave 11 0 0 (session s area started) ≡ word_answered (session s area started) input
-  unfolding word_answered
-  word_unstarted = rw (eq-eqb started 0 off)
-
-  pub verdict_unstarted : gave 11 0 0 (session s area started) ≡ verdict_answered (session s area started) input
-  unfolding verdict_answered
-  verdict_unstarted = rw (eq-eqb started 0 off)
-
-pub subframe_unstarted : (s : State) (area : List ℕ) (started : ℕ) (input : List ℕ) → started ≡ 0
-    → gave 11 11 0 (session s area started) ≡ subframe_answered (session s area started) input
-unfolding subframe_answered
-subframe_unstarted s area started input off = rw (eq-eqb started 0 off)
-
-pub subframe-answered : (s s' : State) (area area' : List ℕ) (hkroot mack count started : ℕ) (input : List ℕ) → (started ≡ 0 → ⊥)
-    → subframe_told hkroot mack count s' area' ≡ subframe_call s area (subframe_of input)
-    → gave hkroot mack count (session s' area' started) ≡ subframe_answered (session s area started) input
-unfolding subframe_answered
-subframe-answered s s' area area' hkroot mack count started input on e = rw (ne_eqb started 0 on, ← e)
-
--- ---- which kind
-
-pub short_record : (s : Session) (input : List ℕ) → (length input ≡ record_length → ⊥) → gave 1 0 0 s ≡ answered s input
-unfolding answered
-short_record s input h = rw (ne_eqb (length input) record_length h)
-
-module _ (s : Session) (input : List ℕ) (e : length input ≡ record_length) where
-  pub start_kind : kind_of input ≡ 1 → start_answered s input ≡ answered s input
-  unfolding answered
-  start_kind k = rw (eq-eqb (length input) record_length e, k)
-
-  pub word_kind : kind_of input ≡ 2 → word_answered s input ≡ answered s input
-  unfolding answered
-  word_kind k = rw (eq-eqb (length input) record_length e, k)
-
-  pub subframe_kind : (kind_of input ≡ 1 → ⊥) → (kind_of input ≡ 2 → ⊥) → (eqb (kind_of input) 3 || eqb (kind_of input) 6) ≡ true → subframe_answered s input ≡ answered s input
-  unfolding answered
-  subframe_kind a b k = rw (eq-eqb (length input) record_length e, ne_eqb (kind_of input) 1 a, ne_eqb (kind_of input) 2 b, k)
-
-  pub verdict_kind : kind_of input ≡ 4 → verdict_answered s input ≡ answered s input
-  unfolding answered
-  verdict_kind k = rw (eq-eqb (length input) record_length e, k)
-
-  pub other_kind : (kind_of input ≡ 1 → ⊥) → (kind_of input ≡ 2 → ⊥) → (eqb (kind_of input) 3 || eqb (kind_of input) 6) ≡ false → (kind_of input ≡ 4 → ⊥) → gave 2 0 0 s ≡ answered s input
-  unfolding answered
-  other_kind a b c d =
-      rw (eq-eqb (length input) record_length e, ne_eqb (kind_of input) 1 a, ne_eqb (kind_of input) 2 b, c, ne_eqb (kind_of input) 4 d)

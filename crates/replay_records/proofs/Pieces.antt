@@ -1,20 +1,21 @@
--- The records of a piece of the input, one after the other: how many there are, where each one ends, and what one more adds to what was read.
+-- The records of a piece of the input, one after the other: how many there are, what each one is, and what one more adds to what was read.
 -- Assumes nothing.
 use mathlib.Core.Path.{◌≡◌, refl, sym, ap, ◌∙◌}
 use mathlib.Core.Logic.{⊎_elim}
 use mathlib.Core.List.{List, [], ◌∷◌, ◌++◌, append-nil, append_assoc}
-use Prim.Native.Nat.{ℕ, zero, suc, ◌+◌, ◌-◌, ◌*◌, ◌≤◌, ◌<◌}
+use Prim.Native.Nat.{ℕ, zero, suc, min, ◌+◌, ◌-◌, ◌*◌, ◌≤◌, ◌<◌}
 use native.Mathlib.Nat.{add-zero, add-suc}
 use native.Mathlib.Numerals.{add-one}
 use native.Mathlib.Omega.{arith}
 use lib.ListN.{length, take, drop, length-append, length-take, length-drop, drop_of_length-le}
-use lib.Seq.{take_all}
+use lib.Seq.{take_all, take-append_seam, drop-append_seam, drop-drop}
+use Rattle.std.proofs.lemmas.List.{nil_from_length}
 use Rattle.laws.specs.Lists.{part, splice}
 use Rattle.laws.proofs.Splice.{below?, splice_nil, splice-after, part_first, part_second}
 use Rattle.rules.specs.Replay.{Replay, Replayed, replayed, replayed_up_to, record_count, record_length}
 use Rattle.rules.specs.Replay as Rules
 use Rattle.replay_records.specs.Pieces.{followed, piece_read, read_in_pieces, joined, Whole, PiecesJoin}
-use Rattle.replay_records.specs.Written.{RecordEnd, wrote, written, room, last_place}
+use Rattle.replay_records.specs.Written.{wrote, written, room, last_place}
 
 -- ---- how many
 
@@ -30,20 +31,44 @@ pub count_few : (l : List ℕ) → length l ≤ 4096 → record_count l ≤ 16
 unfolding record_count
 count_few l h = omega arith
 
-pub in_piece : (l : List ℕ) (k : ℕ) → k ≤ record_count l → k * record_length ≤ length l + 255
-unfolding record_count
-in_piece l k h = omega arith
-
 -- ---- one record
 
-pub record_part : (l : List ℕ) (a r : ℕ) → RecordEnd a (length l) r → take (r - a) (drop a l) ≡ part l a record_length
-unfolding part
-record_part l a r e =
-    ⊎_elim
-    (λ (s : length l < a + record_length). let q : r - a ≡ length (drop a l) = simp length-drop (omega (arith, e.short s)) in
-    take_all (r - a) (drop a l) (omega arith) ∙ sym (take_all record_length (drop a l) (simp length-drop (omega arith))))
-    (λ (w : a + record_length ≤ length l). let q : r - a ≡ record_length = omega (arith, e.whole w) in rw q)
-    (below? (length l) (a + record_length))
+-- what is left of the input after k records, of which the library cut the next one off
+module _ (input rest x after : List ℕ) (k : ℕ) (left : rest ≡ drop (k * record_length) input) where
+  pub on : 0 < length rest → k * record_length < length input
+  on h = omega (arith, ap length left, length-drop (k * record_length) input)
+
+  pub past : length rest ≡ 0 → length input ≤ k * record_length
+  past h = omega (arith, ap length left, length-drop (k * record_length) input)
+
+  module _ (is : rest ≡ x ++ after) (long : length x ≡ min record_length (length rest)) where
+    none_after : length rest < record_length → after ≡ []
+    none_after h = nil_from_length after (omega (arith, ap length is, length-append x after, long))
+
+    cut : take record_length rest ≡ x
+    cut =
+        ⊎_elim
+        (λ (h : length rest < record_length). take_all record_length rest (omega arith) ∙ is ∙ rw (none_after h) (append-nil x))
+        (λ (h : record_length ≤ length rest). let m : record_length ≡ length x = omega (arith, long) in
+        ap (λ (n : ℕ). take n rest) m ∙ ap (take (length x)) is ∙ take-append_seam x after)
+        (below? (length rest) record_length)
+
+    kept : drop record_length rest ≡ after
+    kept =
+        ⊎_elim
+        (λ (h : length rest < record_length). drop_of_length-le rest {i = record_length} (omega arith) ∙ sym (none_after h))
+        (λ (h : record_length ≤ length rest). let m : record_length ≡ length x = omega (arith, long) in
+        ap (λ (n : ℕ). drop n rest) m ∙ ap (drop (length x)) is ∙ drop-append_seam x after)
+        (below? (length rest) record_length)
+
+    pub record_is : x ≡ part input (k * record_length) record_length
+    unfolding part
+    record_is = sym cut ∙ ap (take record_length) left
+
+    pub rest_is : after ≡ drop ((k + 1) * record_length) input
+    rest_is =
+        let e : k * record_length + record_length ≡ (k + 1) * record_length = omega arith in
+        sym kept ∙ ap (drop record_length) left ∙ drop-drop record_length (k * record_length) input ∙ ap (λ (n : ℕ). drop n input) e
 
 -- ---- the first k records
 
@@ -86,19 +111,19 @@ lines_joined out₀ out tail p q filled n s s' h e d =
     rw (ap (λ w. w.out) d, spliced_past out filled q.lines, ap (λ w. w.out) e) (splice-after out₀ 0 filled p.lines q.lines (omega arith) (omega arith)) in
     rw (c, o, ap (λ w. w.next) d)
 
-read_next : (out₀ : List ℕ) (s₀ : Replay) (input : List ℕ) (k filled : ℕ) (out : List ℕ) (s : Replay) (tail : List ℕ) (s' : Replay) (n e : ℕ)
+read_next : (out₀ : List ℕ) (s₀ : Replay) (input : List ℕ) (k filled : ℕ) (out : List ℕ) (s : Replay) (tail : List ℕ) (s' : Replay) (n : ℕ) (x : List ℕ)
     → Read out₀ s₀ input k filled out s → k * record_length < length input → record_count input * room ≤ length out₀
-    → RecordEnd (k * record_length) (length input) e
-    → wrote n tail s' ≡ written (drop filled out) (replayed s (take (e - k * record_length) (drop (k * record_length) input)))
+    → x ≡ part input (k * record_length) record_length
+    → wrote n tail s' ≡ written (drop filled out) (replayed s x)
     → n ≤ room → length tail ≡ length (drop filled out)
     → Read out₀ s₀ input (k + 1) (filled + n) (take filled out ++ tail) s'
 unfolding replayed_up_to written
-read_next out₀ s₀ input k filled out s tail s' n e r more fits z w small kept =
+read_next out₀ s₀ input k filled out s tail s' n x r more fits z w small kept =
     let c = count_more input k more in
     let p = replayed_up_to s₀ input k in
     let h : filled + n ≤ length out₀ = omega arith in
     let v : wrote n tail s' ≡ written (drop filled out) (replayed p.next (part input (k * record_length) record_length)) =
-    rw (record_part input (k * record_length) e z, ap (λ x. x.next) r.is) at w in
+    rw (z, ap (λ x. x.next) r.is) at w in
     record {
       few = c;
       low = omega arith;
@@ -119,16 +144,16 @@ module _ (out₀ : List ℕ) (s₀ : Replay) (input : List ℕ) (k filled : ℕ)
   place_left more fits = omega (arith, count_more input k more, piece_place out₀ s₀ input k filled out s r.is)
 
   -- one record more, with the rest of the slice lent for its lines
-  pub read_on : (tail : List ℕ) (s' : Replay) (n e : ℕ) → k * record_length < length input → record_count input * room ≤ length out₀
-      → RecordEnd (k * record_length) (length input) e
-      → wrote n tail s' ≡ written (take (length out - filled) (drop filled out)) (replayed s (take (e - k * record_length) (drop (k * record_length) input)))
+  pub read_on : (tail : List ℕ) (s' : Replay) (n : ℕ) (x : List ℕ) → k * record_length < length input → record_count input * room ≤ length out₀
+      → x ≡ part input (k * record_length) record_length
+      → wrote n tail s' ≡ written (take (length out - filled) (drop filled out)) (replayed s x)
       → n ≤ room → length tail ≡ length (take (length out - filled) (drop filled out))
       → Read out₀ s₀ input (k + 1) (filled + n) (take filled out ++ (tail ++ drop (length out - filled) (drop filled out))) s'
-  read_on tail s' n e more fits z w small kept =
+  read_on tail s' n x more fits z w small kept =
       let a : take (length out - filled) (drop filled out) ≡ drop filled out = take_all (length out - filled) (drop filled out) (simp length-drop (omega arith)) in
       let b : drop (length out - filled) (drop filled out) ≡ [] = drop_of_length-le (drop filled out) {i = length out - filled} (simp length-drop (omega arith)) in
       rw (b, append-nil tail)
-      (read_next out₀ s₀ input k filled out s tail s' n e r more fits z (rw a at w) small (rw a at kept))
+      (read_next out₀ s₀ input k filled out s tail s' n x r more fits z (rw a at w) small (rw a at kept))
 
   -- all were read
   pub read_all : length input ≤ k * record_length → record_count input * room ≤ length out₀

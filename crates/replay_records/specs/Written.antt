@@ -1,11 +1,8 @@
 -- Records of the replay program's input into a lent slice: `written` is what `replay_record` gives of one, and `replay_piece` of a piece of the input.
--- The abbreviations write what the functions give from numbers and lent memory at exit.
-use Rattle.std.specs.Prelude.{◌≡◌, List, ℕ, ◌+◌, ◌≤◌, ◌<◌, length}
+-- The abbreviation writes what the functions give from numbers and lent memory at exit.
+use Rattle.std.specs.Prelude.{List, ℕ, length}
 use Rattle.laws.specs.Lists.{splice}
-use Rattle.rules.specs.Replay.{Session, Replay, Replayed, record_length}
-
-abbrev pub replay : Session → ℕ → Replay
-replay s place = record { session = s; place = place }
+use Rattle.rules.specs.Replay.{Replay, Replayed}
 
 -- how many bytes of lines stand at the front of the lent slice, the slice, and what is kept for the next record
 pub record Written : Type 0 where
@@ -27,10 +24,3 @@ room = 6834
 -- the last place that 64 bits hold
 abbrev pub last_place : ℕ
 last_place = 18446744073709551615
-
--- the end r of the record that begins at place a of an input of n bytes: 256 bytes on, or the input's end
-pub record RecordEnd (a n r : ℕ) : Type 0 where
-  pub past : a < r
-  pub within : r ≤ n
-  pub whole : a + record_length ≤ n → r ≡ a + record_length
-  pub short : n < a + record_length → r ≡ n

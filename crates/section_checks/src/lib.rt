@@ -21,23 +21,23 @@ pub fn chain_of(config: &[u8], chain: &[u8]) -> Chain
     kroot::chain_with(regions::ns_of(config), &chain[1..45])
 }
 
+// The NMA status of a signal whose tags are taken (000, 3.1): its least and its greatest value.
+const TEST: u8 = 1;
+
+const OPERATIONAL: u8 = 2;
+
 // Row 11: no chain, status 0 or 3, other CID, or before sub-frame 0.
 pub fn section_unfit(config: &[u8], chain: &[u8], time: u32, header: u8) -> bool
     requires { (length config.now ≡ config_length) × (length chain.now ≡ chain_length) }
     ensures { ((s : State) → s.config ≡ config.now → s.chain ≡ chain.now → result ≡ section_unfit s time header)
         × (result ≡ false → in_force config.now chain.now ≡ true) }
 {
-    if !kroot::in_force(config, chain) {
-        return true;
-    }
     let status = gather::status_of(header);
-    if status < 1 {
-        return true;
-    }
-    if 2 < status {
-        return true;
-    }
-    if kroot::cidkr(&chain[1..45]) != gather::cid_of(header) {
+    if !kroot::in_force(config, chain)
+        || status < TEST
+        || OPERATIONAL < status
+        || kroot::cidkr(&chain[1..45]) != gather::cid_of(header)
+    {
         return true;
     }
     times::seconds_of(time) < kroot::root_seconds(&chain[1..45])

@@ -14,6 +14,7 @@ use rules::Chain;
 use tags::Section;
 
 // Field j is fixed, or its MAC-Info came.
+#[tactic(auto, using(received::proofs::Cases::item_came), unfolding(rules::specs::Received::info_came))]
 pub fn flexible_came(config: &[u8], c: Chain, x: Section<'_>, j: usize) -> bool
     requires { (Laid c × (j < c.nmack * c.fields)) × ((length config.now ≡ config_length) × (length x.mack.now ≡ 60)) }
     ensures { result ≡ (not (flexible config.now x.entry.time j) || info_came c x.entry.marks j) }

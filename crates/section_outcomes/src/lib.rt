@@ -8,6 +8,7 @@
 ghost use Rattle.std.specs.Prelude.{◌≡◌, true, not, ◌&&◌, ◌+◌, ◌-◌, ◌/◌, ◌^◌, ◌≤◌, ◌<◌, eqb, ltb, length, take};
 ghost use Rattle.mac.specs.Kept.{kept_of};
 ghost use Rattle.rules.specs.Chain.{Held, held, key_of_slot};
+ghost use Rattle.rules.specs.Outcomes.{outcome_number};
 ghost use Rattle.rules.specs.State.{prn_valid, config_length, stamps_length, words_length, copy_length};
 ghost use Rattle.rules.specs.Tags.{not_allowed, flexible, tag_matches};
 ghost use Rattle.rules.specs.Times.{delay_of};
@@ -17,7 +18,7 @@ ghost use Rattle.navdata.specs.Pieces.{nav};
 ghost use Rattle.section_outcomes.specs.Outcomes.{block_key, outcome_by};
 
 use chain::Way;
-use rules::{Chain, Tag};
+use rules::{Chain, Outcome, Tag};
 
 // ---- keys
 
@@ -28,11 +29,11 @@ fn slot_key(c: Chain, slot: u64, known: [u8; 32], way: Way, m: u64, kept: &mut [
 {
     let mut key = known;
     chain::key_on_way(c, slot, way, m, &mut key);
-    let width = c.width;
-    mac::keep(c.mf, &key[0..width], kept);
+    mac::keep(c.mf, &key[..c.width], kept);
 }
 
 // The same for the tags without delay of field j's block.
+#[tactic(auto, using(crate::proofs::Keys::block_small), unfolding(crate::specs::Outcomes::block_key))]
 pub fn block_key(
     c: Chain,
     slot: u64,
@@ -72,10 +73,7 @@ pub fn next_key(
     ensures { kept.new ≡ block_key c (held slot (take c.width known)) time (j / c.fields) }
 {
     let fields = c.fields as usize;
-    if j == 0 {
-        return;
-    }
-    if j % fields != 0 {
+    if j == 0 || j % fields != 0 {
         return;
     }
     block_key(c, slot, known, way, time, j, kept);
@@ -84,16 +82,14 @@ pub fn next_key(
 // ---- outcomes
 
 // The PRN where it names a satellite, else 1.
+#[tactic(auto, unfolding(rules::specs::State::prn_valid))]
 pub fn heard(prn: u8) -> usize
     ensures { ((1 ≤ result) × (result ≤ 36)) × (prn_valid prn ≡ true → result ≡ prn) }
 {
-    if prn < 1 {
-        return 1;
+    match prn {
+        1..=36 => prn as usize,
+        _ => 1,
     }
-    if 36 < prn {
-        return 1;
-    }
-    prn as usize
 }
 
 // A tag without delay that matches the set under its block's key.
@@ -102,10 +98,7 @@ pub fn prompt_match(c: Chain, key: &[u8; 273], first: bool, t: Tag, set: &[u8]) 
     ensures { (h : Held) → key.now ≡ block_key c h t.time (t.block - 1) → 1 ≤ t.block →
         result ≡ (eqb (delay_of t.adkd) 0 && tag_matches c h first t set.now) }
 {
-    if times::delay_of(t.adkd) != 0 {
-        return false;
-    }
-    tag_codes::tag_matches(c.mf, c.ms, key, first, t, set)
+    times::delay_of(t.adkd) == 0 && tag_codes::tag_matches(c.mf, c.ms, key, first, t, set)
 }
 
 // The outcome of field j, the tag t, by the words of satellite p and their set; `fits` says that MACSEQ fits.
@@ -121,20 +114,20 @@ pub fn outcome_of(
     p: usize,
     set: &[u8],
     count: usize,
-) -> u8
+) -> Outcome
     requires config_len { ((length config.now ≡ config_length) × (length words.now ≡ words_length))
         × ((length stamps.now ≡ stamps_length) × (length set.now ≡ copy_length)) }
     requires ms_bound { ((c.ms ≤ 40) × (j < 14)) × ((1 ≤ p) × (p ≤ 36)) }
-    ensures { (result ≡ 5 → count < 256)
+    ensures { (outcome_number result ≡ 5 → count < 256)
         × ((h : Held) → key.now ≡ block_key c h t.time (t.block - 1) → 1 ≤ t.block →
-        result ≡ outcome_by (not_allowed config.now j t) (flexible config.now t.time j && not fits)
+        outcome_number result ≡ outcome_by (not_allowed config.now j t) (flexible config.now t.time j && not fits)
         (not (usable (nav words.now stamps.now) p t.time))
         (eqb (delay_of t.adkd) 0 && tag_matches c h (eqb j 0) t set.now) (eqb (delay_of t.adkd) 0) (ltb count 256)) }
 {
     let refused = tags::not_allowed(config, j, t);
-    let unfit = bools::both(tags::flexible(config, t.time, j), !fits);
+    let unfit = tags::flexible(config, t.time, j) && !fits;
     let unusable = !navdata::usable(words, stamps, p, t.time);
     let prompt = times::delay_of(t.adkd) == 0;
     let matches = prompt_match(c, key, j == 0, t, set);
-    tags::outcome_number(tags::own_outcome(refused, unfit, unusable, prompt, matches, count < 256))
+    tags::own_outcome(refused, unfit, unusable, prompt, matches, count < 256)
 }

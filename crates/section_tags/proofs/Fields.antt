@@ -23,6 +23,9 @@ use Rattle.rules.specs.Tags.{Work, Section, told_plain, told, kept, record_issue
 use Rattle.rules.specs.Times.{delay_of}
 use Rattle.rules.specs.Navdata.{usable, set_of}
 use Rattle.rules.specs.declared.Chain.{Chain}
+use Rattle.rules.specs.Outcomes.{outcome_number}
+use Rattle.rules.specs.declared.Outcome.{Outcome}
+use Rattle.rules.specs.declared.Outcome.TheVariants.{Agrees, Wrong, NoUsableSet, NotAllowed, Waits, SequenceUnfit, NoPlace, Lost}
 use Rattle.rules.specs.declared.Tag.{Tag}
 use Rattle.rules.proofs.Parts.{length-set_of}
 use Rattle.rules.proofs.Entries.{length_tag_entry}
@@ -368,6 +371,17 @@ unfolding kept
 waits_by true ms o count at t s waiting sets arrivals area waiting' sets' arrivals' area' e q p =
     rw (told_after ms t s o (start count sets arrivals)) (record { entries = p; sets = q.sets; arrivals = q.arrivals; records = q.records; count = refl })
 waits_by false ms o count at t s waiting sets arrivals area waiting' sets' arrivals' area' e q p = true_false (sym e)
+
+-- only a tag that waits has number 5
+pub other_number : (o : Outcome) → (o ≡ Waits → ⊥) → outcome_number o ≡ 5 → ⊥
+other_number Agrees h e = cc
+other_number Wrong h e = cc
+other_number NoUsableSet h e = cc
+other_number NotAllowed h e = cc
+other_number Waits h e = h refl
+other_number SequenceUnfit h e = cc
+other_number NoPlace h e = cc
+other_number Lost h e = cc
 
 pub told_leaves : (ms o count at : ℕ) (t : Tag) (s waiting sets arrivals area sets' arrivals' area' : List ℕ) → (o ≡ 5 → ⊥)
     → Tells (told ms o t s (start 0 sets arrivals)) (at * 12) area sets' arrivals' area'

@@ -5,19 +5,21 @@
 // before any other (02, P3). `judge_own` is the public call.
 ghost use Rattle.std.specs.Prelude.{◌≡◌, ◌+◌, ◌*◌, ◌/◌, ◌^◌, ◌≤◌, ◌<◌, length, take};
 ghost use Rattle.rules.specs.Chain.{Held, held};
+ghost use Rattle.rules.specs.Outcomes.{outcome_number};
 ghost use Rattle.rules.specs.Received.{macseq_came, field_judged, fields_judged};
 ghost use Rattle.rules.specs.State.{area_length, config_length, sets_length, stamps_length, waiting_length, words_length, arrivals_length, copy_length};
 ghost use Rattle.rules.specs.Tags.{macseq_fits, own_judged};
 ghost use Rattle.chain.specs.Sound.{Walks, OnWay};
 ghost use Rattle.mack.specs.Layout.{KeysFit};
 ghost use Rattle.navdata.specs.Pieces.{nav};
-ghost use Rattle.tags.specs.Layout.{Laid, section};
+ghost use Rattle.tags.specs.Layout.{Laid, section, section_of};
 ghost use Rattle.tag_records.specs.Told.{start, Leaves};
 ghost use Rattle.section_outcomes.specs.Outcomes.{block_key};
 ghost use Rattle.section_tags.specs.Own.{settled, Grows};
 
 use chain::Way;
 use rules::{Chain, Outcome, Tag};
+use tags::Section;
 
 // ---- the section's fields
 
@@ -25,7 +27,7 @@ use rules::{Chain, Outcome, Tag};
 // wait then.
 fn settle(
     ms: u64,
-    outcome: u8,
+    outcome: Outcome,
     t: Tag,
     set: &[u8],
     waiting: &mut [u8],
@@ -37,16 +39,18 @@ fn settle(
 ) -> usize
     requires sets_len { ((length sets.old ≡ sets_length) × (length arrivals.old ≡ arrivals_length))
         × ((length waiting.old ≡ waiting_length) × (length area.old ≡ area_length)) }
-    requires set_len { (((length set.now ≡ copy_length) × (at < 270)) × ((count ≤ 256) × (outcome ≡ 5 → count < 256))) × (ms ≤ 40) }
-    ensures { Leaves (settled ms outcome t set.now (start count sets.old arrivals.old)) count at
+    requires set_len { (((length set.now ≡ copy_length) × (at < 270)) × ((count ≤ 256) × (outcome_number outcome ≡ 5 → count < 256))) × (ms ≤ 40) }
+    ensures { Leaves (settled ms (outcome_number outcome) t set.now (start count sets.old arrivals.old)) count at
         waiting.old area.old waiting.new sets.new arrivals.new area.new result }
 {
     tag_records::tell(ms, outcome, t, set, sets, arrivals, area, at * 12);
-    if outcome == 5 {
-        waiting_tags::put_entry(waiting, count, t, set);
-        return count + 1;
+    match outcome {
+        Outcome::Waits => {
+            waiting_tags::put_entry(waiting, count, t, set);
+            count + 1
+        }
+        _ => count,
     }
-    count
 }
 
 // Field j that is not lost, after `count` tags that wait: its record goes to place `at`. Gives how many tags wait then.
@@ -57,10 +61,7 @@ fn own_one(
     c: Chain,
     key: &[u8; 273],
     fits: bool,
-    prn: u8,
-    time: u32,
-    status: u8,
-    mack: &[u8],
+    x: Section<'_>,
     j: usize,
     waiting: &mut [u8],
     count: usize,
@@ -70,18 +71,18 @@ fn own_one(
     at: usize,
 ) -> usize
     requires config_len { ((length config.now ≡ config_length) × (length words.now ≡ words_length))
-        × ((length stamps.now ≡ stamps_length) × (length mack.now ≡ 60)) }
+        × ((length stamps.now ≡ stamps_length) × (length x.mack.now ≡ 60)) }
     requires sets_len { ((length sets.old ≡ sets_length) × (length arrivals.old ≡ arrivals_length))
         × ((length waiting.old ≡ waiting_length) × (length area.old ≡ area_length)) }
     requires laid { (Laid c × (j < c.nmack * c.fields)) × ((count ≤ 256) × (at < 270)) }
-    ensures { (h : Held) → key.now ≡ block_key c h time (j / c.fields) →
-        fits ≡ macseq_fits config.now c h (section prn time status mack.now) →
+    ensures { (h : Held) → key.now ≡ block_key c h x.entry.time (j / c.fields) →
+        fits ≡ macseq_fits config.now c h (section_of x.entry) →
         Leaves
-        (own_judged config.now (nav words.now stamps.now) c h (section prn time status mack.now) j
+        (own_judged config.now (nav words.now stamps.now) c h (section_of x.entry) j
         (start count sets.old arrivals.old)) count at waiting.old area.old waiting.new
         sets.new arrivals.new area.new result }
 {
-    let t = tags::own_tag(c, prn, time, status, mack, j);
+    let t = x.own_tag(c, j);
     let p = section_outcomes::heard(t.prn);
     let set = navdata::set_of(words, p);
     let outcome = section_outcomes::outcome_of(
@@ -101,11 +102,7 @@ fn field_one(
     key: &[u8; 273],
     fits: bool,
     macseq: bool,
-    prn: u8,
-    time: u32,
-    status: u8,
-    mack: &[u8],
-    marks: u16,
+    x: Section<'_>,
     j: usize,
     waiting: &mut [u8],
     count: usize,
@@ -115,28 +112,35 @@ fn field_one(
     at: usize,
 ) -> usize
     requires config_len { ((length config.now ≡ config_length) × (length words.now ≡ words_length))
-        × ((length stamps.now ≡ stamps_length) × (length mack.now ≡ 60)) }
+        × ((length stamps.now ≡ stamps_length) × (length x.mack.now ≡ 60)) }
     requires sets_len { ((length sets.old ≡ sets_length) × (length arrivals.old ≡ arrivals_length))
         × ((length waiting.old ≡ waiting_length) × (length area.old ≡ area_length)) }
     requires laid { ((Laid c × KeysFit c) × (j < c.nmack * c.fields)) × ((count ≤ 256) × (at < 270)) }
-    ensures { (h : Held) → key.now ≡ block_key c h time (j / c.fields) →
-        fits ≡ macseq_fits config.now c h (section prn time status mack.now) →
-        macseq ≡ macseq_came config.now c time marks →
+    ensures { (h : Held) → key.now ≡ block_key c h x.entry.time (j / c.fields) →
+        fits ≡ macseq_fits config.now c h (section_of x.entry) →
+        macseq ≡ macseq_came config.now c x.entry.time x.entry.marks →
         Leaves
-        (field_judged config.now (nav words.now stamps.now) c h (section prn time status mack.now) marks j
+        (field_judged config.now (nav words.now stamps.now) c h (section_of x.entry) x.entry.marks j
         (start count sets.old arrivals.old)) count at waiting.old area.old waiting.new
         sets.new arrivals.new area.new result }
 {
-    if section_lost::field_lost(config, c, time, mack, marks, macseq, j) {
-        let t = tags::lost_tag(c, prn, time, status, mack, marks, j);
-        let outcome = tags::outcome_number(Outcome::Lost);
+    if section_lost::field_lost(config, c, x, macseq, j) {
+        let t = x.lost_tag(c, j);
         return settle(
-            c.ms, outcome, t, &[0u8; 69], waiting, count, sets, arrivals, area, at,
+            c.ms,
+            Outcome::Lost,
+            t,
+            &[0u8; 69],
+            waiting,
+            count,
+            sets,
+            arrivals,
+            area,
+            at,
         );
     }
     own_one(
-        config, words, stamps, c, key, fits, prn, time, status, mack, j, waiting, count, sets,
-        arrivals, area, at,
+        config, words, stamps, c, key, fits, x, j, waiting, count, sets, arrivals, area, at,
     )
 }
 
@@ -177,16 +181,21 @@ pub fn judge_own(
         (section prn time status mack.now) marks (c.nmack * c.fields) (start count sets.old arrivals.old)) count
         (c.nmack * c.fields) result }
 {
-    let n = (c.nmack * c.fields) as usize;
+    let x = Section {
+        prn,
+        time,
+        status,
+        mack,
+        marks,
+    };
     let mut key = [0u8; 273];
     section_outcomes::block_key(c, slot, known, way, time, 0, &mut key);
-    let macseq = section_lost::macseq_came(config, c, time, mack, marks);
+    let macseq = section_lost::macseq_came(config, c, x);
     let fits = tag_codes::macseq_fits(config, c, prn, time, mack, &key);
-    let mut r = count;
-    let mut j: usize = 0;
-    while j < n {
+    let mut kept = count;
+    for j in 0..(c.nmack * c.fields) as usize {
         section_outcomes::next_key(c, slot, known, way, time, j, &mut key);
-        r = field_one(
+        kept = field_one(
             config,
             words,
             stamps,
@@ -194,20 +203,15 @@ pub fn judge_own(
             &key,
             fits,
             macseq,
-            prn,
-            time,
-            status,
-            mack,
-            marks,
+            x,
             j,
             waiting,
-            r,
+            kept,
             sets,
             arrivals,
             area,
             at + j,
         );
-        j += 1;
     }
-    r
+    kept
 }

@@ -262,7 +262,7 @@ fn put_lane(d: &mut [u8], at: usize, x: u64)
     d[at..at + 8].copy_from_slice(&x.to_le_bytes());
 }
 
-// The first 32 bytes of a state.
+// The first 32 bytes of a state: four lanes, no plainer as a loop.
 fn digest(s: [u64; 25]) -> [u8; 32]
     ensures { result ≡ take 32 (S.bytes s) }
 {
@@ -319,7 +319,7 @@ pub fn one_block(rate: usize, b: &[u8; 64]) -> [u8; 32]
     digest(permute(block_lanes(rate, b)))
 }
 
-// The lanes of that block; b has 64 bytes.
+// The lanes of that block; b has 64 bytes. Written out, so that the compiler knows which lanes are 0: the rounds of a step of the key chain rest on it.
 fn block_lanes(rate: usize, b: &[u8; 64]) -> [u64; 25]
     requires { (136 ≤ rate) × ((rate ≤ 144) × (rate % 8 ≡ 0)) }
     ensures { (result ≡ set (S.lanes b.now) (rate / 8 - 1) 0x8000000000000000) × (length b.now ≡ 64) }

@@ -10,7 +10,7 @@ use lib.ListN.{length, take, drop}
 use lib.Seq.{take_all}
 use Rattle.laws.specs.Lists.{splice}
 use Rattle.laws.specs.Bytes.{be2, be4}
-use Rattle.laws.proofs.Splice.{length_splice, splice-append, splice_whole, take-splice}
+use Rattle.laws.proofs.Splice.{lent, splice-append, splice_whole, take-splice}
 use Rattle.navdata.proofs.Sets.{length_status_and-set}
 use Rattle.rules.specs.Mack.{field_info}
 use Rattle.rules.specs.Tags.{status_and_set, first_message, tag_message, macseq_message, flexible}
@@ -25,13 +25,14 @@ abbrev head : Tag → List ℕ
 head t =
     t.prn ∷ t.sender ∷ t.time / 16777216 % 256 ∷ t.time / 65536 % 256 ∷ t.time / 256 % 256 ∷ t.time % 256 ∷ t.position ∷ []
 
-pub message_whole : (d : List ℕ) (t : Tag) (s : List ℕ) → length d ≡ 76 → splice (splice d 0 (head t)) 7 (status_and_set t.status s) ≡ tag_message t s
+pub message_whole : (d : List ℕ) (t : Tag) (s : List ℕ) → length d ≡ 76 → splice (head t ++ drop 7 d) 7 (status_and_set t.status s) ≡ tag_message t s
 unfolding tag_message first_message be4
 message_whole d t s e =
     let n = length_status_and-set t.status s in
     let k : length (head t) ≡ 7 = refl in
     let m : length (head t ++ status_and_set t.status s) ≡ 76 = omega arith in
-    splice-append d 0 (head t) (status_and_set t.status s) (omega arith)
+    ap (λ (l : List ℕ). splice l 7 (status_and_set t.status s)) (lent d 0 7 (head t) refl)
+    ∙ splice-append d 0 (head t) (status_and_set t.status s) (omega arith)
     ∙ splice_whole d (head t ++ status_and_set t.status s) (omega arith)
 
 pub length_first : (t : Tag) (s : List ℕ) → length (first_message t s) ≡ 75
@@ -51,12 +52,10 @@ rest_of_message m t s e = rw e (take_all 75 (first_message t s) (omega (arith, l
 abbrev sender : ℕ → ℕ → List ℕ
 sender p t = p ∷ t / 16777216 % 256 ∷ t / 65536 % 256 ∷ t / 256 % 256 ∷ t % 256 ∷ []
 
-pub sender_in : (config : List ℕ) (c : Chain) (p t : ℕ) (mack d u : List ℕ) → length d ≡ 33 → u ≡ splice d 0 (sender p t)
-    → (length u ≡ 33) × (take 5 u ≡ macseq_message config c (section p t 0 mack) 0)
-unfolding macseq_message be4 splice
-sender_in config c p t mack d u h e =
-    let k : length (sender p t) ≡ 5 = refl in
-    (ap length e ∙ length_splice d 0 (sender p t) (omega arith) ∙ h, rw e)
+pub sender_in : (config : List ℕ) (c : Chain) (p t : ℕ) (mack d u : List ℕ) → u ≡ sender p t ++ drop 5 d
+    → take 5 u ≡ macseq_message config c (section p t 0 mack) 0
+unfolding macseq_message be4
+sender_in config c p t mack d u e = rw e
 
 info_length : (b : Bool) (v : ℕ) → (length (cond b (be2 v) []) ≡ cond b 2 0) × (cond b 2 0 ≤ 2)
 unfolding be2
@@ -69,13 +68,13 @@ pub info_in : (config : List ℕ) (c : Chain) (p t : ℕ) (mack : List ℕ) (j n
     → v ≡ field_info c mack j
     → u ≡ splice d n (cond (flexible config t j) (be2 v) [])
     → r ≡ n + cond (flexible config t j) 2 0
-    → (length u ≡ length d) × ((r ≤ n + 2) × (take r u ≡ macseq_message config c (section p t 0 mack) (j + 1)))
+    → (r ≤ n + 2) × (take r u ≡ macseq_message config c (section p t 0 mack) (j + 1))
 unfolding macseq_message
 info_in config c p t mack j n r v d u h m i e f =
     let x : List ℕ = cond (flexible config t j) (be2 v) [] in
     let l = info_length (flexible config t j) v in
     let q : r ≡ n + length x = omega arith in
-    (ap length e ∙ length_splice d n x (omega arith), (omega arith, rw (q, e, add-one j, take-splice d n x (omega arith), m, ← i)))
+    (omega arith, rw (q, e, add-one j, take-splice d n x (omega arith), m, ← i))
 
 -- the NMA status plays no part
 pub any_status : (config : List ℕ) (c : Chain) (p t : ℕ) (mack : List ℕ) (s : ℕ) (n : ℕ)

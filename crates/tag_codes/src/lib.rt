@@ -24,17 +24,8 @@ fn tag_message(t: Tag, set: &[u8], out: &mut [u8])
     requires { (length set.now ≡ 69) × (length out.old ≡ 76) }
     ensures { out.new ≡ tag_message t set.now }
 {
-    let time = t.time;
-    let head = [
-        t.prn,
-        t.sender,
-        (time / 16777216 % 256) as u8,
-        (time / 65536 % 256) as u8,
-        (time / 256 % 256) as u8,
-        (time % 256) as u8,
-        t.position,
-    ];
-    buffer::copy_at(out, 0, &head);
+    let [w, x, y, z] = t.time.to_be_bytes();
+    out[..7].copy_from_slice(&[t.prn, t.sender, w, x, y, z, t.position]);
     navdata::status_and_set(t.status, set, out, 7);
 }
 
@@ -45,9 +36,10 @@ fn tag_code(mf: u8, ms: u64, key: &[u8; 273], first: bool, message: &[u8]) -> u6
         result ≡ mac_bits mf ms k (cond first (first_message t navdata) (tag_message t navdata)) }
 {
     if first {
-        return mac::mac_bits(mf, ms as usize, key, &message[1..76]);
+        mac::mac_bits(mf, ms as usize, key, &message[1..])
+    } else {
+        mac::mac_bits(mf, ms as usize, key, message)
     }
-    mac::mac_bits(mf, ms as usize, key, message)
 }
 
 // The tag matches the set under the key; tag0 is the first field of a section.
@@ -56,10 +48,9 @@ pub fn tag_matches(mf: u8, ms: u64, key: &[u8; 273], first: bool, t: Tag, set: &
     ensures { (k : List ℕ) → key.now ≡ kept_of mf k →
         result ≡ eqb (mac_bits mf ms k (cond first (first_message t set.now) (tag_message t set.now))) t.bits }
 {
-    let bits = t.bits;
-    let mut message = [0u8; 76];
+    let mut message = [0; 76];
     tag_message(t, set, &mut message);
-    tag_code(mf, ms, key, first, &message) == bits
+    tag_code(mf, ms, key, first, &message) == t.bits
 }
 
 // ---- MACSEQ
@@ -72,9 +63,10 @@ fn put_info(config: &[u8], time: u32, j: usize, info: u16, out: &mut [u8], n: us
 {
     if tags::flexible(config, time, j) {
         buffer::put_u16(out, n, info);
-        return n + 2;
+        n + 2
+    } else {
+        n
     }
-    n
 }
 
 // The MACSEQ message in the front of `out`. Gives its length. The fields are taken off in order.
@@ -85,22 +77,14 @@ fn macseq_message(config: &[u8], c: Chain, prn: u8, time: u32, mack: &[u8], out:
         × (result ≤ 33) }
 {
     let count = (c.nmack * c.fields) as usize;
-    let head = [
-        prn,
-        (time / 16777216 % 256) as u8,
-        (time / 65536 % 256) as u8,
-        (time / 256 % 256) as u8,
-        (time % 256) as u8,
-    ];
-    buffer::copy_at(out, 0, &head);
+    let [w, x, y, z] = time.to_be_bytes();
+    out[..5].copy_from_slice(&[prn, w, x, y, z]);
     let mut k = Cursor { used: 0 };
-    let mut n: usize = 5;
-    let mut j: usize = 0;
-    while j < count {
+    let mut n = 5;
+    for j in 0..count {
         let f = mack::next_field(c, mack, k, j);
         n = put_info(config, time, j, f.info, out, n);
         k = f.next;
-        j += 1;
     }
     n
 }
@@ -110,7 +94,7 @@ fn macseq_code(mf: u8, key: &[u8; 273], message: &[u8], n: usize) -> u64
     requires { (length message.now ≡ 33) × (n ≤ 33) }
     ensures { (k : List ℕ) → key.now ≡ kept_of mf k → result ≡ mac_bits mf 12 k (take n message.now) }
 {
-    mac::mac_bits(mf, 12, key, &message[0..n])
+    mac::mac_bits(mf, 12, key, &message[..n])
 }
 
 // MACSEQ fits the flexible fields of the section, under the key of block 1's tags.
@@ -127,7 +111,7 @@ pub fn macseq_fits(
         result ≡ eqb (mac_bits c.mf 12 k (macseq_message config.now c (section prn time status mack.now) (c.nmack * c.fields)))
         (macseq_of c mack.now) }
 {
-    let mut message = [0u8; 33];
+    let mut message = [0; 33];
     let n = macseq_message(config, c, prn, time, mack, &mut message);
     macseq_code(c.mf, key, &message, n) == mack::macseq_of(c, mack)
 }

@@ -12,8 +12,7 @@
 //   osnma_hmac_with       the code of m under a kept key, into 32 bytes
 //   osnma_compress        one block; no length can be wrong, and there is no answer
 //   osnma_keccak          the permutation of a state, likewise
-ghost use Rattle.std.specs.Prelude.{◌≡◌, ◌+◌, ◌≤◌, length};
-ghost use Rattle.laws.specs.Lists.{splice};
+ghost use Rattle.std.specs.Prelude.{◌≡◌, length};
 ghost use Rattle.sha256.specs.Sha256.{compress};
 ghost use Rattle.sha3.specs.Sha3.{keccak_f, sha3_224, sha3_256};
 ghost use Rattle.test_hash.specs.Calls.{
@@ -31,47 +30,38 @@ ghost use Rattle.test_hash.specs.Calls.{
 // 2 ^ 61 bytes: SHA-256 takes messages of fewer.
 const LIMIT: usize = 2305843009213693952;
 
-// The answers.
+// The answers, numbers as C gets them.
 const WRITTEN: u32 = 0;
 
 const REFUSED: u32 = 1;
 
+#[tactic(auto, using(std::proofs::lemmas::Bool::Decides::nat_tests), unfolding(crate::specs::Calls::sha256_call))]
 #[unsafe(no_mangle)]
 pub extern "C" fn osnma_sha256(m: &[u8], out: &mut [u8]) -> u32
     ensures { answer result out.new ≡ sha256_call m.now out.old }
 {
-    if out.len() != 32 {
-        return REFUSED;
-    }
-    if LIMIT <= m.len() {
+    if out.len() != 32 || LIMIT <= m.len() {
         return REFUSED;
     }
     let d = sha256::sha256(m);
-    buffer::copy_at(out, 0, &d);
+    out.copy_from_slice(&d);
     WRITTEN
 }
 
+#[tactic(auto, using(std::proofs::lemmas::Bool::Decides::nat_tests), unfolding(crate::specs::Calls::sha256_of_two_call))]
 #[unsafe(no_mangle)]
 pub extern "C" fn osnma_sha256_of_two(a: &[u8], b: &[u8], out: &mut [u8]) -> u32
     ensures { answer result out.new ≡ sha256_of_two_call a.now b.now out.old }
 {
-    if out.len() != 32 {
-        return REFUSED;
-    }
-    if LIMIT <= a.len() {
-        return REFUSED;
-    }
-    if LIMIT <= b.len() {
-        return REFUSED;
-    }
-    if LIMIT <= a.len() + b.len() {
+    if out.len() != 32 || LIMIT <= a.len() || LIMIT <= b.len() || LIMIT <= a.len() + b.len() {
         return REFUSED;
     }
     let d = sha256::sha256_of_two(a, b);
-    buffer::copy_at(out, 0, &d);
+    out.copy_from_slice(&d);
     WRITTEN
 }
 
+#[tactic(auto, using(std::proofs::lemmas::Bool::Decides::nat_tests), unfolding(crate::specs::Calls::digest_call))]
 #[unsafe(no_mangle)]
 pub extern "C" fn osnma_sha3_224(m: &[u8], out: &mut [u8]) -> u32
     ensures { answer result out.new ≡ digest_call 28 (sha3_224 m.now) out.old }
@@ -80,10 +70,11 @@ pub extern "C" fn osnma_sha3_224(m: &[u8], out: &mut [u8]) -> u32
         return REFUSED;
     }
     let d = sha3::sha3_224(m);
-    buffer::copy_at(out, 0, &d);
+    out.copy_from_slice(&d);
     WRITTEN
 }
 
+#[tactic(auto, using(std::proofs::lemmas::Bool::Decides::nat_tests), unfolding(crate::specs::Calls::digest_call))]
 #[unsafe(no_mangle)]
 pub extern "C" fn osnma_sha3_256(m: &[u8], out: &mut [u8]) -> u32
     ensures { answer result out.new ≡ digest_call 32 (sha3_256 m.now) out.old }
@@ -92,57 +83,45 @@ pub extern "C" fn osnma_sha3_256(m: &[u8], out: &mut [u8]) -> u32
         return REFUSED;
     }
     let d = sha3::sha3_256(m);
-    buffer::copy_at(out, 0, &d);
+    out.copy_from_slice(&d);
     WRITTEN
 }
 
+#[tactic(auto, using(std::proofs::lemmas::Bool::Decides::nat_tests), unfolding(crate::specs::Calls::hmac_call))]
 #[unsafe(no_mangle)]
 pub extern "C" fn osnma_hmac(key: &[u8], m: &[u8], out: &mut [u8]) -> u32
     ensures { answer result out.new ≡ hmac_call key.now m.now out.old }
 {
-    if out.len() != 32 {
-        return REFUSED;
-    }
-    if LIMIT <= key.len() {
-        return REFUSED;
-    }
-    if LIMIT - 64 <= m.len() {
+    if out.len() != 32 || LIMIT <= key.len() || LIMIT - 64 <= m.len() {
         return REFUSED;
     }
     let d = hmac::hmac(key, m);
-    buffer::copy_at(out, 0, &d);
+    out.copy_from_slice(&d);
     WRITTEN
 }
 
+#[tactic(auto, using(std::proofs::lemmas::Bool::Decides::nat_tests), unfolding(crate::specs::Calls::hmac_key_call))]
 #[unsafe(no_mangle)]
 pub extern "C" fn osnma_hmac_key(key: &[u8], state: &mut [u32]) -> u32
     ensures { answer result state.new ≡ hmac_key_call key.now state.old }
 {
-    if state.len() != 16 {
-        return REFUSED;
-    }
-    if LIMIT <= key.len() {
+    if state.len() != 16 || LIMIT <= key.len() {
         return REFUSED;
     }
     put_key(state, hmac::hmac_key(key));
     WRITTEN
 }
 
+#[tactic(auto, using(std::proofs::lemmas::Bool::Decides::nat_tests), unfolding(crate::specs::Calls::hmac_with_call))]
 #[unsafe(no_mangle)]
 pub extern "C" fn osnma_hmac_with(state: &[u32], m: &[u8], out: &mut [u8]) -> u32
     ensures { answer result out.new ≡ hmac_with_call state.now m.now out.old }
 {
-    if state.len() != 16 {
-        return REFUSED;
-    }
-    if out.len() != 32 {
-        return REFUSED;
-    }
-    if LIMIT - 64 <= m.len() {
+    if state.len() != 16 || out.len() != 32 || LIMIT - 64 <= m.len() {
         return REFUSED;
     }
     let d = hmac::hmac_with(get_key(state), m);
-    buffer::copy_at(out, 0, &d);
+    out.copy_from_slice(&d);
     WRITTEN
 }
 
@@ -150,8 +129,7 @@ pub extern "C" fn osnma_hmac_with(state: &[u32], m: &[u8], out: &mut [u8]) -> u3
 pub extern "C" fn osnma_compress(h: &mut [u32; 8], block: &[u8; 64])
     ensures { h.new ≡ compress h.old block.now }
 {
-    let g = *h;
-    let v = sha256::compress(g, block);
+    let v = sha256::compress(*h, block);
     *h = v;
 }
 
@@ -159,47 +137,30 @@ pub extern "C" fn osnma_compress(h: &mut [u32; 8], block: &[u8; 64])
 pub extern "C" fn osnma_keccak(s: &mut [u64; 25])
     ensures { s.new ≡ keccak_f s.old }
 {
-    let g = *s;
-    let v = sha3::permute(g);
+    let v = sha3::permute(*s);
     *s = v;
 }
 
 // A kept key, as sixteen words.
+#[tactic(auto, unfolding(crate::specs::Calls::words))]
 fn put_key(state: &mut [u32], k: hmac::HmacKey)
     requires { length state.old ≡ 16 }
     ensures { state.new ≡ words k }
 {
-    let inner = k.inner;
-    let outer = k.outer;
-    put_words(state, 0, inner);
-    put_words(state, 8, outer);
-}
-
-// The words w into `dst` from place `at`.
-fn put_words(dst: &mut [u32], at: usize, w: [u32; 8])
-    requires { at + 8 ≤ length dst.old }
-    ensures { dst.new ≡ splice dst.old at w }
-{
-    let mut i: usize = 0;
-    while i < 8 {
-        dst[at + i] = w[i];
-        i += 1;
-    }
+    let (inner, outer) = state.split_at_mut(8);
+    inner.copy_from_slice(&k.inner);
+    outer.copy_from_slice(&k.outer);
 }
 
 // The kept key of sixteen words.
+#[tactic(auto, unfolding(crate::specs::Calls::key_in, laws::specs::Lists::part))]
 fn get_key(state: &[u32]) -> hmac::HmacKey
     requires { length state.now ≡ 16 }
     ensures { result ≡ key_in state.now }
 {
-    let inner = [
-        state[0], state[1], state[2], state[3], state[4], state[5], state[6], state[7],
-    ];
-    let outer = [
-        state[8], state[9], state[10], state[11], state[12], state[13], state[14], state[15],
-    ];
-    hmac::HmacKey {
-        inner: inner,
-        outer: outer,
-    }
+    let mut inner = [0u32; 8];
+    let mut outer = [0u32; 8];
+    inner.copy_from_slice(&state[..8]);
+    outer.copy_from_slice(&state[8..]);
+    hmac::HmacKey { inner, outer }
 }

@@ -21,7 +21,7 @@ ghost use Rattle.test_mac.specs.Calls.{
   cmac_with_call,
 };
 
-// The answers.
+// The answers: numbers, for the functions are C's.
 const WRITTEN: u32 = 0;
 
 const REFUSED: u32 = 1;
@@ -30,10 +30,7 @@ const REFUSED: u32 = 1;
 pub extern "C" fn osnma_aes_expand(key: &[u8], out: &mut [u8]) -> u32
     ensures { answer result out.new ≡ expand_call key.now out.old }
 {
-    if no_key(key.len()) {
-        return REFUSED;
-    }
-    if out.len() != 240 {
+    if no_key(key.len()) || out.len() != 240 {
         return REFUSED;
     }
     aes::expand_key(key, out);
@@ -44,18 +41,10 @@ pub extern "C" fn osnma_aes_expand(key: &[u8], out: &mut [u8]) -> u32
 pub extern "C" fn osnma_aes_encrypt(n: usize, w: &[u8], block: &[u8; 16], out: &mut [u8]) -> u32
     ensures { answer result out.new ≡ encrypt_call n w.now block.now out.old }
 {
-    if no_key(n) {
+    if no_key(n) || w.len() != 240 || out.len() != 16 {
         return REFUSED;
     }
-    if w.len() != 240 {
-        return REFUSED;
-    }
-    if out.len() != 16 {
-        return REFUSED;
-    }
-    let b = *block;
-    let d = aes::cipher(aes::rounds_of(n), w, b);
-    buffer::copy_at(out, 0, &d);
+    out.copy_from_slice(&aes::cipher(aes::rounds_of(n), w, *block));
     WRITTEN
 }
 
@@ -63,14 +52,10 @@ pub extern "C" fn osnma_aes_encrypt(n: usize, w: &[u8], block: &[u8; 16], out: &
 pub extern "C" fn osnma_cmac(key: &[u8], m: &[u8], out: &mut [u8]) -> u32
     ensures { answer result out.new ≡ cmac_call key.now m.now out.old }
 {
-    if no_key(key.len()) {
+    if no_key(key.len()) || out.len() != 16 {
         return REFUSED;
     }
-    if out.len() != 16 {
-        return REFUSED;
-    }
-    let d = cmac::cmac(key, m);
-    buffer::copy_at(out, 0, &d);
+    out.copy_from_slice(&cmac::cmac(key, m));
     WRITTEN
 }
 
@@ -92,8 +77,7 @@ pub extern "C" fn osnma_cmac_with(kept: &[u8; 273], m: &[u8], out: &mut [u8]) ->
     if out.len() != 16 {
         return REFUSED;
     }
-    let d = cmac::cmac_with(kept, m);
-    buffer::copy_at(out, 0, &d);
+    out.copy_from_slice(&cmac::cmac_with(kept, m));
     WRITTEN
 }
 
@@ -101,20 +85,12 @@ pub extern "C" fn osnma_cmac_with(kept: &[u8; 273], m: &[u8], out: &mut [u8]) ->
 pub extern "C" fn osnma_cmac_truncate(code: &mut [u8; 16], n: usize)
     ensures { code.new ≡ truncated n code.old }
 {
-    let c = *code;
-    let d = cmac::truncate(c, n);
-    *code = d;
+    *code = cmac::truncate(*code, n);
 }
 
 // Whether no key has n bytes.
 fn no_key(n: usize) -> bool
     ensures { result ≡ not_key n }
 {
-    if n == 16 {
-        return false;
-    }
-    if n == 24 {
-        return false;
-    }
-    n != 32
+    !matches!(n, 16 | 24 | 32)
 }

@@ -106,10 +106,6 @@ pub fn tag_slot(ns: u64, nmack: u64, root: u64, g: u32, b: u8, adkd: u8) -> u64
     requires { ((1 ≤ ns) × (ns ≤ 36)) × (nmack ≤ 3) }
     ensures { result ≡ S.tag_slot ns nmack root g b adkd }
 {
-    lowest_slot(
-        ns,
-        nmack,
-        subframe_at(root, key_seconds(g, adkd)),
-        u64::from(b),
-    )
+    let subframe = subframe_at(root, key_seconds(g, adkd));
+    lowest_slot(ns, nmack, subframe, u64::from(b))
 }

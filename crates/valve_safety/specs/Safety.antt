@@ -1,5 +1,5 @@
 -- Core and gate in one run: every call goes to the core, the gate is shown its numbers, and a decision asks the core's two questions. Nothing else passes
--- between them. Of both libraries the contracts of their exported functions are known, and nothing else.
+-- between them. Of both libraries the contracts of their exported functions are known, and nothing else: what they say is a parameter, `Both`.
 use Rattle.std.specs.Prelude.{ℕ, ◌/◌, ◌%◌, ◌^◌, ◌≤◌, ◌<◌, ◌≡◌, Bool, true, false, not, ◌&&◌, List, [], ◌∷◌}
 use Rattle.std.specs.Borrow.{Bor, MutBor}
 use Rattle.assurance.specs.Run as C
@@ -14,6 +14,25 @@ use Rattle.valve_gate.specs.Asked.{decide_asked}
 use Rattle.valve_rules.specs.Gate.{limit_of, stop_seen, free_valves, yes}
 use Rattle.valve_rules.specs.Gate as S
 use Rattle.valve_safety.specs.Exported.{Answer, answer, Did, DecideDid, Began}
+use Rattle.valve_safety.specs.Exported as E
+
+-- parameters of a decision that asks the core, at entry or at exit, and its clause
+abbrev pub AskArgs : Type 0
+AskArgs = MutBor (List ℕ) × (Bor (List ℕ) × (Bor (List ℕ) × (MutBor ℕ × Unit {0})))
+
+abbrev pub AskLearnt : C.Clause AskArgs
+AskLearnt (bytes, (clocks, (arrivals, _))) r (bytes', (_, (_, (free', _)))) =
+    (s : State) → S.decision r bytes'.now free'.now
+    ≡ decide_asked bytes.now (four_read (four_lent s clocks.now arrivals.now) 20) (four_read (four_lent s clocks.now arrivals.now) 10)
+
+-- the contracts of the core, of the gate, and of its decision that asks the core
+pub record Both : Type 1 where
+  pub core : C.Clauses
+  pub gate : E.Clauses
+  pub ask : C.Clause AskArgs
+
+abbrev pub written : Both
+written = record { core = C.written; gate = E.written; ask = AskLearnt }
 
 pub record Boom : Type 0 where
   -- what the core's regions hold, and its calls since its last accepted start
@@ -32,28 +51,19 @@ shown_of (verdict v) r es = G.answered r.code ∷ es
 shown_of (ask q) r es = es
 
 -- lent the bytes g, the gate was shown the numbers of this call, and left g'
-abbrev pub Shown : Call → Reply → List ℕ → List ℕ → Type 0
-Shown (start x) r g g' = (a : Answer) × Did g (G.started r.code) a g'
-Shown (word w) r g g' = (a : Answer) × Did g (G.answered r.code) a g'
-Shown (subframe area x) r g g' = (a : Answer) × Did g (G.subframe r.code r.mack) a g'
-Shown (verdict v) r g g' = (a : Answer) × Did g (G.answered r.code) a g'
-Shown (ask q) r g g' = g' ≡ g
+abbrev pub Shown : Both → Call → Reply → List ℕ → List ℕ → Type 0
+Shown k (start x) r g g' = (a : Answer) × Did k.gate g (G.started r.code) a g'
+Shown k (word w) r g g' = (a : Answer) × Did k.gate g (G.answered r.code) a g'
+Shown k (subframe area x) r g g' = (a : Answer) × Did k.gate g (G.subframe r.code r.mack) a g'
+Shown k (verdict v) r g g' = (a : Answer) × Did k.gate g (G.answered r.code) a g'
+Shown k (ask q) r g g' = g' ≡ g
 
 -- the answer of the core to the question for four satellites: yes
 abbrev pub says_yes : State → ℕ → Bool
 says_yes s limit = yes (four_read s limit).yes
 
--- parameters of a decision that asks the core, at entry or at exit, and its clause
-abbrev pub AskArgs : Type 0
-AskArgs = MutBor (List ℕ) × (Bor (List ℕ) × (Bor (List ℕ) × (MutBor ℕ × Unit {0})))
-
-abbrev pub AskLearnt : AskArgs → ℕ → AskArgs → Type 0
-AskLearnt (bytes, (clocks, (arrivals, _))) r (bytes', (_, (_, (free', _)))) =
-    (s : State) → S.decision r bytes'.now free'.now
-    ≡ decide_asked bytes.now (four_read (four_lent s clocks.now arrivals.now) 20) (four_read (four_lent s clocks.now arrivals.now) 10)
-
 -- a decision that asked the core in the state s: lent the bytes g, it gave this answer and left g'
-pub record Asked (s : State) (g : List ℕ) (a : Answer) (g' : List ℕ) : Type 0 where
+pub record Asked (k : Both) (s : State) (g : List ℕ) (a : Answer) (g' : List ℕ) : Type 0 where
   pub args : AskArgs
   pub result : ℕ
   pub last : AskArgs
@@ -62,7 +72,7 @@ pub record Asked (s : State) (g : List ℕ) (a : Answer) (g' : List ℕ) : Type 
   pub core_is : four_lent s args.1.0.now args.1.1.0.now ≡ s
   pub left_is : last.0.now ≡ g'
   pub told_is : answer result last.1.1.1.0.now ≡ a
-  pub learnt : AskLearnt args result last
+  pub learnt : k.ask args result last
 
 -- ---- a decision
 
@@ -71,28 +81,28 @@ abbrev pub decision : Boom → Event
 decision b = decide (says_yes b.core 20) (says_yes b.core 10)
 
 -- what the caller hands the gate for a limit: what the core answered for it, or for a lower one where no sub-frame came for a while, or no
-pub data Says (s : State) (limit : ℕ) : ℕ → Type 0 where
-  answered : {lower : ℕ} {r : Reply} → lower ≤ limit → C.Did s (ask (four lower)) r s → Says s limit r.yes
-  no : Says s limit 0
+pub data Says (k : Both) (s : State) (limit : ℕ) : ℕ → Type 0 where
+  answered : {lower : ℕ} {r : Reply} → lower ≤ limit → C.Did k.core s (ask (four lower)) r s → Says k s limit r.yes
+  no : Says k s limit 0
 
 -- The gate decides by what the core answers then, and this event comes to it: lent the core's two regions it asks itself, or the caller has asked and hands
 -- it the answers. Questions change nothing, and the history here has those of decisions not among its reads.
-pub data Decides (b : Boom) (a : Answer) (g : List ℕ) : Event → Type 0 where
-  asking : Asked b.core b.gate a g → Decides b a g (decision b)
-  told : {met20 met10 : ℕ} → Says b.core 20 met20 → Says b.core 10 met10 → DecideDid b.gate (decide (yes met20) (yes met10)) a g
-      → Decides b a g (decide (yes met20) (yes met10))
+pub data Decides (k : Both) (b : Boom) (a : Answer) (g : List ℕ) : Event → Type 0 where
+  asking : Asked k b.core b.gate a g → Decides k b a g (decision b)
+  told : {met20 met10 : ℕ} → Says k b.core 20 met20 → Says k b.core 10 met10 → DecideDid k.gate.decide b.gate (decide (yes met20) (yes met10)) a g
+      → Decides k b a g (decide (yes met20) (yes met10))
 
 -- ---- a run
 
-pub data Run : Boom → Type 0 where
+pub data Run (k : Both) : Boom → Type 0 where
   -- an accepted start of the core, whatever its regions held, and a gate that begins
-  begins : {s began : State} {x : Start} {g : List ℕ} → C.Did s (start x) (plain 0) began → Began g
-      → Run (record { core = began; history = record { origin = x; began = began; log = [] }; gate = g; events = [] })
+  begins : {s began : State} {x : Start} {g : List ℕ} → C.Did k.core s (start x) (plain 0) began → Began k.gate g
+      → Run k (record { core = began; history = record { origin = x; began = began; log = [] }; gate = g; events = [] })
   -- a call of the core, refused or not, of which the gate is shown the numbers
-  called : {b : Boom} {c : Call} {r : Reply} {s : State} {g : List ℕ} → Run b → C.Did b.core c r s → Shown c r b.gate g
-      → Run (record { core = s; history = advanced b.history c r.code r s; gate = g; events = shown_of c r b.events })
-  decides : {b : Boom} {e : Event} {a : Answer} {g : List ℕ} → Run b → Decides b a g e
-      → Run (record { core = b.core; history = b.history; gate = g; events = e ∷ b.events })
+  called : {b : Boom} {c : Call} {r : Reply} {s : State} {g : List ℕ} → Run k b → C.Did k.core b.core c r s → Shown k c r b.gate g
+      → Run k (record { core = s; history = advanced b.history c r.code r s; gate = g; events = shown_of c r b.events })
+  decides : {b : Boom} {e : Event} {a : Answer} {g : List ℕ} → Run k b → Decides k b a g e
+      → Run k (record { core = b.core; history = b.history; gate = g; events = e ∷ b.events })
 
 -- ---- what holds of every run
 
@@ -104,13 +114,16 @@ pub record Freed (b : Boom) (k : ℕ) : Type 0 where
   -- and each of them as demand 3 claims of a set that is read: tags of 40 bits, their keys, the root, its signature
   pub backed : FourBacked b.history.origin b.history.began (limit_of k) b.history.log
 
-pub record Safe : Type 0 where
+pub record SafeOf (k : Both) : Type 0 where
   -- the gate's claim speaks of these bytes
-  pub bytes : (b : Boom) → Run b → b.gate ≡ gate b.events
+  pub bytes : (b : Boom) → Run k b → b.gate ≡ gate b.events
   -- the gate knows of a stop exactly when there is one
-  pub stop_known : (b : Boom) → Run b → stop_seen b.gate ≡ stopped b.core.config
+  pub stop_known : (b : Boom) → Run k b → stop_seen b.gate ≡ stopped b.core.config
   -- a decision that asks counts a valve's limit as met exactly when the core says yes to it and is not stopped
-  pub counts : (b : Boom) → Run b → (k : ℕ) → mets_of k (decision b ∷ b.events) ≡ (not (stopped b.core.config) && says_yes b.core (limit_of k)) ∷ mets_of k b.events
+  pub counts : (b : Boom) → Run k b → (k : ℕ) → mets_of k (decision b ∷ b.events) ≡ (not (stopped b.core.config) && says_yes b.core (limit_of k)) ∷ mets_of k b.events
   -- every decision is answered 0, and tells the free valves
-  pub answers : (b : Boom) (e : Event) (a : Answer) (g : List ℕ) → Run b → Decides b a g e → (a.code ≡ 0) × (a.free ≡ free_valves g)
-  pub freed : (b : Boom) (e : Event) (a : Answer) (g : List ℕ) → Run b → Decides b a g e → (k : ℕ) → k < 48 → a.free / 2 ^ k % 2 ≡ 1 → Freed b k
+  pub answers : (b : Boom) (e : Event) (a : Answer) (g : List ℕ) → Run k b → Decides k b a g e → (a.code ≡ 0) × (a.free ≡ free_valves g)
+  pub freed : (b : Boom) (e : Event) (a : Answer) (g : List ℕ) → Run k b → Decides k b a g e → (k : ℕ) → k < 48 → a.free / 2 ^ k % 2 ≡ 1 → Freed b k
+
+abbrev pub Safe : Type 0
+Safe = SafeOf written

@@ -2,15 +2,16 @@
 -- Assumes nothing.
 use mathlib.Core.Path.{◌≡◌, refl, sym, ap, ◌∙◌}
 use mathlib.Core.Bool.{Bool, true, false, cond}
-use mathlib.Core.List.{List, [], ◌∷◌, ◌++◌}
-use Prim.Native.Nat.{ℕ, ◌+◌, ◌*◌, ◌/◌, ◌%◌, ◌≤◌, ◌<◌}
+use mathlib.Core.List.{List, [], ◌∷◌, ◌++◌, append_assoc}
+use native.Mathlib.Nat.{add-sub_cancel_left}
+use Prim.Native.Nat.{ℕ, ◌+◌, ◌-◌, ◌*◌, ◌/◌, ◌%◌, ◌≤◌}
 use native.Mathlib.Omega.{arith}
 use native.Mathlib.Numerals.{add-one}
-use lib.ListN.{length, take, get_or, set, length-append}
-use lib.Seq.{length-take-le}
+use lib.ListN.{length, drop, length-append}
+use lib.Seq.{paste, drop-drop}
 use Rattle.laws.specs.Lists.{part, splice}
 use Rattle.laws.specs.Bytes.{be4}
-use Rattle.laws.proofs.Splice.{length_part, get_d_part, splice_more, splice-append, splice_nil, part_splice_past, get_or_splice_past, part-part, splice-after}
+use Rattle.laws.proofs.Splice.{length_part, range_part, splice-append, splice_nil, part_splice_past, part-part, splice-after}
 use Rattle.rules.specs.Tags.{tag_entry, entry_at, entry_set}
 use Rattle.rules.specs.Verdict.{key_not_before, staying}
 use Rattle.rules.specs.declared.Tag.{Tag}
@@ -39,14 +40,11 @@ entry_spliced w a t s h e =
 
 -- ---- bytes that move to an earlier place
 
-pub moved : (d : List ℕ) (from to n i : ℕ) → to ≤ from → from + n ≤ length d → i < n
-    → set (splice d to (take i (part d from n))) (to + i) (get_or (splice d to (take i (part d from n))) (from + i) 0)
-    ≡ splice d to (take (i + 1) (part d from n))
-moved d from to n i p q r =
-    let e : length (part d from n) ≡ n = length_part d from n q in
-    let t : length (take i (part d from n)) ≡ i = length-take-le i (part d from n) (omega arith) in
-    splice_more d to (part d from n) i _ (omega arith) (omega arith)
-    (get_or_splice_past d to (take i (part d from n)) (omega arith) (from + i) (omega arith) ∙ sym (get_d_part d from n i r))
+pub moved : (d : List ℕ) (from to n : ℕ) → from + n ≤ length d → paste d to (drop from d) (from + n - from) ≡ splice d to (part d from n)
+unfolding splice
+moved d from to n h =
+    let e : length (part d from n) ≡ n = length_part d from n h in
+    rw (range_part d from n, add-sub_cancel_left from n, e, drop-drop n to d, append_assoc)
 
 -- ---- entries that close up to the front
 

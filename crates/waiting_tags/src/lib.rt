@@ -34,16 +34,16 @@ fn tag_in(e: &[u8]) -> Tag
     ensures { result ≡ entry_tag e.now }
 {
     let time = buffer::get_u32(e, 5);
-    let bits = bitfields::wide(e[10]) * 4294967296 + bitfields::low(buffer::get_u32(e, 11));
+    let bits = u64::from(e[10]) * 4294967296 + u64::from(buffer::get_u32(e, 11));
     Tag {
         sender: e[0],
         prn: e[1],
         adkd: e[2],
         block: e[3],
         position: e[4],
-        time: time,
+        time,
         status: e[9] % 4,
-        bits: bits,
+        bits,
     }
 }
 
@@ -60,24 +60,11 @@ pub fn put_entry(waiting: &mut [u8], k: usize, t: Tag, set: &[u8])
     requires { (k * entry_length + entry_length ≤ length waiting.old) × (length set.now ≡ copy_length) }
     ensures { waiting.new ≡ splice waiting.old (k * entry_length) (tag_entry t set.now) }
 {
-    let time = t.time;
-    let bits = t.bits;
+    let time = t.time.to_be_bytes();
+    let bits = t.bits.to_be_bytes();
     let head = [
-        t.sender,
-        t.prn,
-        t.adkd,
-        t.block,
-        t.position,
-        (time / 16777216 % 256) as u8,
-        (time / 65536 % 256) as u8,
-        (time / 256 % 256) as u8,
-        (time % 256) as u8,
-        t.status,
-        (bits / 4294967296 % 256) as u8,
-        (bits / 16777216 % 256) as u8,
-        (bits / 65536 % 256) as u8,
-        (bits / 256 % 256) as u8,
-        (bits % 256) as u8,
+        t.sender, t.prn, t.adkd, t.block, t.position, time[0], time[1], time[2], time[3], t.status,
+        bits[3], bits[4], bits[5], bits[6], bits[7],
     ];
     buffer::copy_at(waiting, k * ENTRY_LENGTH, &head);
     buffer::copy_at(waiting, k * ENTRY_LENGTH + 15, set);
@@ -85,29 +72,13 @@ pub fn put_entry(waiting: &mut [u8], k: usize, t: Tag, set: &[u8])
 
 // ---- entries close up
 
-// n bytes from place `from` on move to place `to`, which is not after it.
-fn move_bytes(d: &mut [u8], from: usize, to: usize, n: usize)
-    requires { (to ≤ from) × (from + n ≤ length d.old) }
-    ensures { d.new ≡ splice d.old to (part d.old from n) }
-{
-    let mut i: usize = 0;
-    while i < n {
-        d[to + i] = d[from + i];
-        i += 1;
-    }
-}
-
 // Entry `from` moves to place `to`, which is not after it.
 pub fn move_entry(waiting: &mut [u8], from: usize, to: usize)
     requires { (to ≤ from) × (from * entry_length + entry_length ≤ length waiting.old) }
     ensures { waiting.new ≡ splice waiting.old (to * entry_length) (entry_at waiting.old from) }
 {
-    move_bytes(
-        waiting,
-        from * ENTRY_LENGTH,
-        to * ENTRY_LENGTH,
-        ENTRY_LENGTH,
-    );
+    let start = from * ENTRY_LENGTH;
+    waiting.copy_within(start..start + ENTRY_LENGTH, to * ENTRY_LENGTH);
 }
 
 // "A waiting tag is due once the held slot reaches its key's slot."
@@ -147,11 +118,9 @@ pub fn keep_staying(waiting: &mut [u8], root: u64, n: usize) -> usize
     ensures { (waiting.new ≡ splice waiting.old 0 (staying root waiting.old n))
         × ((length (staying root waiting.old n) ≡ result * entry_length) × (result ≤ n)) }
 {
-    let mut kept: usize = 0;
-    let mut k: usize = 0;
-    while k < n {
+    let mut kept = 0;
+    for k in 0..n {
         kept = keep_one(waiting, root, k, kept);
-        k += 1;
     }
     kept
 }

@@ -55,11 +55,12 @@ fn exports_of(wanted: impl Fn(&str) -> bool) -> Declarations {
 }
 
 const BOUNDARY: &str = "crates/assurance/proofs/Boundary.antt";
-const RUN: &str = "crates/assurance/proofs/Contracts.antt";
+const CONTRACTS: &str = "crates/assurance/proofs/Contracts.antt";
+const RUN: &str = "crates/assurance/specs/Run.antt";
 
 /// The calls of crates/osnma that crates/assurance holds to the rules and has in its runs.
 fn covered() -> BTreeSet<String> {
-    assurance::covered(&read(BOUNDARY), &read(RUN)).unwrap()
+    assurance::covered(&read(BOUNDARY), &read(CONTRACTS), &read(RUN)).unwrap()
 }
 
 /// The core's exports that are no call of 01, with the reason why no run has them. They are lent nothing.
@@ -445,25 +446,34 @@ fn an_added_export_is_seen() {
 // A statement of the boundary, a constructor of the runs or what it takes, left out or of another call.
 #[test]
 fn a_call_that_is_not_covered_is_seen() {
-    let (boundary, run) = (read(BOUNDARY), read(RUN));
-    assert!(assurance::covered(&boundary, &run).is_ok());
-    let constructor = "  worded : WordDid s c reply s' → Did s c reply s'\n";
+    let (boundary, contracts, run) = (read(BOUNDARY), read(CONTRACTS), read(RUN));
+    assert!(assurance::covered(&boundary, &contracts, &run).is_ok());
+    let constructor = "  worded : WordDid k.word s c reply s' → Did k s c reply s'\n";
     for (old, new) in [
         (constructor, ""),
         (
             constructor,
-            "  worded : StartDid s c reply s' → Did s c reply s'\n",
+            "  worded : StartDid k.start s c reply s' → Did k s c reply s'\n",
         ),
-        (
-            "word-kinds.r word-reads.Learnt",
-            "word-kinds.r start-reads.Learnt",
-        ),
-        ("osnma_regions_word.Reads", "osnma_regions_words.Reads"),
         ("pub data Did", "data Did"),
     ] {
         assert!(run.contains(old), "{old}");
         let changed = run.replacen(old, new, 1);
-        assert!(assurance::covered(&boundary, &changed).is_err(), "{new}");
+        assert!(
+            assurance::covered(&boundary, &contracts, &changed).is_err(),
+            "{new}"
+        );
+    }
+    for (old, new) in [
+        ("× word-reads.Learnt", "× start-reads.Learnt"),
+        ("osnma_regions_word.Reads", "osnma_regions_words.Reads"),
+    ] {
+        assert!(contracts.contains(old), "{old}");
+        let changed = contracts.replacen(old, new, 1);
+        assert!(
+            assurance::covered(&boundary, &changed, &run).is_err(),
+            "{new}"
+        );
     }
     for (old, new) in [
         ("osnma_regions_word.Reads", "osnma_regions_words.Reads"),
@@ -475,6 +485,9 @@ fn a_call_that_is_not_covered_is_seen() {
     ] {
         assert!(boundary.contains(old), "{old}");
         let changed = boundary.replacen(old, new, 1);
-        assert!(assurance::covered(&changed, &run).is_err(), "{new}");
+        assert!(
+            assurance::covered(&changed, &contracts, &run).is_err(),
+            "{new}"
+        );
     }
 }

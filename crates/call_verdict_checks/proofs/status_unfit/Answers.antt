@@ -1,19 +1,13 @@
--- `call_verdict_checks::status_unfit` meets its contract: each return is a case of the NMA status.
-use mathlib.Core.Path.{sym, ◌∙◌}
+-- `call_verdict_checks::status_unfit` meets its contract: the NMA status is 1 or 2 past the other cases.
+use native.Mathlib.Omega.{arith}
 use borrow.Author.Rules.{rules}
-use Rattle.call_verdict_checks.proofs.Tests.{status_none, status_drop, status_put}
+use Rattle.call_verdict_checks.proofs.Tests.{status_put}
 use Rattle.call_verdict_checks.proofs.status_unfit.Goals as goal
 
-pub returns-then-status-eq0 : goal.returns-then-status-eq0
-returns-then-status-eq0 c = λ s m e. status_none s _ _ (sym c.status_of-status.ensures ∙ c.if-status-eq0.true)
-
-pub returns-then-status-eq3 : goal.returns-then-status-eq3
-returns-then-status-eq3 c =
-    λ s m e. status_drop s _ _ _ (sym c.status_of-status.ensures ∙ c.if-status-eq3.true) (c.cid_in_force.ensures s m e ∙ rw c.cid_of-cid.ensures)
-
-pub returns : goal.returns
-returns c =
+pub returns-in_default : goal.returns-in_default
+returns-in_default c =
     let g = c.args in
-    λ s m e.
+    let e = c.status_of.ensures in
+    λ s m k.
     rw c.cidkr.ensures
-    (status_put s g.header _ _ (search rules) (λ k. c.if-status-eq0.false (c.status_of-status.ensures ∙ k)) (λ k. c.if-status-eq3.false (c.status_of-status.ensures ∙ k)) c.cid_of-cid.ensures)
+    (status_put s g.header _ _ (search rules) (λ n. absurd (grind (arith, e, n, c.in_default))) (λ n. absurd (grind (arith, e, n, c.in_default))) c.cid_of-in_default.ensures)

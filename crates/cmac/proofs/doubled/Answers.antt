@@ -8,13 +8,13 @@ use Rattle.cmac.proofs.Operations.{xored-R128}
 use borrow.Author.Rules.{rules}
 use Rattle.cmac.proofs.doubled.Goals as goal
 
-pub returns-then-x-eq0 : goal.returns-then-x-eq0
+pub returns-else-x-ne0 : goal.returns-else-x-ne0
 unfolding S.doubled S.bit
-returns-then-x-eq0 c = c.shifted-d.ensures ∙ rw (eq-eqb _ _ c.if-x-eq0.true)
+returns-else-x-ne0 c = c.shifted-d.ensures ∙ rw (eq-eqb _ _ c.if-x-ne0.false)
 
-pub returns : goal.returns
+pub returns-then-x-ne0 : goal.returns-then-x-ne0
 unfolding S.doubled S.bit
-returns c =
+returns-then-x-ne0 c =
     let x = c.args.x in
     let e : length c.shifted-d.result ≡ 16 = search rules in
-    rw (ne_eqb (get_or x 0 0 / 128 % 2) 0 c.if-x-eq0.false, ← c.shifted-d.ensures) (sym (xored-R128 _ e))
+    rw (ne_eqb (get_or x 0 0 / 128 % 2) 0 c.if-x-ne0.true, ← c.shifted-d.ensures) (sym (xored-R128 _ e))

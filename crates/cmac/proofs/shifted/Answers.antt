@@ -10,20 +10,15 @@ use native.Mathlib.Omega.{arith}
 use Rattle.cmac.proofs.shifted.Goals as goal
 
 pub loop-i-init : goal.loop-i-init
-loop-i-init c = (omega arith, (refl, refl))
+loop-i-init c = (refl, refl)
 
 pub loop-i-preserved : goal.loop-i-preserved
 loop-i-preserved c =
     let l = c.loop-i in
     let x = c.args.x in
     let e : length x ≡ 16 = search rules in
-    let n = length-shifted x in (
-      omega arith,
-      (
-        simp length-set l.invariant.1.0,
-        fill_one (S.shifted x) l.d l.i _ (omega arith) (omega arith) l.invariant.1.1 (rw (add-one) (sym (get_or-shifted x l.i (omega arith)))),
-      ),
-    )
+    let n = length-shifted x in
+    (simp length-set l.invariant.0, fill_one (S.shifted x) l.d l.i _ (omega arith) (omega arith) l.invariant.1 (rw (add-one) (sym (get_or-shifted x l.i (omega arith)))))
 
 pub returns : goal.returns
 returns c =
@@ -32,5 +27,5 @@ returns c =
     let e : length x ≡ 16 = search rules in
     let n = length-shifted x in
     let e15 : l.i ≡ 15 = omega arith in
-    fill_all (S.shifted x) _ 16 16 (omega arith) (omega arith) (simp length-set l.invariant.1.0) (omega arith)
-    (fill_one (S.shifted x) l.d 15 _ (omega arith) (omega arith) (rw e15 at l.invariant.1.1) (sym (get_or-shifted_last x e)))
+    fill_all (S.shifted x) _ 16 16 (omega arith) (omega arith) (simp length-set l.invariant.0) (omega arith)
+    (fill_one (S.shifted x) l.d 15 _ (omega arith) (omega arith) (rw e15 at l.invariant.1) (sym (get_or-shifted_last x e)))

@@ -1,12 +1,8 @@
 -- `cmac::shifted` meets its contract: after i turns the first i bytes are stored; the last takes no bit in.
 use mathlib.Core.Path.{◌≡◌}
-use Prim.Native.Nat.{◌≤◌, ◌-◌}
 use lib.ListN.{length, take}
 use Rattle.cmac.specs.Cmac as S
 use Rattle.cmac.proofs.shifted.Given as goal
 
 abbrev pub invariant-loop-i : goal.invariant-loop-i
-invariant-loop-i l = (l.i ≤ 15) × ((length l.d ≡ 16) × (take l.i l.d ≡ take l.i (S.shifted l.x)))
-
-abbrev pub decreases-loop-i : goal.decreases-loop-i
-decreases-loop-i l = 15 - l.i
+invariant-loop-i l = (length l.d ≡ 16) × (take l.i l.d ≡ take l.i (S.shifted l.x))

@@ -1,24 +1,20 @@
 -- `gather::count_too_low` meets its contract: a count is at most 16, so that the marks can be shifted by it.
 use Rattle.rules.specs.Gather as Rule
 use Rattle.rules.proofs.Bounds.{total_bound}
-use borrow.Author.Tests.{eq-eqb, ne_eqb}
 use native.Mathlib.Omega.{arith}
 use Prim.Native.Nat.{◌≤◌}
 use Rattle.gather.proofs.count_too_low.Goals as goal
-use Rattle.gather.proofs.count_too_low.Goals.{After-total_of-total}
+use Rattle.gather.proofs.count_too_low.Goals.{After-total_of}
 
-total : (c : After-total_of-total) → c.total_of-total.result ≤ 16
-total c = rw c.total_of-total.ensures (total_bound _)
+total : (c : After-total_of) → c.total_of.result ≤ 16
+total c = rw c.total_of.ensures (total_bound _)
 
-pub returns-then-k-ne0 : goal.returns-then-k-ne0
-returns-then-k-ne0 c = rw (ne_eqb _ _ c.if-k-ne0.true)
-
-pub overflow_cast-result-2 : goal.overflow_cast-result-2
-overflow_cast-result-2 c = omega (arith, total (goal.at.overflow_cast-result-2 c).After-total_of-total)
+pub overflow_cast-result-then-k-eq0 : goal.overflow_cast-result-then-k-eq0
+overflow_cast-result-then-k-eq0 c = omega (arith, total (goal.at.overflow_cast-result-then-k-eq0 c).After-total_of)
 
 pub overflow_shr-result : goal.overflow_shr-result
-overflow_shr-result c = omega (arith, total (goal.at.overflow_shr-result c).After-total_of-total)
+overflow_shr-result c = omega (arith, total (goal.at.overflow_shr-result c).After-total_of)
 
-pub returns : goal.returns
+pub returns-then-k-eq0 : goal.returns-then-k-eq0
 unfolding Rule.block_of
-returns c = rw (eq-eqb _ _ c.if-k-ne0.false, c.total_of-total.ensures)
+returns-then-k-eq0 c = rw (c.if-k-eq0.true, c.total_of.ensures)

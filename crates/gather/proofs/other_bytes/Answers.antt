@@ -1,10 +1,8 @@
--- `gather::other_bytes` meets its contract: each return is the case of the mark.
+-- `gather::other_bytes` meets its contract: the block at the place is the one stored.
+use mathlib.Core.Path.{sym, ◌∙◌}
 use Rattle.rules.specs.Gather as Rule
 use Rattle.gather.proofs.other_bytes.Goals as goal
 
-pub returns-then-not-marked : goal.returns-then-not-marked
-returns-then-not-marked c = rw (← c.marked.ensures, c.if-not-marked.true)
-
-pub returns : goal.returns
+pub returns-then-marked : goal.returns-then-marked
 unfolding Rule.stored_block
-returns c = rw (← c.marked.ensures, c.if-not-marked.false, c.same_block.ensures)
+returns-then-marked c = rw (sym c.marked.ensures ∙ c.if-marked.true, c.same_block.ensures)

@@ -1,9 +1,7 @@
--- `gather::too_high` meets its contract: each return is the case of the mark of block 0.
+-- `gather::too_high` meets its contract: an ID's block 0 stands first.
+use mathlib.Core.Path.{sym, ◌∙◌}
 use Rattle.gather.proofs.Stores.{first_block}
 use Rattle.gather.proofs.too_high.Goals as goal
 
-pub returns-then-not-marked : goal.returns-then-not-marked
-returns-then-not-marked c = rw (← c.marked.ensures, c.if-not-marked.true)
-
-pub returns : goal.returns
-returns c = rw (← c.marked.ensures, c.if-not-marked.false, first_block, c.total_of.ensures)
+pub returns-then-marked : goal.returns-then-marked
+returns-then-marked c = rw (sym c.marked.ensures ∙ c.if-marked.true, first_block c.args.blocks.now c.args.id, c.total_of.ensures)

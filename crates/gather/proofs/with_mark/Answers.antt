@@ -20,6 +20,6 @@ returns-then-marked c = rw (← c.marked.ensures, c.if-marked.true)
 pub overflow_add-result : goal.overflow_add-result
 overflow_add-result c = rw (bit (goal.at.overflow_add-result c).Else-marked) (record { fits = mark_fits _ _ (search rules) c.requires (sym c.marked.ensures ∙ c.if-marked.false) })
 
-pub returns : goal.returns
+pub returns-else-marked : goal.returns-else-marked
 unfolding Rule.with_mark
-returns c = rw (bit (goal.at.returns c).Else-marked, ← c.marked.ensures, c.if-marked.false)
+returns-else-marked c = rw (bit (goal.at.returns-else-marked c).Else-marked, ← c.marked.ensures, c.if-marked.false)

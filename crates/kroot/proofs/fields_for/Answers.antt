@@ -10,9 +10,9 @@ pub returns-then-block-ks : goal.returns-then-block-ks
 unfolding S.fields_for
 returns-then-block-ks c =
     let g = c.args in
-    let e : S.block_bits g.nmack - g.ks ≡ 0 = rw (← c.wide.ensures.0) (omega (arith, c.block_bits-block.ensures)) in
+    let e : S.block_bits g.nmack - g.ks ≡ 0 = omega (arith, c.block_bits-block.ensures) in
     rw e (sym (zero-div (g.ms + 16)))
 
 pub returns : goal.returns
 unfolding S.fields_for
-returns c = rw (c.block_bits-block.ensures, c.wide.ensures.0)
+returns c = rw c.block_bits-block.ensures

@@ -6,8 +6,8 @@ use Rattle.kroot.proofs.root_seconds.Goals as goal
 
 pub hour_seconds-requires : goal.hour_seconds-requires
 hour_seconds-requires c =
-    (omega (arith, c.root_week.ensures, week_bound c.args.c.now), omega (arith, c.wide.ensures.1))
+    (omega (arith, c.root_week.ensures, week_bound c.args.c.now), omega arith)
 
 pub returns : goal.returns
 unfolding S.root_seconds_of
-returns c = rw (c.hour_seconds.ensures, c.wide.ensures.0, c.root_hour.ensures, c.root_week.ensures)
+returns c = rw (c.hour_seconds.ensures, c.root_hour.ensures, c.root_week.ensures)

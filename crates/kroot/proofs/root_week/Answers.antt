@@ -9,6 +9,4 @@ pub returns : goal.returns
 unfolding S.root_week_of
 returns c =
     let g = c.args in
-    let a = c.wide.ensures in
-    let b = c.wide-2.ensures in
-    rw (a.0, b.0) (sym (low_and-next g.c.now 3 (omega (arith, b.0, b.1))))
+    rw (c.from.ensures, c.from-2.ensures) (sym (low_and-next g.c.now 3 (omega (arith, c.type_inv.c 4))))

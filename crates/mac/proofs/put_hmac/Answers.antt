@@ -1,8 +1,15 @@
 -- `mac::put_hmac` meets its contract: two pieces are put after each other into zeros.
-use Rattle.mac.proofs.HmacBytes.{put_is}
+use mathlib.Core.Path.{◌≡◌, ap, ◌∙◌}
+use lib.ListN.{length, replicate}
 use borrow.Author.Rules.{rules}
+use Rattle.mac.proofs.HmacBytes.{put_is}
 use Rattle.mac.proofs.put_hmac.Goals as goal
 
 pub returns : goal.returns
 returns c =
-    put_is c.args.k c.args.kept.now c.requires (search rules) (search rules) c.bytes-i.ensures c.bytes-o.ensures c.fill.ensures c.copy_at.ensures c.copy_at-2.ensures
+    let i = c.copy_from_slice.ensures.after in
+    let o = c.copy_from_slice-2.ensures.after in
+    let li : length c.bytes.result ≡ 32 = search rules in
+    let lo : length c.bytes-2.result ≡ 32 = search rules in
+    let z : c.fill.new.self ≡ replicate 273 0 = c.fill.ensures.after (λ y h. search (rules, h)) ∙ ap (λ n. replicate n 0) c.requires in
+    put_is c.args.k (ap length i ∙ li) (ap length o ∙ lo) (i ∙ c.bytes.ensures) (o ∙ c.bytes-2.ensures) z

@@ -4,8 +4,8 @@ use native.Mathlib.Omega.{arith}
 use Rattle.aes.proofs.Lengths.{rounds_range}
 use Rattle.mac_examples.proofs.block.Goals as goal
 
-pub cipher-d-requires : goal.cipher-d-requires
-cipher-d-requires g c =
+pub cipher-requires : goal.cipher-requires
+cipher-requires g c =
     let n = rounds_range (length c.args.key.now) in
     let e = c.rounds_of.ensures in
     (omega arith, omega arith)

@@ -10,9 +10,6 @@ use Rattle.pkr.proofs.climb.Goals as goal
 pub bounds-d-0 : goal.bounds-d-0
 bounds-d-0 c = omega (arith, nodes_size c.args.d.now c.requires.0)
 
-pub loop-j-init : goal.loop-j-init
-loop-j-init c = (omega arith, c.leaf_hash-h.ensures)
-
 pub slice_bounds-join-end : goal.slice_bounds-join-end
 slice_bounds-join-end c =
     omega (arith, nodes_size c.args.d.now c.requires.0)
@@ -27,10 +24,10 @@ pub loop-j-preserved : goal.loop-j-preserved
 loop-j-preserved c =
     let l = c.loop-j in
     let d = c.args.d.now in
-    (omega arith, one_node_more d l.h c.join-g.result l.j l.invariant.1 (rw (range_part d (1 + 32 * l.j) 32) at c.join-g.ensures))
+    one_node_more d l.h c.join-g.result l.j l.invariant (rw (range_part d (1 + 32 * l.j) 32) at c.join-g.ensures)
 
 pub returns : goal.returns
 returns c =
     let l = c.loop-j in
     let e : l.j ≡ 4 = omega arith in
-    l.invariant.1 ∙ ap (S.climbed c.args.d.now) e
+    l.invariant ∙ ap (S.climbed c.args.d.now) e

@@ -1,14 +1,15 @@
--- `replay_records::replay_piece` meets its contract: after k turns what stands in the slice, and what is kept, is that of the first k records.
-use Prim.Native.Nat.{◌-◌}
-use Rattle.replay_answers.specs.Answers.{session}
-use Rattle.rules.specs.Replay.{record_count}
-use Rattle.rules.specs.State.{state}
-use Rattle.replay_records.specs.Written.{replay}
+-- What stands in the slice, and what is kept, is that of the records so far; what is left are those behind them.
+use Rattle.std.proofs.Common.{◌≡◌, ◌*◌, length, drop}
+use Rattle.std.specs.Slice.Iter.{chunks_rest, chunks_size}
+use Rattle.rules.specs.Replay.{record_length}
+use Rattle.replay_records.specs.Kept.{replay_of}
 use Rattle.replay_records.proofs.Pieces.{Read}
 use Rattle.replay_records.proofs.replay_piece.Given as goal
 
-abbrev pub invariant-loop-k : goal.invariant-loop-k
-invariant-loop-k l = Read l.initial.out (replay (session (state l.initial.config l.initial.clocks l.initial.words l.initial.stamps l.initial.blocks l.initial.headers l.initial.present l.initial.since l.initial.pubkeys l.initial.offer l.initial.chain l.initial.numbers l.initial.heldkey l.initial.waiting l.initial.sets l.initial.arrivals) l.initial.area l.initial.started) l.initial.place) l.input l.k l.filled l.out (replay (session (state l.config l.clocks l.words l.stamps l.blocks l.headers l.present l.since l.pubkeys l.offer l.chain l.numbers l.heldkey l.waiting l.sets l.arrivals) l.area l.started) l.place)
-
-abbrev pub decreases-loop-k : goal.decreases-loop-k
-decreases-loop-k l = record_count l.input - l.k
+abbrev pub invariant-loop-bytes : goal.invariant-loop-bytes
+invariant-loop-bytes l =
+    record {
+      rest : chunks_rest l.bytes-iterator ≡ drop (length l.yielded * record_length) l.input;
+      size : chunks_size l.bytes-iterator ≡ record_length;
+      read : Read l.initial.out (replay_of l.initial.replay) l.input (length l.yielded) l.filled l.out (replay_of l.replay);
+    }

@@ -18,9 +18,3 @@ returns c =
       place_after = record_written _ _ _ _ _ _ _ _ _ _ a l.0 l.1.0;
       upper_bound = omega (arith, (given_few _ _ _ _ _ _ a).0, l.1.1);
     }
-
-pub overflow_add-here : goal.overflow_add-here
-overflow_add-here c = omega (arith, c.requires.1)
-
-pub shape_of-out : goal.shape_of-out
-shape_of-out c = c.put_lines.auto.out

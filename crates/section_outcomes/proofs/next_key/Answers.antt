@@ -6,13 +6,14 @@ use Rattle.rules.specs.Chain.{held}
 use Rattle.section_outcomes.specs.Outcomes.{block_key}
 use Rattle.section_outcomes.proofs.Keys.{first_block, same_block}
 use Rattle.section_outcomes.proofs.next_key.Goals as goal
+use Rattle.section_outcomes.proofs.next_key.Goals.{then-j-eq0-via-then-j-eq0, then-j-eq0-via-else-j-eq0+then-j-fields-ne0}
 
 pub returns-then-j-eq0 : goal.returns-then-j-eq0
 returns-then-j-eq0 c =
     let g = c.args in
-    c.requires.kept_value ∙ ap (λ (b : ℕ). block_key g.c (held g.slot (take g.c.width g.known)) g.time b) (first_block g.j g.c.fields c.if-j-eq0.true)
-
-pub returns-then-j-fields-ne0 : goal.returns-then-j-fields-ne0
-returns-then-j-fields-ne0 c =
-    let g = c.args in
-    c.requires.kept_value ∙ ap (λ (b : ℕ). block_key g.c (held g.slot (take g.c.width g.known)) g.time b) (same_block g.j g.c.fields c.requires.walks.0.1.1.0 c.if-j-fields-ne0.true)
+    c.requires.kept_value
+    ∙ ap (λ (b : ℕ). block_key g.c (held g.slot (take g.c.width g.known)) g.time b)
+    (elim c.then-j-eq0.branch [
+      | then-j-eq0-via-then-j-eq0 w ↦ first_block g.j g.c.fields w.if-j-eq0.true
+      | then-j-eq0-via-else-j-eq0+then-j-fields-ne0 w ↦ same_block g.j g.c.fields c.requires.walks.0.1.1.0 w.if-j-fields-ne0.true
+    ])

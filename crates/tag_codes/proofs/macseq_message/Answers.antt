@@ -15,20 +15,16 @@ overflow_mul-count c = omega (arith, c.requires.0.few)
 
 pub loop-j-init : goal.loop-j-init
 loop-j-init c =
-    let g = c.args in (
-      omega arith,
-      (
-        sym (first_field g.c),
-        (
-          omega arith,
-          sender_in g.config.now g.c g.prn g.time g.mack.now g.out.now c.copy_at.new.dst (omega arith) c.copy_at.ensures,
-        ),
-      ),
-    )
+    let g = c.args in
+    record {
+      place = sym (first_field g.c);
+      room = omega arith;
+      front = sender_in g.config.now g.c g.prn g.time g.mack.now g.out.now _ (rw (c.copy_from_slice.ensures.after, c.to_be_bytes.ensures));
+    }
 
 pub next_field-f-requires : goal.next_field-f-requires
 next_field-f-requires c =
-    (c.requires.0.fit, (c.loop-j.invariant.1.0, (omega arith, c.requires.1.0.1)))
+    (c.requires.0.fit, (c.loop-j.invariant.place, (omega arith, c.requires.1.0.1)))
 
 pub put_info-n-requires : goal.put_info-n-requires
 put_info-n-requires c =
@@ -42,15 +38,12 @@ loop-j-preserved c =
     let p = c.put_info-n in
     let h : l.n + 2 ≤ length l.out = omega (arith, c.requires.0.few) in
     let i = ap (λ (x : Field). x.info) f in
-    let m = info_in g.config.now g.c g.prn g.time g.mack.now l.j l.n p.result _ l.out p.new.out h l.invariant.1.1.1.1 i p.ensures.0 p.ensures.1 in
-    (omega arith, (ap (λ (x : Field). x.next.used) f, (omega arith, (m.0 ∙ l.invariant.1.1.1.0, m.1.1))))
-
-pub shape_of-out : goal.shape_of-out
-shape_of-out c = omega (arith, c.loop-j.invariant.1.1.1.0, c.requires)
+    let m = info_in g.config.now g.c g.prn g.time g.mack.now l.j l.n p.result _ l.out p.new.out h l.invariant.front i p.ensures.0 p.ensures.1 in
+    record { place = ap (λ (x : Field). x.next.used) f; room = omega arith; front = m.1 }
 
 pub returns : goal.returns
 returns c =
     let g = c.args in
     let l = c.loop-j in
     let h : l.j ≡ g.c.nmack * g.c.fields = omega arith in
-    (l.invariant.1.1.1.1 ∙ ap (λ (i : ℕ). macseq_message g.config.now g.c (section g.prn g.time 0 g.mack.now) i) h, omega (arith, c.requires.0.few))
+    (l.invariant.front ∙ ap (λ (i : ℕ). macseq_message g.config.now g.c (section g.prn g.time 0 g.mack.now) i) h, omega (arith, c.requires.0.few))

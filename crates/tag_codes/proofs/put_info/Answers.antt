@@ -9,8 +9,8 @@ returns-then-flexible c =
     let e = sym c.flexible.ensures ∙ c.if-flexible.true in
     (rw e c.put_u16.ensures, rw e)
 
-pub returns : goal.returns
-returns c =
+pub returns-else-flexible : goal.returns-else-flexible
+returns-else-flexible c =
     let g = c.args in
     let e = sym c.flexible.ensures ∙ c.if-flexible.false in
     (rw e (sym (splice_nil g.out.now g.n)), rw e (omega arith))

@@ -6,4 +6,4 @@ use Rattle.tag_codes.proofs.tag_message.Goals as goal
 pub returns : goal.returns
 returns c =
     let g = c.args in
-    rw (c.status_and_set.ensures, c.copy_at.ensures) (message_whole g.out.now g.t g.set.now (omega arith))
+    rw (c.status_and_set.ensures, c.copy_from_slice.ensures.after, c.to_be_bytes.ensures) (message_whole g.out.now g.t g.set.now (omega arith))

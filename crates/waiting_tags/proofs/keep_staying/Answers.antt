@@ -13,10 +13,10 @@ long : (c : At-loop-k) → length c.loop-k.waiting ≡ length c.args.waiting.now
 long c =
     let g = c.args in
     let l = c.loop-k in
-    ap length l.invariant.1.1.1 ∙ length_splice g.waiting.now 0 (staying g.root g.waiting.now l.k) (omega arith)
+    ap length l.invariant.1.1 ∙ length_splice g.waiting.now 0 (staying g.root g.waiting.now l.k) (omega arith)
 
 pub loop-k-init : goal.loop-k-init
-loop-k-init c = (omega arith, (omega arith, none_yet c.args.root c.args.waiting.now))
+loop-k-init c = (omega arith, none_yet c.args.root c.args.waiting.now)
 
 pub keep_one-kept-requires : goal.keep_one-kept-requires
 keep_one-kept-requires c = (omega arith, (omega arith, omega (arith, long (goal.at.keep_one-kept-requires c).At-loop-k)))
@@ -25,11 +25,11 @@ pub loop-k-preserved : goal.loop-k-preserved
 loop-k-preserved c =
     let g = c.args in
     let l = c.loop-k in
-    let i = l.invariant.1.1 in
+    let i = l.invariant.1 in
     let s = c.keep_one-kept in
-    let m = stay_length g.root g.waiting.now l.waiting s.new.waiting l.k l.kept s.result l.invariant.1.0 (omega arith) i.0 i.1 s.ensures.0 s.ensures.1 in
-    let u = stay_region g.root g.waiting.now l.waiting s.new.waiting l.k l.kept s.result l.invariant.1.0 (omega arith) i.0 i.1 s.ensures.0 s.ensures.1 in
-    (omega arith, (m.1, (m.0, u)))
+    let m = stay_length g.root g.waiting.now l.waiting s.new.waiting l.k l.kept s.result l.invariant.0 (omega arith) i.0 i.1 s.ensures.0 s.ensures.1 in
+    let u = stay_region g.root g.waiting.now l.waiting s.new.waiting l.k l.kept s.result l.invariant.0 (omega arith) i.0 i.1 s.ensures.0 s.ensures.1 in
+    (m.1, (m.0, u))
 
 pub shape_of-waiting : goal.shape_of-waiting
 shape_of-waiting c = long (goal.at.shape_of-waiting c).At-loop-k
@@ -38,4 +38,4 @@ pub returns : goal.returns
 returns c =
     let l = c.loop-k in
     let h : l.k ≡ c.args.n = omega arith in
-    rw (← h) (l.invariant.1.1.1, (l.invariant.1.1.0, l.invariant.1.0))
+    rw (← h) (l.invariant.1.1, (l.invariant.1.0, l.invariant.0))

@@ -6,8 +6,8 @@ pub returns : goal.returns
 unfolding entry_tag
 returns c =
     rw (
-      c.low.ensures.0,
+      c.from-2.ensures,
       c.get_u32.ensures,
-      c.wide.ensures.0,
+      c.from.ensures,
       c.get_u32-time.ensures,
     )

@@ -1,5 +1,5 @@
-//! The calls of crates/osnma that crates/assurance holds to the rules (proofs/Boundary.antt) and has in its runs (proofs/Contracts.antt, from which the
-//! claim of specs/Run.antt follows).
+//! The calls of crates/osnma that crates/assurance holds to the rules (proofs/Boundary.antt) and has in its runs: specs/Run.antt, whose runs are over the
+//! clauses of the calls, and proofs/Contracts.antt, which has what the checker makes of each.
 
 use std::collections::{BTreeMap, BTreeSet};
 
@@ -56,31 +56,43 @@ fn declaration<'a>(run: &'a str, name: &str) -> Option<&'a str> {
     paragraphs.find(|paragraph| paragraph.lines().any(declares))
 }
 
-/// The records that the constructors of `Did` take.
-fn constructors(run: &str) -> Result<Vec<String>, String> {
+/// The records that the constructors of `Did` take, and the clause that each is over.
+fn constructors(run: &str) -> Result<Vec<(String, String)>, String> {
     let after = run.split_once("\npub data Did ").ok_or("no data Did")?.1;
     let lines = after.lines().skip(1);
     let lines = lines.take_while(|line| line.starts_with("  "));
     lines
         .filter(|line| !line.trim_start().starts_with("--"))
         .map(|line| {
-            let record = line.split_once(" : ").and_then(|(_, of)| words(of).next());
-            let record = record.ok_or(format!("no constructor: {line}"))?;
-            Ok(record.to_string())
+            let missing = || format!("no constructor: {line}");
+            let (_, of) = line.split_once(" : ").ok_or_else(missing)?;
+            let mut of = words(of);
+            let record = of.next().ok_or_else(missing)?;
+            let clause = of.next().and_then(|word| word.strip_prefix("k."));
+            Ok((record.into(), clause.ok_or_else(missing)?.into()))
         })
         .collect()
 }
 
-/// The calls that a step of a run can be: each has a constructor of `Did`, whose record has what is learnt of it.
-fn in_runs(run: &str) -> Result<BTreeSet<String>, String> {
-    let readings = readings(run)?;
+/// The calls that a step of a run can be: each has a constructor of `Did`, whose clause is what is learnt of it.
+fn in_runs(run: &str, contracts: &str) -> Result<BTreeSet<String>, String> {
+    let readings = readings(contracts)?;
     let mut found = BTreeSet::new();
-    for record in constructors(run)? {
+    for (record, clause) in constructors(run)? {
         let text = declaration(run, &record).ok_or(format!("{record} is not declared"))?;
+        let args = record.trim_end_matches("Did").to_string() + "Args";
+        if !text.contains(&format!("Made {args} Learnt ")) {
+            return Err(format!("{record} is not over its clause"));
+        }
+        let is = format!("      {clause} = ");
+        let mut lines = contracts.lines().filter(|line| line.starts_with(&is));
+        let (Some(text), None) = (lines.next(), lines.next()) else {
+            return Err(format!("{clause} is not one clause"));
+        };
         let learns = |alias: &str| words(text).any(|word| word == format!("{alias}.Learnt"));
         let mut learnt = readings.iter().filter(|(_, alias)| learns(alias));
         let (Some((name, _)), None) = (learnt.next(), learnt.next()) else {
-            return Err(format!("{record} has not one call's `Learnt`"));
+            return Err(format!("{clause} has not one call's `Learnt`"));
         };
         if !found.insert(name.clone()) {
             return Err(format!("{name} has two constructors"));
@@ -90,9 +102,9 @@ fn in_runs(run: &str) -> Result<BTreeSet<String>, String> {
     without.map_or(Ok(found), |name| Err(format!("{name} has no constructor")))
 }
 
-/// The calls that both files cover; an error where one lacks what the other has.
-pub fn covered(boundary: &str, run: &str) -> Result<BTreeSet<String>, String> {
-    let (stated, in_runs) = (stated(boundary)?, in_runs(run)?);
+/// The calls that the files cover; an error where one lacks what another has.
+pub fn covered(boundary: &str, contracts: &str, run: &str) -> Result<BTreeSet<String>, String> {
+    let (stated, in_runs) = (stated(boundary)?, in_runs(run, contracts)?);
     match stated.symmetric_difference(&in_runs).next() {
         Some(name) => Err(format!("{name} in one of both alone")),
         None => Ok(stated),

@@ -1,9 +1,0 @@
--- `cmac::subkey_place` meets its contract: a complete block, or another.
-use borrow.Author.Tests.{eq-eqb, ne_eqb}
-use Rattle.cmac.proofs.subkey_place.Goals as goal
-
-pub returns-then-n-eq16 : goal.returns-then-n-eq16
-returns-then-n-eq16 c = rw (eq-eqb _ _ c.if-n-eq16.true)
-
-pub returns-else-n-eq16 : goal.returns-else-n-eq16
-returns-else-n-eq16 c = rw (ne_eqb _ _ c.if-n-eq16.false)

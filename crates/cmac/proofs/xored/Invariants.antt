@@ -1,0 +1,8 @@
+-- `cmac::xored` meets its contract: after i turns the first i bytes are stored.
+use mathlib.Core.Path.{◌≡◌}
+use lib.ListN.{length, take}
+use Rattle.aes.specs.Aes as A
+use Rattle.cmac.proofs.xored.Given as goal
+
+abbrev pub invariant-loop-i : goal.invariant-loop-i
+invariant-loop-i l = (length l.d ≡ 16) × (take l.i l.d ≡ take l.i (A.xored l.a l.s))

@@ -1,8 +1,0 @@
--- `gather::header_of` meets its contract: the code is the definition.
-use Rattle.rules.specs.Gather as Rule
-use mathlib.Core.Path.{refl}
-use Rattle.gather.proofs.header_of.Goals as goal
-
-pub returns : goal.returns
-unfolding Rule.header_of
-returns c = refl

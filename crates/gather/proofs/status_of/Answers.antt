@@ -1,8 +1,0 @@
--- `gather::status_of` meets its contract: the code is the definition.
-use Rattle.rules.specs.Gather as Rule
-use mathlib.Core.Path.{refl}
-use Rattle.gather.proofs.status_of.Goals as goal
-
-pub returns : goal.returns
-unfolding Rule.status_of
-returns c = refl

@@ -1,9 +1,0 @@
--- `hash_examples::print` is safe.
-use Prim.Native.Nat.{◌≤◌, ◌-◌}
-use Rattle.hash_examples.proofs.print.Given as goal
-
-abbrev pub invariant-loop-i : goal.invariant-loop-i
-invariant-loop-i g l = l.i ≤ l.n
-
-abbrev pub decreases-loop-i : goal.decreases-loop-i
-decreases-loop-i g l = l.n - l.i

@@ -1,2 +1,0 @@
--- Groups of tests that functions of this crate make together.
-pub mod Groups

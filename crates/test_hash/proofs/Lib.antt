@@ -1,2 +1,0 @@
--- What is in lent memory after a call.
-mod Results
