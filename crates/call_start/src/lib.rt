@@ -26,6 +26,7 @@ use regions::{
 use rules::Refusal;
 
 // What refuses a start; `fits` says that every lent length is right. It does not depend on MACLT, root and key.
+// `marks` stay a slice: a start with marks of any length is refused here, and asks nothing of its caller.
 pub fn start_refusal(fits: bool, ns: u8, id: u8, kind: u8, marks: &[u8]) -> Result<(), Refusal>
     requires { fits ≡ true → length marks.now ≡ 28 }
     ensures { ((s : State) (maclt : ℕ) (root key : List ℕ) →

@@ -25,7 +25,7 @@ use regions::{
 
 // ---- what refuses a start
 
-// NS, key ID, key type or a mark out of range.
+// NS, key ID, key type or a mark out of range. The marks are a slice here, as `call_start::start_refusal` has them.
 #[tactic(auto, unfolding(rules::specs::Calls::start_unfit))]
 pub fn start_unfit(ns: u8, id: u8, kind: u8, marks: &[u8]) -> bool
     requires { length marks.now ≡ 28 }

@@ -5,13 +5,20 @@
 // regions do not overlap.
 // No function asks anything of its caller: any lengths, bytes, numbers and times. A call is lent the regions that it reads or writes: start and
 // sub-frame all sixteen, a word four, a verdict eight, a read or question two; the others have no part in it, whatever they hold. Each function looks at the
-// lengths (row 1 of 01's table) and hands on what it was lent.
+// lengths (row 1 of 01's table) and hands on what it was lent. C lends slices: past the one test of all lengths each is the array that a call takes. That
+// test joins by `&`: one fact for the proof, where `&&` leaves a case for each length. Here alone refusals get their numbers.
 ghost use Rattle.std.specs.Prelude.{◌≡◌};
 ghost use Rattle.regions.specs.Told.{told};
 ghost use Rattle.regions.specs.Told.{subframe_told, subframe};
 ghost use Rattle.call_reads.specs.Reads.{set_told, offer_told, four_told, progress_told};
 ghost use Rattle.rules.specs.Calls.{start_call, word_call, subframe_call, verdict_call, set_read, offer_read, four_read, progress_read};
 ghost use Rattle.rules.specs.State.{State, state, word_lent, verdict_lent, set_lent, offer_lent, four_lent, progress_lent};
+
+use regions::{
+    ARRIVALS_LENGTH, CHAIN_LENGTH, CONFIG_LENGTH, HELDKEY_LENGTH, NUMBERS_LENGTH, OFFER_LENGTH,
+    PUBKEYS_LENGTH, WAITING_LENGTH,
+};
+use rules::Refusal;
 
 // The number of the layout of regions and exported parameters, in the name too: a caller that was written for another one does not link.
 pub fn osnma_layout_2() -> u32
@@ -63,15 +70,35 @@ pub fn osnma_regions_start(
         numbers, heldkey, waiting, sets, arrivals,
     );
     let fits = shaped & ((marks.len() == 28) & ((root.len() == 32) & (pubkey.len() == 67)));
-    let code = call_start::start_refusal(fits, ns, id, kind, marks);
-    if code != 0 {
-        return code;
+    if let Err(refusal) = call_start::start_refusal(fits, ns, id, kind, marks) {
+        return refusal.number();
     }
     call_start::install_settings(
-        config, clocks, words, stamps, blocks, headers, present, since, ns, maclt, marks, root,
+        config.as_mut_array().unwrap(),
+        clocks.as_mut_array().unwrap(),
+        words.as_mut_array().unwrap(),
+        stamps.as_mut_array().unwrap(),
+        blocks.as_mut_array().unwrap(),
+        headers.as_mut_array().unwrap(),
+        present.as_mut_array().unwrap(),
+        since.as_mut_array().unwrap(),
+        ns,
+        maclt,
+        marks.as_array().unwrap(),
+        root.as_array().unwrap(),
     );
     call_start::install_key(
-        pubkeys, offer, chain, numbers, heldkey, waiting, sets, arrivals, id, kind, pubkey,
+        pubkeys.as_mut_array().unwrap(),
+        offer.as_mut_array().unwrap(),
+        chain.as_mut_array().unwrap(),
+        numbers.as_mut_array().unwrap(),
+        heldkey.as_mut_array().unwrap(),
+        waiting.as_mut_array().unwrap(),
+        sets.as_mut_array().unwrap(),
+        arrivals.as_mut_array().unwrap(),
+        id,
+        kind,
+        pubkey.as_array().unwrap(),
     );
     0
 }
@@ -93,9 +120,18 @@ pub fn osnma_regions_word(
 {
     let shaped = regions::word_shaped(config, clocks, words, stamps);
     if !(shaped & (bytes.len() == 16)) {
-        return 1;
+        return Refusal::WrongLength.number();
     }
-    call_word::take_word(config, clocks, words, stamps, prn, time, bytes)
+    let taken = call_word::take_word(
+        config.as_array().unwrap(),
+        clocks.as_mut_array().unwrap(),
+        words.as_mut_array().unwrap(),
+        stamps.as_mut_array().unwrap(),
+        prn,
+        time,
+        bytes.as_array().unwrap(),
+    );
+    rules::answer_number(taken)
 }
 
 // Lends the authentication fields of a sub-frame, 15 of five bytes, with its GST_SF (01, sub-frame). `marks` say which of them came (02, P3), field 0
@@ -139,23 +175,50 @@ pub fn osnma_regions_subframe(
         heldkey.old waiting.old sets.old arrivals.old)
         area.old (subframe prn time marks bytes.now) }
 {
-    let lent = bools::both(area.len() == regions::AREA_LENGTH, bytes.len() == 75);
+    let lent = (area.len() == regions::AREA_LENGTH) & (bytes.len() == 75);
     let shaped = regions::shaped(
         config, clocks, words, stamps, blocks, headers, present, since, pubkeys, offer, chain,
         numbers, heldkey, waiting, sets, arrivals,
     );
-    if !bools::both(shaped, lent) {
-        *hkroot = 1;
-        *mack = 1;
+    if !(shaped & lent) {
+        *hkroot = Refusal::WrongLength.number();
+        *mack = Refusal::WrongLength.number();
         return 0;
     }
     let r = call_subframe::take_subframe(
-        config, clocks, words, stamps, blocks, headers, present, since, pubkeys, offer, chain,
-        numbers, heldkey, waiting, sets, arrivals, area, prn, time, marks, bytes,
+        config.as_mut_array().unwrap(),
+        clocks.as_mut_array().unwrap(),
+        words.as_array().unwrap(),
+        stamps.as_array().unwrap(),
+        blocks.as_mut_array().unwrap(),
+        headers.as_mut_array().unwrap(),
+        present.as_mut_array().unwrap(),
+        since.as_mut_array().unwrap(),
+        pubkeys.as_mut_array().unwrap(),
+        offer.as_mut_array().unwrap(),
+        chain.as_array().unwrap(),
+        numbers.as_mut_array().unwrap(),
+        heldkey.as_mut_array().unwrap(),
+        waiting.as_mut_array().unwrap(),
+        sets.as_mut_array().unwrap(),
+        arrivals.as_mut_array().unwrap(),
+        area.as_mut_array().unwrap(),
+        prn,
+        time,
+        marks,
+        bytes.as_array().unwrap(),
     );
-    *hkroot = r.hkroot;
-    *mack = r.mack;
-    r.count
+    *hkroot = rules::answer_number(r.hkroot);
+    match r.mack {
+        Ok(count) => {
+            *mack = 0;
+            count
+        }
+        Err(refusal) => {
+            *mack = refusal.number();
+            0
+        }
+    }
 }
 
 // Tells what the signature chip says of the waiting message: good 1, bad 0 (01, verdict).
@@ -184,12 +247,23 @@ pub fn osnma_regions_verdict(
         config, pubkeys, offer, chain, numbers, heldkey, waiting, arrivals,
     );
     if !(shaped & ((message.len() == 45) & (signature.len() == 132))) {
-        return 1;
+        return Refusal::WrongLength.number();
     }
-    call_verdict::judge_verdict(
-        config, pubkeys, offer, chain, numbers, heldkey, waiting, arrivals, good, id, message,
-        signature,
-    )
+    let judged = call_verdict::judge_verdict(
+        config.as_array::<CONFIG_LENGTH>().unwrap(),
+        pubkeys.as_mut_array::<PUBKEYS_LENGTH>().unwrap(),
+        offer.as_mut_array::<OFFER_LENGTH>().unwrap(),
+        chain.as_mut_array::<CHAIN_LENGTH>().unwrap(),
+        numbers.as_mut_array::<NUMBERS_LENGTH>().unwrap(),
+        heldkey.as_mut_array::<HELDKEY_LENGTH>().unwrap(),
+        waiting.as_mut_array::<WAITING_LENGTH>().unwrap(),
+        arrivals.as_mut_array::<ARRIVALS_LENGTH>().unwrap(),
+        good,
+        id,
+        message.as_array::<45>().unwrap(),
+        signature.as_array::<132>().unwrap(),
+    );
+    rules::answer_number(judged)
 }
 
 // Reads a satellite's authentic set, its IODnav and the GST_SF of its tag (01, read).
@@ -209,9 +283,22 @@ pub fn osnma_regions_read_set(
     *time = 0;
     let shaped = regions::set_shaped(sets, arrivals);
     if !(shaped & (out.len() == 69)) {
-        return 1;
+        return Refusal::WrongLength.number();
     }
-    call_reads::read_set(sets, arrivals, prn, out, issue, time)
+    let read = call_reads::read_set(
+        sets.as_array().unwrap(),
+        arrivals.as_array().unwrap(),
+        prn,
+        out.as_mut_array().unwrap(),
+    );
+    match read {
+        Ok(set) => {
+            *issue = set.issue;
+            *time = set.time;
+            0
+        }
+        Err(refusal) => refusal.number(),
+    }
 }
 
 // Reads the message that waits for a verdict, with its key (01, read).
@@ -232,9 +319,23 @@ pub fn osnma_regions_read_message(
     *kind = 0;
     let shaped = regions::offer_shaped(pubkeys, offer);
     if !(shaped & ((message.len() == 45) & ((signature.len() == 132) & (pubkey.len() == 67)))) {
-        return 1;
+        return Refusal::WrongLength.number();
     }
-    call_reads::read_message(pubkeys, offer, message, signature, pubkey, id, kind)
+    let read = call_reads::read_message(
+        pubkeys.as_array().unwrap(),
+        offer.as_array().unwrap(),
+        message.as_mut_array().unwrap(),
+        signature.as_mut_array().unwrap(),
+        pubkey.as_mut_array().unwrap(),
+    );
+    match read {
+        Ok(signed) => {
+            *id = signed.id;
+            *kind = signed.kind;
+            0
+        }
+        Err(refusal) => refusal.number(),
+    }
 }
 
 // Asks whether at least four satellites have an authentic set whose tag came within `limit` sub-frames of the last one noted (02, P5): 1 in `yes`, or 0.
@@ -244,8 +345,10 @@ pub fn osnma_regions_four(clocks: &[u32], arrivals: &[u32], limit: u32, yes: &mu
 {
     *yes = 0;
     if !regions::four_shaped(clocks, arrivals) {
-        return 1;
+        return Refusal::WrongLength.number();
     }
+    let clocks = clocks.as_array().unwrap();
+    let arrivals = arrivals.as_array().unwrap();
     if call_reads::four_met(clocks, arrivals, limit) {
         *yes = 1;
     }
@@ -259,8 +362,12 @@ pub fn osnma_regions_progress(blocks: &[u8], present: &[u16], out: &mut [u8]) ->
 {
     let shaped = regions::progress_shaped(blocks, present);
     if !(shaped & (out.len() == 32)) {
-        return 1;
+        return Refusal::WrongLength.number();
     }
-    call_reads::read_progress(blocks, present, out);
+    call_reads::read_progress(
+        blocks.as_array().unwrap(),
+        present.as_array().unwrap(),
+        out.as_mut_array().unwrap(),
+    );
     0
 }

@@ -27,7 +27,7 @@ pub fn out_of_order(clocks: &Clocks, prn: u8, time: u32) -> bool
         || regions::reached(regions::last_subframe_of(clocks, prn), time)
 }
 
-// Row 5: fields came, and nothing but zero bytes in them.
+// Row 5: fields came, and nothing but zero bytes in them. A slice: fields of another length are asked too, and are not zeros.
 pub fn zero_fields(marks: u16, fields: &[u8]) -> bool
     ensures { result ≡ (neb (fields_came marks 15) 0 && same fields.now (replicate 75 0)) }
 {
