@@ -69,7 +69,7 @@ fn put_info(config: &[u8], time: u32, j: usize, info: u16, out: &mut [u8], n: us
     }
 }
 
-// The MACSEQ message in the front of `out`. Gives its length. The fields are taken off in order.
+// The MACSEQ message in the front of `out`, which is fixed memory. Gives its length. The fields are taken off in order.
 fn macseq_message(config: &[u8], c: Chain, prn: u8, time: u32, mack: &[u8], out: &mut [u8]) -> usize
     requires { Laid c × (((length config.now ≡ config_length) × (length mack.now ≡ 60)) × (length out.old ≡ 33)) }
     ensures { (take result out.new ≡ macseq_message config.now c (section prn time 0 mack.now)
