@@ -2,7 +2,8 @@
 
 // The section's own tags (01, "MACK", "Tag outcomes"): field by field, each gets its outcome, its record, and where it agrees with its set, the
 // satellite's sets follow (02, P4); a tag whose key is still to come waits with a copy of its set. A field of which too much is lost has outcome 8
-// before any other (02, P3). `judge_own` is the public call.
+// before any other (02, P3). `judge_own` is the public call. The lent regions stay parameters of their own: C lends each by itself, and
+// `Leaves` says of each what is left in it.
 ghost use Rattle.std.specs.Prelude.{◌≡◌, ◌+◌, ◌*◌, ◌/◌, ◌^◌, ◌≤◌, ◌<◌, length, take};
 ghost use Rattle.rules.specs.Chain.{Held, held};
 ghost use Rattle.rules.specs.Outcomes.{outcome_number};

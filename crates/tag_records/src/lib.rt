@@ -67,7 +67,7 @@ pub fn tell(
 
 // ---- the record
 
-// The IODnav of a record: that of the set, or 0 for outcomes 3, 4, 6 and 8.
+// The IODnav of a record: that of the set, or 0 for outcomes 3, 4, 6 and 8. The outcome is the record's number: 9 (02, P4) is no `Outcome`.
 #[tactic(auto, unfolding(rules::specs::Tags::record_issue))]
 pub fn record_issue(outcome: u8, set: &[u8]) -> u16
     requires { length set.now ≡ copy_length }

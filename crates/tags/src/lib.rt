@@ -141,7 +141,7 @@ pub fn judged(matches: bool) -> Outcome
 }
 
 // What becomes of a field's tag, by the first test that holds: it is not allowed, it is flexible and MACSEQ fails, there is no usable
-// set, its key is known (and it matches or not), a place is free.
+// set, its key is known (and it matches or not), a place is free. Six tests and no value to match on: a chain of `if` is the plain form.
 pub fn own_outcome(
     refused: bool,
     unfit: bool,
