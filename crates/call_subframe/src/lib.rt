@@ -1,18 +1,20 @@
 #![tactic(auto)]
 
-// The call that lends the authentication fields of a sub-frame (01, "HKROOT", "MACK"; "Checks go 1, 2, 4, 3, 5"), past the check of lengths.
+// The call that lends the authentication fields of a sub-frame (01, "HKROOT", "MACK"; "Checks go 1, 2, 4, 3, 5").
 //   take_subframe       the call: both halves are refused, or the time is noted and both halves are done
-ghost use Rattle.std.specs.Prelude.{◌≡◌, true, List, ℕ, length};
-ghost use Rattle.gather.specs.Store.{Lent};
+ghost use Rattle.std.specs.Prelude.{◌≡◌, List, ℕ};
 ghost use Rattle.rules.specs.Calls.{halves_done, subframe_call};
 ghost use Rattle.mack_half.specs.Half.{records_written};
 ghost use Rattle.rules.specs.Received.{received};
 ghost use Rattle.rules.specs.Refusals.{answer_number};
-ghost use Rattle.rules.specs.State.{state, shaped, config_length, words_length, stamps_length, pubkeys_length, offer_length, chain_length};
-ghost use Rattle.rules.specs.State.{numbers_length, heldkey_length, waiting_length, sets_length, arrivals_length, area_length};
+ghost use Rattle.rules.specs.State.{state};
 ghost use Rattle.regions.specs.Told.{subframe_told, subframe};
 
 use hkroot_half::Half;
+use regions::{
+    Area, Arrivals, Blocks, ChainInForce, Clocks, Config, Headers, HeldKey, Numbers, Offer,
+    Present, Pubkeys, Sets, Since, Stamps, Waiting, Words,
+};
 use rules::Refusal;
 
 // What the call gives: what refuses each half, or how many tag records the MACK half wrote.
@@ -26,34 +28,27 @@ pub struct Halves {
 
 // The HKROOT half, then the MACK half, which a proved emergency message stops. `fields` are the fields as they came.
 fn both_halves(
-    config: &mut [u8],
-    words: &[u8],
-    stamps: &[u32],
-    blocks: &mut [u8],
-    headers: &mut [u8],
-    present: &mut [u16],
-    since: &mut [u32],
-    pubkeys: &mut [u8],
-    offer: &mut [u8],
-    chain: &[u8],
-    numbers: &mut [u64],
-    heldkey: &mut [u8],
-    waiting: &mut [u8],
-    sets: &mut [u8],
-    arrivals: &mut [u32],
-    area: &mut [u8],
+    config: &mut Config,
+    words: &Words,
+    stamps: &Stamps,
+    blocks: &mut Blocks,
+    headers: &mut Headers,
+    present: &mut Present,
+    since: &mut Since,
+    pubkeys: &mut Pubkeys,
+    offer: &mut Offer,
+    chain: &ChainInForce,
+    numbers: &mut Numbers,
+    heldkey: &mut HeldKey,
+    waiting: &mut Waiting,
+    sets: &mut Sets,
+    arrivals: &mut Arrivals,
+    area: &mut Area,
     prn: u8,
     time: u32,
     marks: u16,
-    fields: &[u8],
+    fields: &[u8; 75],
 ) -> Halves
-    requires lent { Lent blocks.old headers.old present.old since.old
-        × ((length config.old ≡ config_length) × ((length pubkeys.old ≡ pubkeys_length) × (length offer.old ≡ offer_length))) }
-    requires words_len { ((length words.now ≡ words_length) × (length stamps.now ≡ stamps_length))
-        × ((length chain.now ≡ chain_length) × ((length numbers.old ≡ numbers_length) × (length heldkey.old ≡ heldkey_length))) }
-    requires sets_len { ((length sets.old ≡ sets_length) × (length arrivals.old ≡ arrivals_length))
-        × ((length waiting.old ≡ waiting_length) × (length area.old ≡ area_length)) }
-    requires fields_len { length fields.now ≡ 75 }
     ensures { (clocks lent : List ℕ) → fields.now ≡ received marks lent 15 →
         subframe_told (answer_number result.hkroot) (answer_number result.mack) (records_written result.mack)
         (state config.new clocks words.now stamps.now blocks.new headers.new present.new
@@ -107,33 +102,28 @@ fn both_halves(
 // The fields of a sub-frame, 15 of five bytes, that satellite `prn` sent at `time`; `marks` say which of them came, and what is lent for the others is
 // not read past this. Records stand one after the other at the front of `area`.
 pub fn take_subframe(
-    config: &mut [u8],
-    clocks: &mut [u32],
-    words: &[u8],
-    stamps: &[u32],
-    blocks: &mut [u8],
-    headers: &mut [u8],
-    present: &mut [u16],
-    since: &mut [u32],
-    pubkeys: &mut [u8],
-    offer: &mut [u8],
-    chain: &[u8],
-    numbers: &mut [u64],
-    heldkey: &mut [u8],
-    waiting: &mut [u8],
-    sets: &mut [u8],
-    arrivals: &mut [u32],
-    area: &mut [u8],
+    config: &mut Config,
+    clocks: &mut Clocks,
+    words: &Words,
+    stamps: &Stamps,
+    blocks: &mut Blocks,
+    headers: &mut Headers,
+    present: &mut Present,
+    since: &mut Since,
+    pubkeys: &mut Pubkeys,
+    offer: &mut Offer,
+    chain: &ChainInForce,
+    numbers: &mut Numbers,
+    heldkey: &mut HeldKey,
+    waiting: &mut Waiting,
+    sets: &mut Sets,
+    arrivals: &mut Arrivals,
+    area: &mut Area,
     prn: u8,
     time: u32,
     marks: u16,
-    bytes: &[u8],
+    bytes: &[u8; 75],
 ) -> Halves
-    requires { (shaped
-        (state config.old clocks.old words.now stamps.now blocks.old headers.old present.old since.old pubkeys.old offer.old
-        chain.now numbers.old heldkey.old waiting.old sets.old arrivals.old)
-        ≡ true)
-        × ((length area.old ≡ area_length) × (length bytes.now ≡ 75)) }
     ensures { subframe_told (answer_number result.hkroot) (answer_number result.mack) (records_written result.mack)
         (state config.new clocks.new words.now stamps.now blocks.new headers.new
         present.new since.new pubkeys.new offer.new chain.now numbers.new
@@ -145,8 +135,7 @@ pub fn take_subframe(
         (subframe prn time marks bytes.now) }
 {
     let fields = received::received(marks, bytes);
-    let checked =
-        subframe_checks::subframe_refusal(config, clocks, prn, time, marks, &fields);
+    let checked = subframe_checks::subframe_refusal(config, clocks, prn, time, marks, &fields);
     match checked {
         Ok(()) => {
             regions::note_subframe(clocks, prn, time);
