@@ -2,7 +2,7 @@
 
 // DSM blocks, gathered per DSM ID from all satellites (01, "HKROOT"), and the split of a sub-frame's 75 bytes that brings them.
 // The store is lent as four regions: 16 blocks of 13 bytes for each of 16 IDs, and for each ID the NMA header, the marks of the blocks
-// present and the time of the first. Each function gives what the definition of the same name in rules/specs/Gather.antt gives.
+// present and the time of the first; they stay four slices, as C lends them. Each function gives what the definition of the same name in rules/specs/Gather.antt gives.
 ghost use Rattle.std.specs.Prelude.{◌≡◌, cond, not, ◌&&◌, List, ℕ, ◌+◌, ◌-◌, ◌*◌, ◌/◌, ◌^◌, ◌≤◌, ◌<◌, leb, ltb, eqb, length};
 ghost use Rattle.laws.specs.Lists.{part, same};
 ghost use Rattle.laws.specs.Refusal.{neb};
@@ -11,7 +11,7 @@ ghost use Rattle.rules.specs.Gather as Rule;
 ghost use Rattle.rules.specs.State.{blocks_length, dsm_ids};
 ghost use Rattle.gather.specs.Store.{Lent, store, told, Sized};
 
-// What the coming of a block gives.
+// What the coming of a block gives. A refused block is one of three cases here, as `told` and `Sized` of specs/Store.antt read them.
 #[derive(Clone, Copy, Debug, PartialEq, Eq)]
 pub enum Gathered {
     // The block is stored; its DSM is not complete.

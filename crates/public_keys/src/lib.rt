@@ -1,7 +1,7 @@
 #![tactic(auto)]
 
 // The public keys held (01, "HKROOT" and "Verdicts"), in a region of 16 places of 68 bytes. Each function gives what the definition of
-// the same name in rules/specs/Keys.antt gives. A key ID is below 16; key types are 0 to 3.
+// the same name in rules/specs/Keys.antt gives. A key ID is below 16; key types are 0 to 3, and stay the numbers that messages and C carry.
 // Public calls:
 //   key_held, key_type, key_bytes     the key of an ID
 //   above_all, same_key               how a key of a DSM-PKR stands to those held
