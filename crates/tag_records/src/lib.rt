@@ -5,14 +5,13 @@
 // Public calls:
 //   tell                       a tag that was found to agree with its set, or to have another outcome: its satellite's sets, and its record
 //   record_issue, put_record   the parts of a record
-ghost use Rattle.std.specs.Prelude.{◌≡◌, true, ◌+◌, ◌≤◌, ◌<◌};
+ghost use Rattle.std.specs.Prelude.{◌≡◌, true, ◌+◌, ◌≤◌, ◌<◌, length};
 ghost use Rattle.laws.specs.Lists.{splice};
 ghost use Rattle.rules.specs.Outcomes.{outcome_number};
 ghost use Rattle.rules.specs.Tags.{names_satellite, tag_record, record_issue, told};
-ghost use Rattle.rules.specs.State.{area_length};
 ghost use Rattle.tag_records.specs.Told.{start, Finds, Tells};
 
-use regions::{Area, Arrivals, COPY_LENGTH, Sets};
+use regions::{Arrivals, COPY_LENGTH, Sets};
 use rules::{Outcome, Tag};
 
 // ---- the outcome
@@ -45,6 +44,7 @@ fn record_outcome(
 }
 
 // A tag of `ms` bits and what it was found to be: its record goes to place `at` of the area, and where it agrees, its satellite's sets follow.
+// The area stays a slice here and in `put_record`: their clause asks of any length that the record fits.
 pub fn tell(
     ms: u64,
     found: Outcome,
@@ -52,10 +52,10 @@ pub fn tell(
     set: &[u8; COPY_LENGTH],
     sets: &mut Sets,
     arrivals: &mut Arrivals,
-    area: &mut Area,
+    area: &mut [u8],
     at: usize,
 )
-    requires { (at + 12 ≤ area_length) × (ms ≤ 40) }
+    requires { (at + 12 ≤ length area.old) × (ms ≤ 40) }
     ensures { Tells (told ms (outcome_number found) t set.now (start 0 sets.old arrivals.old)) at area.old
         sets.new arrivals.new area.new }
 {
@@ -78,8 +78,8 @@ pub fn record_issue(outcome: u8, set: &[u8; COPY_LENGTH]) -> u16
 }
 
 // A tag's record into the area, 12 bytes from place `at`.
-pub fn put_record(area: &mut Area, at: usize, outcome: u8, t: Tag, issue: u16)
-    requires { at + 12 ≤ area_length }
+pub fn put_record(area: &mut [u8], at: usize, outcome: u8, t: Tag, issue: u16)
+    requires { at + 12 ≤ length area.old }
     ensures { area.new ≡ splice area.old at (tag_record outcome t issue) }
 {
     let issue = issue.to_be_bytes();
