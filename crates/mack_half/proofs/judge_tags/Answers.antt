@@ -15,10 +15,7 @@ use Rattle.mack_half.proofs.judge_tags.Goals.{After-judge_due-stay}
 
 pub judge_due-stay-requires : goal.judge_due-stay-requires
 judge_due-stay-requires c =
-    record {
-      sets_len = search rules;
-      sound = ((c.requires.0.0.0, c.requires.0.1), c.requires.1.0.near_is);
-    }
+    ((c.requires.0.0.0, c.requires.0.1), c.requires.1.0.near_is)
 
 few : (d : After-judge_due-stay) → d.judge_due-stay.result ≤ d.args.n
 few d = d.judge_due-stay.ensures.1.few

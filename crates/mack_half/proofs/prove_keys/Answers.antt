@@ -13,7 +13,7 @@ pub slot_to_keep-via-requires : goal.slot_to_keep-via-requires
 slot_to_keep-via-requires c =
     let g = c.args in
     let w = c.requires.0.walks in
-    ((w, (c.requires.1.0, rw c.sent_slot-last.ensures (sent_bound g.c g.time g.c.nmack g.prn w (search rules) (omega (arith, w.nmack_high))))), (search rules, c.requires.1.1))
+    ((w, (c.requires.1.0, rw c.sent_slot-last.ensures (sent_bound g.c g.time g.c.nmack g.prn w (search rules) (omega (arith, w.nmack_high))))), c.requires.1.1)
 
 pub returns : goal.returns
 returns c =
