@@ -10,12 +10,11 @@
 ghost use Rattle.std.specs.Prelude.{◌≡◌, List, ℕ, ◌+◌, ◌-◌, ◌≤◌, ◌<◌, length, set};
 ghost use Rattle.rules.specs.Calls.{auth_stamp, auth_set};
 ghost use Rattle.rules.specs.Candidates.{summed, agreed, pair_at, candidates_cleared};
-ghost use Rattle.rules.specs.State.{sets_length, arrivals_length, copy_length};
 ghost use Rattle.rules.specs.Times.{stamp_of};
 ghost use Rattle.authentic_sets.specs.Places.{holds_at, sets_entered, arrivals_entered, numbers_put, Agrees};
 ghost use Rattle.authentic_sets.specs.Regions.{auth};
 
-use regions::COPY_LENGTH;
+use regions::{Arrivals, COPY_LENGTH, Sets};
 use rules::Tag;
 
 // Where the candidates' places begin, and in `arrivals` their totals.
@@ -33,8 +32,8 @@ const AUTHENTIC_BITS: u64 = 40;
 
 // Whether there is a set at this place, and these are its bytes.
 #[tactic(auto, using(laws::proofs::Splice::range_part), unfolding(crate::specs::Places::holds_at))]
-fn holds(sets: &[u8], arrivals: &[u32], place: usize, set: &[u8]) -> bool
-    requires { ((length sets.now ≡ sets_length) × (length arrivals.now ≡ arrivals_length)) × (place < 72) }
+fn holds(sets: &Sets, arrivals: &Arrivals, place: usize, set: &[u8; COPY_LENGTH]) -> bool
+    requires { place < 72 }
     ensures { result ≡ holds_at sets.now arrivals.now place set.now }
 {
     let a = place * COPY_LENGTH;
@@ -42,9 +41,14 @@ fn holds(sets: &[u8], arrivals: &[u32], place: usize, set: &[u8]) -> bool
 }
 
 // "Outcome 1 replaces the satellite's authentic set unless that set's tag came later."
-fn enter_set(sets: &mut [u8], arrivals: &mut [u32], prn: usize, stamp: u32, set: &[u8])
-    requires sets_len { ((length sets.old ≡ sets_length) × (length arrivals.old ≡ arrivals_length)) × (length set.now ≡ copy_length) }
-    requires le_prn { (1 ≤ prn) × (prn ≤ 36) }
+fn enter_set(
+    sets: &mut Sets,
+    arrivals: &mut Arrivals,
+    prn: usize,
+    stamp: u32,
+    set: &[u8; COPY_LENGTH],
+)
+    requires { (1 ≤ prn) × (prn ≤ 36) }
     ensures { (sets.new ≡ sets_entered sets.old arrivals.old prn stamp set.now)
         × (arrivals.new ≡ arrivals_entered arrivals.old prn stamp) }
 {
@@ -56,8 +60,8 @@ fn enter_set(sets: &mut [u8], arrivals: &mut [u32], prn: usize, stamp: u32, set:
 }
 
 // The stamp of a candidate's latest tag, and its total.
-fn put_numbers(arrivals: &mut [u32], prn: usize, latest: u32, total: u32)
-    requires { (length arrivals.old ≡ arrivals_length) × ((1 ≤ prn) × (prn ≤ 36)) }
+fn put_numbers(arrivals: &mut Arrivals, prn: usize, latest: u32, total: u32)
+    requires { (1 ≤ prn) × (prn ≤ 36) }
     ensures { arrivals.new ≡ numbers_put arrivals.old prn latest total }
 {
     let place = prn - 1;
@@ -69,9 +73,15 @@ fn put_numbers(arrivals: &mut [u32], prn: usize, latest: u32, total: u32)
 
 // Bits of a satellite that are not its authentic set's, with so many tag bits, the latest of this stamp: "A set is called authentic at 40 bits;
 // until then a matching tag is outcome 9 and the set is only a candidate."
-fn sum(sets: &mut [u8], arrivals: &mut [u32], prn: usize, total: u64, latest: u32, set: &[u8]) -> u8
-    requires sets_len { ((length sets.old ≡ sets_length) × (length arrivals.old ≡ arrivals_length)) × (length set.now ≡ copy_length) }
-    requires le_prn { (1 ≤ prn) × (prn ≤ 36) }
+fn sum(
+    sets: &mut Sets,
+    arrivals: &mut Arrivals,
+    prn: usize,
+    total: u64,
+    latest: u32,
+    set: &[u8; COPY_LENGTH],
+) -> u8
+    requires { (1 ≤ prn) × (prn ≤ 36) }
     ensures { Agrees (summed total latest set.now (pair_at sets.old arrivals.old prn)) prn
         sets.old arrivals.old sets.new arrivals.new result }
 {
@@ -86,9 +96,14 @@ fn sum(sets: &mut [u8], arrivals: &mut [u32], prn: usize, total: u64, latest: u3
 }
 
 // A tag of `ms` bits agrees with this set of its satellite. Gives its outcome, 1 or 9.
-pub fn agree(sets: &mut [u8], arrivals: &mut [u32], ms: u64, t: Tag, set: &[u8]) -> u8
-    requires sets_len { ((length sets.old ≡ sets_length) × (length arrivals.old ≡ arrivals_length)) × (length set.now ≡ copy_length) }
-    requires le_prn { (((1 ≤ t.prn) × (t.prn ≤ 36)) × (t.time < 4294967295)) × (ms ≤ 40) }
+pub fn agree(
+    sets: &mut Sets,
+    arrivals: &mut Arrivals,
+    ms: u64,
+    t: Tag,
+    set: &[u8; COPY_LENGTH],
+) -> u8
+    requires { (((1 ≤ t.prn) × (t.prn ≤ 36)) × (t.time < 4294967295)) × (ms ≤ 40) }
     ensures { Agrees (agreed ms (stamp_of t.time) set.now (pair_at sets.old arrivals.old t.prn)) t.prn
         sets.old arrivals.old sets.new arrivals.new result }
 {
@@ -111,8 +126,7 @@ pub fn agree(sets: &mut [u8], arrivals: &mut [u32], ms: u64, t: Tag, set: &[u8])
 }
 
 // "A new chain or a drop clears candidates.": the stamps of their latest tags and their totals.
-pub fn clear_candidates(arrivals: &mut [u32])
-    requires { length arrivals.old ≡ arrivals_length }
+pub fn clear_candidates(arrivals: &mut Arrivals)
     ensures { (sets : List ℕ) → auth sets arrivals.new ≡ candidates_cleared (auth sets arrivals.old) }
 {
     arrivals[CANDIDATES..CANDIDATES + CANDIDATE_NUMBERS].fill(0);
@@ -121,16 +135,16 @@ pub fn clear_candidates(arrivals: &mut [u32])
 // ---- reads
 
 // The stamp of a satellite's authentic set.
-pub fn stamp_of(arrivals: &[u32], prn: usize) -> u32
-    requires { (length arrivals.now ≡ arrivals_length) × ((1 ≤ prn) × (prn ≤ 36)) }
+pub fn stamp_of(arrivals: &Arrivals, prn: usize) -> u32
+    requires { (1 ≤ prn) × (prn ≤ 36) }
     ensures { (sets : List ℕ) → result ≡ auth_stamp (auth sets arrivals.now) prn }
 {
     arrivals[prn - 1]
 }
 
 // A satellite's authentic set, copied to `out`.
-pub fn copy_set(sets: &[u8], prn: usize, out: &mut [u8])
-    requires { ((length sets.now ≡ sets_length) × (length out.old ≡ 69)) × ((1 ≤ prn) × (prn ≤ 36)) }
+pub fn copy_set(sets: &Sets, prn: usize, out: &mut [u8; COPY_LENGTH])
+    requires { (1 ≤ prn) × (prn ≤ 36) }
     ensures { (arrivals : List ℕ) → out.new ≡ auth_set (auth sets.now arrivals) prn }
 {
     buffer::copy_part(out, 0, sets, (prn - 1) * COPY_LENGTH, 69);

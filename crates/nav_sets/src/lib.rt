@@ -64,8 +64,16 @@ pub fn pair(x: u64, from: u64, n: u64, y: u64, to: u64) -> u64
 
 // Sixteen bytes of a set: of the word at place `at`, 64 bits from bit `from` on, then its next n bits and the first of the next word. `first` is
 // the word's first half. Gives the next word's.
-fn put_word(w: &[u8], at: usize, first: u64, from: u64, n: u64, out: &mut [u8], to: usize) -> u64
-    requires at_in_bounds { (at + 24 ≤ length w.now) × (to + 16 ≤ length out.old) }
+fn put_word(
+    w: &[u8; 80],
+    at: usize,
+    first: u64,
+    from: u64,
+    n: u64,
+    out: &mut [u8],
+    to: usize,
+) -> u64
+    requires at_in_bounds { (at + 24 ≤ 80) × (to + 16 ≤ length out.old) }
     requires le_n { ((6 ≤ n) × (1 ≤ from)) × ((from + n ≤ 64) × (first ≡ bits w.now (8 * at) 64)) }
     ensures { (out.new ≡ splice out.old to (piece_of w.now (8 * at) from n))
         × (result ≡ bits w.now (8 * (at + 16)) 64) }
@@ -78,8 +86,8 @@ fn put_word(w: &[u8], at: usize, first: u64, from: u64, n: u64, out: &mut [u8], 
 }
 
 // The last five bytes of a set: bits 36 to 72 of word 5, whose first half is `first`, and three zero bits.
-fn put_last(w: &[u8], first: u64, out: &mut [u8], to: usize)
-    requires { ((length w.now ≡ 80) × (first ≡ bits w.now 512 64)) × (to + 5 ≤ length out.old) }
+fn put_last(w: &[u8; 80], first: u64, out: &mut [u8], to: usize)
+    requires { (first ≡ bits w.now 512 64) × (to + 5 ≤ length out.old) }
     ensures { out.new ≡ splice out.old to (five_of (bits w.now 548 37 * 8)) }
 {
     let second = get_u64(w, 72);
@@ -87,9 +95,9 @@ fn put_last(w: &[u8], first: u64, out: &mut [u8], to: usize)
 }
 
 // The set of five words, one after the other, into `out` from place `to`. Where a piece begins grows from word to word by six bits and by
-// those that the word leaves out at its end: two, two, none, two.
-pub fn gather(w: &[u8], out: &mut [u8], to: usize)
-    requires { (length w.now ≡ 80) × (to + 69 ≤ length out.old) }
+// those that the word leaves out at its end: two, two, none, two. `out` is a slice: the set is written at any place of a longer one.
+pub fn gather(w: &[u8; 80], out: &mut [u8], to: usize)
+    requires { to + 69 ≤ length out.old }
     ensures { out.new ≡ splice out.old to
         (set_bytes (part w.now 0 16) (part w.now 16 16) (part w.now 32 16) (part w.now 48 16)
         (part w.now 64 16)) }

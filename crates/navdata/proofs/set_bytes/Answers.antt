@@ -12,4 +12,5 @@ returns c =
     let g = c.args in
     let w = g.words.now in
     let at = (g.prn - 1) * 80 in
-    rw (c.gather.ensures, range_part w at 80) (ap (splice g.out.now g.to) (set_of_five w g.prn (omega arith)))
+    let five = rw c.unwrap-five.ensures at c.as_array.ensures.cases in
+    rw (c.gather.ensures, five.same, range_part w at 80) (ap (splice g.out.now g.to) (set_of_five w g.prn (omega arith)))
