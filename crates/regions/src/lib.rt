@@ -9,8 +9,8 @@
 //   note_subframe, note_word                     a time is noted
 //   later, reached                               a stamp against a time
 //   held_slot, waiting_count                     the held key's slot, and how many tags wait
-ghost use Rattle.std.specs.Prelude.{◌≡◌, true, ◌&&◌, ◌+◌, ◌≤◌, ◌<◌, leb, ltb, length, set};
-ghost use Rattle.rules.specs.State.{State, state, word_lent, verdict_lent, set_lent, offer_lent, four_lent, progress_lent, config_length, clocks_length, numbers_length, stopped_at};
+ghost use Rattle.std.specs.Prelude.{◌≡◌, true, ◌&&◌, ◌+◌, ◌≤◌, ◌<◌, leb, ltb, set};
+ghost use Rattle.rules.specs.State.{State, state, word_lent, verdict_lent, set_lent, offer_lent, four_lent, progress_lent, stopped_at};
 ghost use Rattle.rules.specs.State as S;
 ghost use Rattle.rules.specs.Times.{stamp_of};
 
