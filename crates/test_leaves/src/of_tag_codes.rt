@@ -50,5 +50,5 @@ pub extern "C" fn leaf_tag_matches(
     };
     let mut kept = [0u8; 273];
     mac::keep(mf, key, &mut kept);
-    bools::number(tag_codes::tag_matches(mf, ms, &kept, first == 1, t, set))
+    bools::number(tag_codes::tag_matches(mf, ms, &kept, first == 1, t, set.as_array().unwrap()))
 }
