@@ -26,7 +26,7 @@ loop-done-init c =
 
 pub next_key-block-requires : goal.next_key-block-requires
 next_key-block-requires c =
-    (keys_fit c.args.c c.requires.0, (c.loop-done.invariant.used_is, ((omega arith, omega arith), search rules)))
+    (keys_fit c.args.c c.requires.0, (c.loop-done.invariant.used_is, (omega arith, omega arith)))
 
 pub loop-done-preserved : goal.loop-done-preserved
 loop-done-preserved c =
