@@ -41,6 +41,7 @@ fn holds(sets: &Sets, arrivals: &Arrivals, place: usize, set: &[u8; COPY_LENGTH]
 }
 
 // "Outcome 1 replaces the satellite's authentic set unless that set's tag came later."
+#[tactic(auto, using(crate::proofs::Agreed::stamp_back), unfolding(crate::specs::Places::sets_entered, crate::specs::Places::arrivals_entered, rules::specs::Candidates::later_stamp))]
 fn enter_set(
     sets: &mut Sets,
     arrivals: &mut Arrivals,
@@ -60,6 +61,7 @@ fn enter_set(
 }
 
 // The stamp of a candidate's latest tag, and its total.
+#[tactic(auto, unfolding(crate::specs::Places::numbers_put))]
 fn put_numbers(arrivals: &mut Arrivals, prn: usize, latest: u32, total: u32)
     requires { (1 ≤ prn) × (prn ≤ 36) }
     ensures { arrivals.new ≡ numbers_put arrivals.old prn latest total }
@@ -73,6 +75,7 @@ fn put_numbers(arrivals: &mut Arrivals, prn: usize, latest: u32, total: u32)
 
 // Bits of a satellite that are not its authentic set's, with so many tag bits, the latest of this stamp: "A set is called authentic at 40 bits;
 // until then a matching tag is outcome 9 and the set is only a candidate."
+#[tactic(auto, using(crate::proofs::Agreed::forty, crate::proofs::Agreed::not_yet))]
 fn sum(
     sets: &mut Sets,
     arrivals: &mut Arrivals,
@@ -96,6 +99,7 @@ fn sum(
 }
 
 // A tag of `ms` bits agrees with this set of its satellite. Gives its outcome, 1 or 9.
+#[tactic(auto, using(crate::proofs::Agreed::on_set_law, crate::proofs::Agreed::too_old, crate::proofs::Agreed::later_is), unfolding(rules::specs::Times::stamp_of))]
 pub fn agree(
     sets: &mut Sets,
     arrivals: &mut Arrivals,
@@ -135,6 +139,7 @@ pub fn clear_candidates(arrivals: &mut Arrivals)
 // ---- reads
 
 // The stamp of a satellite's authentic set.
+#[tactic(auto, unfolding(rules::specs::Calls::auth_stamp))]
 pub fn stamp_of(arrivals: &Arrivals, prn: usize) -> u32
     requires { (1 ≤ prn) × (prn ≤ 36) }
     ensures { (sets : List ℕ) → result ≡ auth_stamp (auth sets arrivals.now) prn }
@@ -143,6 +148,7 @@ pub fn stamp_of(arrivals: &Arrivals, prn: usize) -> u32
 }
 
 // A satellite's authentic set, copied to `out`.
+#[tactic(auto, using(laws::proofs::Splice::length_part, laws::proofs::Splice::splice_whole), unfolding(rules::specs::Calls::auth_set))]
 pub fn copy_set(sets: &Sets, prn: usize, out: &mut [u8; COPY_LENGTH])
     requires { (1 ≤ prn) × (prn ≤ 36) }
     ensures { (arrivals : List ℕ) → out.new ≡ auth_set (auth sets.now arrivals) prn }
