@@ -6,14 +6,15 @@
 //   read_message    the message that waits for a verdict, its signature, and its key with ID and type
 //   four_met        whether four satellites have an authentic set whose tag is recent
 //   read_progress   of each DSM ID the blocks held and the blocks missing
-ghost use Rattle.std.specs.Prelude.{◌≡◌, ℕ, ◌-◌, ◌<◌, length};
+ghost use Rattle.std.specs.Prelude.{◌≡◌, ℕ, ◌-◌, ◌<◌};
 ghost use Rattle.rules.specs.Calls.{set_read, offer_read};
 ghost use Rattle.rules.specs.Four as S;
 ghost use Rattle.rules.specs.Progress as P;
-ghost use Rattle.rules.specs.State.{State, set_lent, offer_lent, four_lent, progress_lent, clocks_length, blocks_length, dsm_ids, pubkeys_length, offer_length, sets_length, arrivals_length};
+ghost use Rattle.rules.specs.State.{State, set_lent, offer_lent, four_lent, progress_lent, dsm_ids};
 ghost use Rattle.rules.specs.Times.{seconds_of};
 ghost use Rattle.call_reads.specs.Reads.{set_answered, offer_answered};
 
+use regions::{Arrivals, Blocks, COPY_LENGTH, Clocks, Offer, Present, Pubkeys, Sets};
 use rules::{Progress, Refusal};
 
 // What a read of a set gives beside its bytes: the set's IODnav, and the GST_SF of its tag.
@@ -31,8 +32,12 @@ pub struct SignedBy {
 }
 
 // A satellite's authentic set into 69 lent bytes.
-pub fn read_set(sets: &[u8], arrivals: &[u32], prn: u8, out: &mut [u8]) -> Result<SetRead, Refusal>
-    requires { ((length sets.now ≡ sets_length) × (length arrivals.now ≡ arrivals_length)) × (length out.old ≡ 69) }
+pub fn read_set(
+    sets: &Sets,
+    arrivals: &Arrivals,
+    prn: u8,
+    out: &mut [u8; COPY_LENGTH],
+) -> Result<SetRead, Refusal>
     ensures { (s : State) →
         set_answered result out.new ≡ set_read (set_lent s sets.now arrivals.now) prn out.old }
 {
@@ -53,14 +58,12 @@ pub fn read_set(sets: &[u8], arrivals: &[u32], prn: u8, out: &mut [u8]) -> Resul
 // What waits for a verdict: the message into 45 lent bytes, its signature into 132, its key into 67. The key ID that stands in the region counts
 // modulo 16.
 pub fn read_message(
-    pubkeys: &[u8],
-    offer: &[u8],
-    message: &mut [u8],
-    signature: &mut [u8],
-    pubkey: &mut [u8],
+    pubkeys: &Pubkeys,
+    offer: &Offer,
+    message: &mut [u8; 45],
+    signature: &mut [u8; 132],
+    pubkey: &mut [u8; 67],
 ) -> Result<SignedBy, Refusal>
-    requires pubkeys_len { (length pubkeys.now ≡ pubkeys_length) × (length offer.now ≡ offer_length) }
-    requires message_len { (length message.old ≡ 45) × ((length signature.old ≡ 132) × (length pubkey.old ≡ 67)) }
     ensures { (s : State) →
         offer_answered result message.new signature.new pubkey.new
         ≡ offer_read (offer_lent s pubkeys.now offer.now) message.old signature.old pubkey.old }
@@ -86,8 +89,7 @@ fn recent(last: u64, limit: u32, arrival: u32) -> bool
 }
 
 // "Answer as soon as the fourth is met" (02, P5): the scan over the 36 satellites ends there. Before any sub-frame is noted the answer is no.
-pub fn four_met(clocks: &[u32], arrivals: &[u32], limit: u32) -> bool
-    requires { (length clocks.now ≡ clocks_length) × (length arrivals.now ≡ arrivals_length) }
+pub fn four_met(clocks: &Clocks, arrivals: &Arrivals, limit: u32) -> bool
     ensures { (s : State) → result ≡ S.four_met (four_lent s clocks.now arrivals.now) limit }
 {
     let clock = regions::last_subframe(clocks);
@@ -120,8 +122,8 @@ fn missing_of(total: u8, held: u8) -> u8
 }
 
 // How far along the message of a DSM ID is.
-fn progress_of(blocks: &[u8], present: &[u16], id: usize) -> Progress
-    requires { ((length blocks.now ≡ blocks_length) × (length present.now ≡ dsm_ids)) × (id < 16) }
+fn progress_of(blocks: &Blocks, present: &Present, id: usize) -> Progress
+    requires { id < 16 }
     ensures { (s : State) → result ≡ P.progress_of (progress_lent s blocks.now present.now).store id }
 {
     let marks = present[id];
@@ -144,8 +146,7 @@ fn pair_of(progress: Progress) -> [u8; 2]
 }
 
 // The pairs of the sixteen DSM IDs into 32 lent bytes.
-pub fn read_progress(blocks: &[u8], present: &[u16], out: &mut [u8])
-    requires { ((length blocks.now ≡ blocks_length) × (length present.now ≡ dsm_ids)) × (length out.old ≡ 32) }
+pub fn read_progress(blocks: &Blocks, present: &Present, out: &mut [u8; 32])
     ensures { (s : State) → out.new ≡ P.pairs_of (progress_lent s blocks.now present.now).store dsm_ids }
 {
     for id in 0..16 {

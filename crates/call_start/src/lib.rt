@@ -15,10 +15,14 @@ ghost use Rattle.rules.specs.Calls.{start_checks, start_lengths};
 ghost use Rattle.rules.specs.PublicKeys.{key_length, with_key};
 ghost use Rattle.rules.specs.Kroot.{no_offer};
 ghost use Rattle.rules.specs.Refusals.{answer_number};
-ghost use Rattle.rules.specs.State.{State, shaped, config_length, clocks_length, words_length, stamps_length, blocks_length, dsm_ids, pubkeys_length, arrivals_length};
-ghost use Rattle.rules.specs.State.{offer_length, chain_length, numbers_length, heldkey_length, waiting_length, sets_length};
+ghost use Rattle.rules.specs.State.{State, shaped, clocks_length, pubkeys_length};
+ghost use Rattle.rules.specs.State.{chain_length};
 ghost use Rattle.call_start_parts.specs.Blank.{settings, no_words, no_blocks, no_tags, no_sets};
 
+use regions::{
+    Arrivals, Blocks, ChainInForce, Clocks, Config, Headers, HeldKey, Numbers, Offer, Present,
+    Pubkeys, Sets, Since, Stamps, Waiting, Words,
+};
 use rules::Refusal;
 
 // What refuses a start; `fits` says that every lent length is right. It does not depend on MACLT, root and key.
@@ -43,24 +47,19 @@ pub fn start_refusal(fits: bool, ns: u8, id: u8, kind: u8, marks: &[u8]) -> Resu
 
 // The settings, and a core that heard nothing.
 pub fn install_settings(
-    config: &mut [u8],
-    clocks: &mut [u32],
-    words: &mut [u8],
-    stamps: &mut [u32],
-    blocks: &mut [u8],
-    headers: &mut [u8],
-    present: &mut [u16],
-    since: &mut [u32],
+    config: &mut Config,
+    clocks: &mut Clocks,
+    words: &mut Words,
+    stamps: &mut Stamps,
+    blocks: &mut Blocks,
+    headers: &mut Headers,
+    present: &mut Present,
+    since: &mut Since,
     ns: u8,
     maclt: u8,
-    marks: &[u8],
-    root: &[u8],
+    marks: &[u8; 28],
+    root: &[u8; 32],
 )
-    requires config_len { ((length config.old ≡ config_length) × (length clocks.old ≡ clocks_length))
-        × ((length words.old ≡ words_length) × (length stamps.old ≡ stamps_length)) }
-    requires blocks_len { ((length blocks.old ≡ blocks_length) × (length headers.old ≡ dsm_ids))
-        × ((length present.old ≡ dsm_ids) × (length since.old ≡ dsm_ids)) }
-    requires marks_len { (length marks.now ≡ 28) × (length root.now ≡ 32) }
     ensures { ((config.new ≡ settings ns maclt marks.now root.now)
         × (clocks.new ≡ replicate clocks_length 0))
         × ((nav words.new stamps.new ≡ no_words)
@@ -73,22 +72,19 @@ pub fn install_settings(
 
 // The public key, and a core that proved nothing.
 pub fn install_key(
-    pubkeys: &mut [u8],
-    offer: &mut [u8],
-    chain: &mut [u8],
-    numbers: &mut [u64],
-    heldkey: &mut [u8],
-    waiting: &mut [u8],
-    sets: &mut [u8],
-    arrivals: &mut [u32],
+    pubkeys: &mut Pubkeys,
+    offer: &mut Offer,
+    chain: &mut ChainInForce,
+    numbers: &mut Numbers,
+    heldkey: &mut HeldKey,
+    waiting: &mut Waiting,
+    sets: &mut Sets,
+    arrivals: &mut Arrivals,
     id: u8,
     kind: u8,
-    pubkey: &[u8],
+    pubkey: &[u8; 67],
 )
-    requires pubkeys_len { (length pubkeys.old ≡ pubkeys_length) × ((length offer.old ≡ offer_length) × (length chain.old ≡ chain_length)) }
-    requires numbers_len { (length numbers.old ≡ numbers_length) × ((length heldkey.old ≡ heldkey_length) × (length waiting.old ≡ waiting_length)) }
-    requires sets_len { (length sets.old ≡ sets_length) × (length arrivals.old ≡ arrivals_length) }
-    requires pubkey_len { (length pubkey.now ≡ 67) × ((id < 16) × (kind < 4)) }
+    requires { (id < 16) × (kind < 4) }
     ensures { ((pubkeys.new ≡ with_key (replicate pubkeys_length 0) id kind (take (key_length kind) pubkey.now))
         × ((offer.new ≡ no_offer) × (chain.new ≡ replicate chain_length 0)))
         × ((tesla numbers.new heldkey.new waiting.new ≡ no_tags)

@@ -6,19 +6,22 @@
 //   set_config       the settings
 //   clear_signal, clear_blocks, clear_message, clear_tags, clear_sets    regions of a core that heard nothing
 //   hold_key         the public key, alone
-ghost use Rattle.std.specs.Prelude.{◌≡◌, false, not, ◌||◌, List, ℕ, ◌≤◌, ◌<◌, length, get_or, take, replicate};
+ghost use Rattle.std.specs.Prelude.{◌≡◌, false, not, ◌||◌, List, ℕ, ◌<◌, length, get_or, take, replicate};
 ghost use Rattle.authentic_sets.specs.Regions.{auth};
 ghost use Rattle.gather.specs.Store.{store};
-ghost use Rattle.laws.specs.Lists.{splice};
 ghost use Rattle.laws.specs.Refusal.{neb};
 ghost use Rattle.navdata.specs.Pieces.{nav};
 ghost use Rattle.regions.specs.Tesla.{tesla};
 ghost use Rattle.rules.specs.Calls.{start_unfit, mark_valid, marks_valid};
 ghost use Rattle.rules.specs.PublicKeys.{key_length, with_key};
 ghost use Rattle.rules.specs.Kroot.{no_offer};
-ghost use Rattle.rules.specs.State.{config_length, clocks_length, words_length, stamps_length, blocks_length, dsm_ids, pubkeys_length, offer_length, chain_length, arrivals_length};
-ghost use Rattle.rules.specs.State.{numbers_length, heldkey_length, waiting_length, sets_length};
+ghost use Rattle.rules.specs.State.{clocks_length, pubkeys_length, chain_length};
 ghost use Rattle.call_start_parts.specs.Blank.{settings, no_words, no_blocks, no_tags, no_sets};
+
+use regions::{
+    Arrivals, Blocks, ChainInForce, Clocks, Config, Headers, HeldKey, Numbers, Offer, Present,
+    Pubkeys, Sets, Since, Stamps, Waiting, Words,
+};
 
 // ---- what refuses a start
 
@@ -62,8 +65,7 @@ fn mark_valid(mark: u8) -> bool
 // ---- what an accepted start writes
 
 // NS, MACLT, the marks, the tree's root, and 0: not stopped.
-pub fn set_config(config: &mut [u8], ns: u8, maclt: u8, marks: &[u8], root: &[u8])
-    requires { (length config.old ≡ config_length) × ((length marks.now ≡ 28) × (length root.now ≡ 32)) }
+pub fn set_config(config: &mut Config, ns: u8, maclt: u8, marks: &[u8; 28], root: &[u8; 32])
     ensures { config.new ≡ settings ns maclt marks.now root.now }
 {
     config[0] = ns;
@@ -74,8 +76,7 @@ pub fn set_config(config: &mut [u8], ns: u8, maclt: u8, marks: &[u8], root: &[u8
 }
 
 // No time was noted and no word is held.
-pub fn clear_signal(clocks: &mut [u32], words: &mut [u8], stamps: &mut [u32])
-    requires { (length clocks.old ≡ clocks_length) × ((length words.old ≡ words_length) × (length stamps.old ≡ stamps_length)) }
+pub fn clear_signal(clocks: &mut Clocks, words: &mut Words, stamps: &mut Stamps)
     ensures { (clocks.new ≡ replicate clocks_length 0) × (nav words.new stamps.new ≡ no_words) }
 {
     clocks.fill(0);
@@ -84,9 +85,12 @@ pub fn clear_signal(clocks: &mut [u32], words: &mut [u8], stamps: &mut [u32])
 }
 
 // No DSM block is held.
-pub fn clear_blocks(blocks: &mut [u8], headers: &mut [u8], present: &mut [u16], since: &mut [u32])
-    requires { ((length blocks.old ≡ blocks_length) × (length headers.old ≡ dsm_ids))
-        × ((length present.old ≡ dsm_ids) × (length since.old ≡ dsm_ids)) }
+pub fn clear_blocks(
+    blocks: &mut Blocks,
+    headers: &mut Headers,
+    present: &mut Present,
+    since: &mut Since,
+)
     ensures { store blocks.new headers.new present.new since.new ≡ no_blocks }
 {
     blocks.fill(0);
@@ -96,8 +100,8 @@ pub fn clear_blocks(blocks: &mut [u8], headers: &mut [u8], present: &mut [u16], 
 }
 
 // Only the given key is held; bytes past its type's length are not read.
-pub fn hold_key(pubkeys: &mut [u8], id: u8, kind: u8, pubkey: &[u8])
-    requires { ((length pubkeys.old ≡ pubkeys_length) × (length pubkey.now ≡ 67)) × ((id < 16) × (kind < 4)) }
+pub fn hold_key(pubkeys: &mut Pubkeys, id: u8, kind: u8, pubkey: &[u8; 67])
+    requires { (id < 16) × (kind < 4) }
     ensures { pubkeys.new ≡ with_key (replicate pubkeys_length 0) id kind (take (key_length kind) pubkey.now) }
 {
     pubkeys.fill(0);
@@ -107,8 +111,7 @@ pub fn hold_key(pubkeys: &mut [u8], id: u8, kind: u8, pubkey: &[u8])
 
 // No message waits, and no chain was put in force.
 #[tactic(auto, unfolding(rules::specs::Kroot::no_offer))]
-pub fn clear_message(offer: &mut [u8], chain: &mut [u8])
-    requires { (length offer.old ≡ offer_length) × (length chain.old ≡ chain_length) }
+pub fn clear_message(offer: &mut Offer, chain: &mut ChainInForce)
     ensures { (offer.new ≡ no_offer) × (chain.new ≡ replicate chain_length 0) }
 {
     offer.fill(0);
@@ -116,8 +119,7 @@ pub fn clear_message(offer: &mut [u8], chain: &mut [u8])
 }
 
 // No TESLA key is held and no tag waits.
-pub fn clear_tags(numbers: &mut [u64], heldkey: &mut [u8], waiting: &mut [u8])
-    requires { (length numbers.old ≡ numbers_length) × ((length heldkey.old ≡ heldkey_length) × (length waiting.old ≡ waiting_length)) }
+pub fn clear_tags(numbers: &mut Numbers, heldkey: &mut HeldKey, waiting: &mut Waiting)
     ensures { tesla numbers.new heldkey.new waiting.new ≡ no_tags }
 {
     numbers[0] = 0;
@@ -127,8 +129,7 @@ pub fn clear_tags(numbers: &mut [u64], heldkey: &mut [u8], waiting: &mut [u8])
 }
 
 // No satellite has an authentic set or a candidate.
-pub fn clear_sets(sets: &mut [u8], arrivals: &mut [u32])
-    requires { (length sets.old ≡ sets_length) × (length arrivals.old ≡ arrivals_length) }
+pub fn clear_sets(sets: &mut Sets, arrivals: &mut Arrivals)
     ensures { auth sets.new arrivals.new ≡ no_sets }
 {
     sets.fill(0);

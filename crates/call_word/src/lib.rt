@@ -9,22 +9,21 @@ ghost use Rattle.laws.specs.Refusal.{first_refusal};
 ghost use Rattle.regions.specs.Told.{told};
 ghost use Rattle.rules.specs.Calls.{word_call, word_checks, word_unfit};
 ghost use Rattle.rules.specs.Refusals.{answer_number};
-ghost use Rattle.rules.specs.State.{State, word_shaped, word_lent, config_length, clocks_length, words_length, stamps_length};
+ghost use Rattle.rules.specs.State.{State, word_shaped, word_lent};
 
+use regions::{Clocks, Config, Stamps, Words};
 use rules::Refusal;
 
 // A word of a satellite, and the GST_SF of its sub-frame: the clock of its satellite, the word and its stamp are written, or nothing is.
 pub fn take_word(
-    config: &[u8],
-    clocks: &mut [u32],
-    words: &mut [u8],
-    stamps: &mut [u32],
+    config: &Config,
+    clocks: &mut Clocks,
+    words: &mut Words,
+    stamps: &mut Stamps,
     prn: u8,
     time: u32,
-    bytes: &[u8],
+    bytes: &[u8; 16],
 ) -> Result<(), Refusal>
-    requires { ((length config.now ≡ config_length) × (length clocks.old ≡ clocks_length))
-        × ((length words.old ≡ words_length) × ((length stamps.old ≡ stamps_length) × (length bytes.now ≡ 16))) }
     ensures { (s : State) →
         told (answer_number result) (word_lent s config.now clocks.new words.new stamps.new)
         ≡ word_call (word_lent s config.now clocks.old words.old stamps.old)
@@ -43,13 +42,12 @@ pub fn take_word(
 // What refuses a word.
 #[tactic(auto, unfolding(rules::specs::Calls::word_checks))]
 fn word_refusal(
-    config: &[u8],
-    clocks: &[u32],
+    config: &Config,
+    clocks: &Clocks,
     prn: u8,
     time: u32,
-    bytes: &[u8],
+    bytes: &[u8; 16],
 ) -> Result<(), Refusal>
-    requires { (length config.now ≡ config_length) × ((length clocks.now ≡ clocks_length) × (length bytes.now ≡ 16)) }
     ensures { ((s : State) → s.config ≡ config.now → s.clocks ≡ clocks.now →
         (word_shaped s && eqb (length bytes.now) 16) ≡ true →
         answer_number result ≡ first_refusal (word_checks s (record { prn = prn; time = time; bytes = bytes.now })))
@@ -69,8 +67,7 @@ fn word_refusal(
 
 // PRN or time out of range, or a word 4 whose SVID is not the PRN.
 #[tactic(auto, using(regions::proofs::Faults::time_small), unfolding(rules::specs::Calls::word_unfit))]
-fn word_unfit(prn: u8, time: u32, bytes: &[u8]) -> bool
-    requires { length bytes.now ≡ 16 }
+fn word_unfit(prn: u8, time: u32, bytes: &[u8; 16]) -> bool
     ensures { (result ≡ word_unfit (record { prn = prn; time = time; bytes = bytes.now }))
         × (result ≡ false → ((1 ≤ prn) × (prn ≤ 36)) × (time < 4294967295)) }
 {

@@ -11,15 +11,16 @@ ghost use Rattle.rules.specs.Calls.{subframe_checks};
 ghost use Rattle.rules.specs.Received.{fields_came, received};
 ghost use Rattle.rules.specs.Refusals.{answer_number};
 ghost use Rattle.rules.specs.declared.Refusal.TheVariants.{AllZero};
-ghost use Rattle.rules.specs.State.{State, shaped, last_subframe, last_subframe_of, config_length, clocks_length, area_length};
+ghost use Rattle.rules.specs.State.{State, shaped, last_subframe, last_subframe_of, area_length};
 ghost use Rattle.rules.specs.Times.{stamp_of};
 ghost use Rattle.regions.specs.Told.{subframe};
 
+use regions::{Clocks, Config};
 use rules::Refusal;
 
 // Row 3: earlier than the last sub-frame, or not later for its PRN.
-pub fn out_of_order(clocks: &[u32], prn: u8, time: u32) -> bool
-    requires { (length clocks.now ≡ clocks_length) × (prn ≤ 36) }
+pub fn out_of_order(clocks: &Clocks, prn: u8, time: u32) -> bool
+    requires { prn ≤ 36 }
     ensures { result ≡ (ltb (stamp_of time) (last_subframe clocks.now) || leb (stamp_of time) (last_subframe_of clocks.now prn)) }
 {
     regions::later(regions::last_subframe(clocks), time)
@@ -37,14 +38,13 @@ pub fn zero_fields(marks: u16, fields: &[u8]) -> bool
 // What refuses a sub-frame whose lengths are right. `fields` are the fields as they came.
 #[tactic(auto, using(regions::proofs::Faults::time_small), unfolding(rules::specs::Calls::subframe_checks))]
 pub fn subframe_refusal(
-    config: &[u8],
-    clocks: &[u32],
+    config: &Config,
+    clocks: &Clocks,
     prn: u8,
     time: u32,
     marks: u16,
     fields: &[u8],
 ) -> Result<(), Refusal>
-    requires { (length config.now ≡ config_length) × (length clocks.now ≡ clocks_length) }
     ensures { ((s : State) (area lent : List ℕ) → s.config ≡ config.now → s.clocks ≡ clocks.now →
         fields.now ≡ received marks lent 15 → (shaped s && (eqb (length area) area_length && eqb (length lent) 75)) ≡ true →
         answer_number result ≡ first_refusal (subframe_checks s area (subframe prn time marks lent)))

@@ -1,6 +1,7 @@
 -- `call_reads::progress_of` meets its contract: by the mark of block 0.
 use mathlib.Core.Path.{sym, ◌∙◌}
 use Prim.Native.Nat.{◌≤◌}
+use Rattle.std.proofs.Common.{rules}
 use native.Mathlib.Omega.{arith}
 use lib.Count.{ones-le}
 use lib.ListN.{get_or}
@@ -12,7 +13,7 @@ use Rattle.call_reads.proofs.progress_of.Goals.{After-total_of-total}
 pub overflow_cast-held : goal.overflow_cast-held
 overflow_cast-held c =
     let g = c.args in
-    omega (arith, ones-le 16 (get_or g.present.now g.id 0) (omega (arith, c.type_inv.present g.id)))
+    omega (arith, ones-le 16 (get_or g.present.now g.id 0) (search rules))
 
 pub returns-then-not-marked : goal.returns-then-not-marked
 returns-then-not-marked c = λ s. unknown _ _ (sym c.marked.ensures ∙ c.if-not-marked.true)

@@ -1,5 +1,6 @@
 -- `call_reads::read_message` meets its contract: each part of the region goes to the bytes lent for it.
 use mathlib.Core.Path.{◌≡◌}
+use Rattle.std.proofs.Common.{rules}
 use Rattle.laws.specs.Lists.{part}
 use Rattle.rules.specs.Kroot.{offer_id, offer_message, offer_signature}
 use Rattle.call_reads.proofs.Answers.{offer_missing, offer_found}
@@ -9,7 +10,7 @@ pub returns-then-offer-ne1 : goal.returns-then-offer-ne1
 returns-then-offer-ne1 c =
     let g = c.args in
     λ s.
-    offer_missing s g.pubkeys.now g.offer.now g.message.now g.signature.now g.pubkey.now (c.requires.pubkeys_len, c.requires.message_len) c.if-offer-ne1.true
+    offer_missing s g.pubkeys.now g.offer.now g.message.now g.signature.now g.pubkey.now ((search rules, search rules), (search rules, (search rules, search rules))) c.if-offer-ne1.true
 
 -- the lent bytes are those of the region
 pub returns : goal.returns
@@ -19,7 +20,7 @@ returns c =
     let m : c.copy_from_slice.new.self ≡ part g.offer.now 2 45 = c.copy_from_slice.ensures.after in
     let n : c.copy_from_slice-2.new.self ≡ part g.offer.now 47 132 = c.copy_from_slice-2.ensures.after in
     λ s.
-    offer_found s g.pubkeys.now g.offer.now g.message.now g.signature.now g.pubkey.now (c.requires.pubkeys_len, c.requires.message_len)
+    offer_found s g.pubkeys.now g.offer.now g.message.now g.signature.now g.pubkey.now ((search rules, search rules), (search rules, (search rules, search rules)))
     c.if-offer-ne1.false
     c.copy_from_slice.new.self
     c.copy_from_slice-2.new.self

@@ -1,5 +1,6 @@
 -- `call_reads::read_progress` meets its contract: after `id` turns the first 2 id bytes are the pairs of so many DSM IDs.
 use mathlib.Core.Path.{◌≡◌, refl, sym, ◌∙◌, ap}
+use borrow.Rule.Slice.PartMut.{same_len_mid}
 use lib.Seq.{take_all}
 use Rattle.std.proofs.Common.{arith, rules}
 use Rattle.rules.specs.Progress.{pair_of, pairs_of}
@@ -13,7 +14,7 @@ loop-id-init c = (search rules, λ s. refl)
 pub loop-id-preserved : goal.loop-id-preserved
 loop-id-preserved c =
     let l = c.loop-id in (
-      search rules,
+      same_len_mid _ _ l.out _ c.copy_from_slice.auto.self ∙ l.invariant.0,
       λ s. pairs_more _ l.out l.id _ _ (omega (arith, l.invariant.0)) (c.copy_from_slice.ensures.after ∙ c.pair_of-pair.ensures ∙ ap pair_of (c.progress_of.ensures s)) (l.invariant.1 s),
     )
 
