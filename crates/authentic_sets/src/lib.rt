@@ -4,7 +4,7 @@
 // `sets` has 72 places of 69 bytes: the authentic sets, then the candidates. `arrivals` has for each place the stamp of its latest tag's arrival,
 // its time plus 1, or 0 where there is none, and then for each satellite the tag bits that agree on its candidate.
 // Public calls:
-//   agree               a tag that agrees with its set: outcome 1 or 9
+//   agree               a tag that agrees with its set: the set is authentic, or a candidate
 //   clear_candidates    no satellite has a candidate
 //   stamp_of, copy_set  a satellite's authentic set, for a read
 ghost use Rattle.std.specs.Prelude.{◌≡◌, List, ℕ, ◌+◌, ◌-◌, ◌≤◌, ◌<◌, length, set};
@@ -13,6 +13,7 @@ ghost use Rattle.rules.specs.Candidates.{summed, agreed, pair_at, candidates_cle
 ghost use Rattle.rules.specs.Times.{stamp_of};
 ghost use Rattle.authentic_sets.specs.Places.{holds_at, sets_entered, arrivals_entered, numbers_put, Agrees};
 ghost use Rattle.authentic_sets.specs.Regions.{auth};
+ghost use Rattle.authentic_sets.specs.Agreements.{agreement_number};
 
 use regions::{Arrivals, COPY_LENGTH, Sets};
 use rules::Tag;
@@ -27,6 +28,27 @@ const CANDIDATE_NUMBERS: usize = 72;
 
 // "A set is called authentic at 40 bits"
 const AUTHENTIC_BITS: u64 = 40;
+
+// What a set is, with which a tag agrees.
+#[derive(Clone, Copy, Debug, PartialEq, Eq)]
+pub enum Agreement {
+    // Forty tag bits agree on it, or it was authentic before.
+    Authentic,
+    // Too few agree as yet.
+    Candidate,
+}
+
+impl Agreement {
+    // The tag's outcome, for its record.
+    pub fn number(self) -> u8
+        ensures { result ≡ agreement_number self }
+    {
+        match self {
+            Self::Authentic => 1,
+            Self::Candidate => 9,
+        }
+    }
+}
 
 // ---- a place
 
@@ -83,22 +105,22 @@ fn sum(
     total: u64,
     latest: u32,
     set: &[u8; COPY_LENGTH],
-) -> u8
+) -> Agreement
     requires { (1 ≤ prn) × (prn ≤ 36) }
     ensures { Agrees (summed total latest set.now (pair_at sets.old arrivals.old prn)) prn
-        sets.old arrivals.old sets.new arrivals.new result }
+        sets.old arrivals.old sets.new arrivals.new (agreement_number result) }
 {
     if AUTHENTIC_BITS <= total {
         enter_set(sets, arrivals, prn, latest, set);
         put_numbers(arrivals, prn, 0, 0);
-        return 1;
+        return Agreement::Authentic;
     }
     buffer::copy_at(sets, (CANDIDATES + (prn - 1)) * COPY_LENGTH, set);
     put_numbers(arrivals, prn, latest, total as u32);
-    9
+    Agreement::Candidate
 }
 
-// A tag of `ms` bits agrees with this set of its satellite. Gives its outcome, 1 or 9.
+// A tag of `ms` bits agrees with this set of its satellite. Gives what the set is then.
 #[tactic(auto, using(crate::proofs::Agreed::on_set_law, crate::proofs::Agreed::too_old, crate::proofs::Agreed::later_is), unfolding(rules::specs::Times::stamp_of))]
 pub fn agree(
     sets: &mut Sets,
@@ -106,17 +128,17 @@ pub fn agree(
     ms: u64,
     t: Tag,
     set: &[u8; COPY_LENGTH],
-) -> u8
+) -> Agreement
     requires { (((1 ≤ t.prn) × (t.prn ≤ 36)) × (t.time < 4294967295)) × (ms ≤ 40) }
     ensures { Agrees (agreed ms (stamp_of t.time) set.now (pair_at sets.old arrivals.old t.prn)) t.prn
-        sets.old arrivals.old sets.new arrivals.new result }
+        sets.old arrivals.old sets.new arrivals.new (agreement_number result) }
 {
     let prn = t.prn as usize;
     let stamp = t.time + 1;
     let place = prn - 1;
     if holds(sets, arrivals, place, set) {
         arrivals[place] = arrivals[place].max(stamp);
-        return 1;
+        return Agreement::Authentic;
     }
     let latest = arrivals[CANDIDATES + place];
     let total = u64::from(arrivals[TOTALS + place]) + ms; // whatever number stands there, the sum fits
@@ -124,7 +146,7 @@ pub fn agree(
         return sum(sets, arrivals, prn, total, latest.max(stamp), set);
     }
     if stamp < latest {
-        return 9;
+        return Agreement::Candidate;
     }
     sum(sets, arrivals, prn, ms, stamp, set)
 }

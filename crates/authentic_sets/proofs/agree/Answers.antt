@@ -28,7 +28,7 @@ returns-then-holds-2 c =
     let g = c.args in
     on_candidate_lem g.sets.now g.arrivals.now g.t.prn g.set.now (sets-long (goal.at.returns-then-holds-2 c).Start) (arrivals-long (goal.at.returns-then-holds-2 c).Start) (set_long (goal.at.returns-then-holds-2 c).Start) (named (goal.at.returns-then-holds-2 c).Start).0 (named (goal.at.returns-then-holds-2 c).Start).1
     g.ms (g.t.time + 1) (sym c.holds.ensures ∙ c.if-holds.false)
-    (c.from.result + g.ms) c.max-then-holds-2.result c.sum.new.sets c.sum.new.arrivals c.sum.result
+    (c.from.result + g.ms) c.max-then-holds-2.result c.sum.new.sets c.sum.new.arrivals _
     (sym c.holds-2.ensures ∙ c.if-holds-2.true) (ap (λ (x : ℕ). x + g.ms) c.from.ensures) (c.max-then-holds-2.ensures ∙ later_is _ _)
     c.sum.ensures
 
@@ -38,5 +38,5 @@ returns c =
     let g = c.args in
     anew g.sets.now g.arrivals.now g.t.prn g.set.now (sets-long (goal.at.returns c).Start) (arrivals-long (goal.at.returns c).Start) (set_long (goal.at.returns c).Start) (named (goal.at.returns c).Start).0 (named (goal.at.returns c).Start).1
     g.ms (g.t.time + 1) (sym c.holds.ensures ∙ c.if-holds.false)
-    c.sum-2.new.sets c.sum-2.new.arrivals c.sum-2.result
+    c.sum-2.new.sets c.sum-2.new.arrivals _
     (sym c.holds-2.ensures ∙ c.if-holds-2.false) c.if-stamp-latest.false c.sum-2.ensures
