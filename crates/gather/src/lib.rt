@@ -102,6 +102,7 @@ fn blocks_for(nb: u8) -> usize
 }
 
 // The blocks that the block 0 at a place names.
+#[tactic(auto, using(laws::proofs::Splice::get_d_part), unfolding(rules::specs::Gather::total_of))]
 pub fn total_of(s: &[u8], at: usize) -> usize
     requires { at + 13 ≤ length s.now }
     ensures { result ≡ Rule.total_of (part s.now at 13) }
@@ -110,7 +111,7 @@ pub fn total_of(s: &[u8], at: usize) -> usize
 }
 
 // Whether this is a block 0 with a reserved NB.
-#[tactic(auto, unfolding(rules::specs::Gather::reserved_count))]
+#[tactic(auto, unfolding(rules::specs::Gather::reserved_count, rules::specs::Gather::block_of))]
 fn reserved_count(hk: &[u8; 15]) -> bool
     ensures { result ≡ Rule.reserved_count hk.now }
 {
@@ -142,6 +143,7 @@ fn with_mark(present: u16, k: usize) -> u16
 // ---- the four reasons to drop an ID's blocks
 
 // The oldest block is over 3,600 s old.
+#[tactic(auto, using(crate::proofs::Counts::age, times::proofs::Times::seconds_bound))]
 fn too_old(first: u32, t: u32) -> bool
     ensures { result ≡ ltb 3600 (seconds_of t - seconds_of first) }
 {
@@ -157,6 +159,7 @@ fn same_block(blocks: &Blocks, at: usize, hk: &[u8; 15]) -> bool
 }
 
 // The same block ID held other bytes.
+#[tactic(auto, unfolding(rules::specs::Gather::stored_block))]
 fn other_bytes(blocks: &Blocks, present: u16, id: usize, k: usize, hk: &[u8; 15]) -> bool
     requires { (id < 16) × (k < 16) }
     ensures { result ≡ Rule.marked present k && not (same (Rule.stored_block blocks.now id k) (Rule.block_of hk.now)) }
@@ -165,6 +168,7 @@ fn other_bytes(blocks: &Blocks, present: u16, id: usize, k: usize, hk: &[u8; 15]
 }
 
 // It is a block 0 whose count is not above every stored block ID.
+#[tactic(auto, using(rules::proofs::Bounds::total_bound), unfolding(rules::specs::Gather::block_of))]
 fn count_too_low(present: u16, k: usize, hk: &[u8; 15]) -> bool
     ensures { result ≡ eqb k 0 && neb (present / 2 ^ Rule.total_of (Rule.block_of hk.now)) 0 }
 {
@@ -216,6 +220,7 @@ fn kept_marks(
 }
 
 // Whether a block ID is not below the count of the block 0 held, of the blocks that are left.
+#[tactic(auto, using(crate::proofs::Stores::first_block))]
 fn too_high(blocks: &Blocks, kept: u16, id: usize, k: usize) -> bool
     requires { id < 16 }
     ensures { result ≡ Rule.marked kept 0 && leb (Rule.total_of (Rule.stored_block blocks.now id 0)) k }
@@ -232,6 +237,7 @@ fn first_time(kept: u16, t: u32, held: u32) -> u32
     if kept == 0 { t } else { held }
 }
 
+#[tactic(auto, unfolding(rules::specs::Gather::with_block, rules::specs::Gather::block_of))]
 fn put_block(
     blocks: &mut Blocks,
     headers: &mut Headers,
@@ -300,6 +306,7 @@ fn store_block(
 }
 
 // A block comes at time t.
+#[tactic(auto, using(crate::proofs::Stores::refused_count, crate::proofs::Stores::refused_high, crate::proofs::Stores::high_is, crate::proofs::Stores::stored_is))]
 pub fn gather(
     blocks: &mut Blocks,
     headers: &mut Headers,

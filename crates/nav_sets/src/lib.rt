@@ -20,6 +20,7 @@ ghost use Rattle.nav_sets.specs.Table.{EachBit};
 // ---- eight bytes as a number: each of these is one instruction of the machine, or two
 
 // The number in the eight bytes from place `at` on.
+#[tactic(auto, using(crate::proofs::Bytes::bits_eight))]
 pub fn get_u64(s: &[u8], at: usize) -> u64
     requires { at + 8 ≤ length s.now }
     ensures { result ≡ bits s.now (8 * at) 64 }
@@ -55,6 +56,7 @@ pub fn put_five(out: &mut [u8], to: usize, x: u64)
 // ---- a set
 
 // The n bits of x from bit `from` on, then the bits of y from bit `to` on: 64 in all.
+#[tactic(auto, using(crate::proofs::Shifts::pair_is))]
 pub fn pair(x: u64, from: u64, n: u64, y: u64, to: u64) -> u64
     requires { ((1 ≤ n) × (n < 64)) × ((from + n ≤ 64) × (to ≤ n)) }
     ensures { (s : List ℕ) (a : ℕ) (u : List ℕ) (b : ℕ) → x ≡ bits s a 64 → y ≡ bits u b 64 → result ≡ pair_of s (a + from) n u (b + to) }
@@ -96,6 +98,7 @@ fn put_last(w: &[u8; 80], first: u64, out: &mut [u8], to: usize)
 
 // The set of five words, one after the other, into `out` from place `to`. Where a piece begins grows from word to word by six bits and by
 // those that the word leaves out at its end: two, two, none, two. `out` is a slice: the set is written at any place of a longer one.
+#[tactic(auto, using(crate::proofs::Gathered::set_spliced))]
 pub fn gather(w: &[u8; 80], out: &mut [u8], to: usize)
     requires { to + 69 ≤ length out.old }
     ensures { out.new ≡ splice out.old to

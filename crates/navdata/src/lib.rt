@@ -15,6 +15,7 @@ use regions::{COPY_LENGTH, Stamps, Words};
 // ---- words
 
 // A word's type.
+#[tactic(auto, unfolding(rules::specs::Navdata::word_type))]
 pub fn word_type(w: &[u8; 16]) -> usize
     ensures { result ≡ word_type w.now }
 {
@@ -22,6 +23,7 @@ pub fn word_type(w: &[u8; 16]) -> usize
 }
 
 // The SVID of a word 4.
+#[tactic(auto, unfolding(rules::specs::Navdata::svid_of))]
 pub fn svid(w: &[u8; 16]) -> usize
     ensures { result ≡ svid_of w.now }
 {
@@ -29,6 +31,7 @@ pub fn svid(w: &[u8; 16]) -> usize
 }
 
 // The place of a satellite's word of a type.
+#[tactic(auto, unfolding(rules::specs::Navdata::word_place))]
 fn word_place(prn: usize, kind: usize) -> usize
     requires { ((1 ≤ prn) × (prn ≤ 36)) × ((1 ≤ kind) × (kind ≤ 5)) }
     ensures { (result ≡ word_place prn kind) × (result < 180) }
@@ -37,6 +40,7 @@ fn word_place(prn: usize, kind: usize) -> usize
 }
 
 // A word takes its place, with the stamp of its sub-frame.
+#[tactic(auto, unfolding(rules::specs::Navdata::word_stored))]
 pub fn store_word(
     words: &mut Words,
     stamps: &mut Stamps,
@@ -57,6 +61,7 @@ pub fn store_word(
 // ---- sets that can be used
 
 // Bits 6 to 15 of a satellite's word: its IODnav in words 1 to 4.
+#[tactic(auto, using(crate::proofs::Sets::bits_of_word), unfolding(rules::specs::Navdata::word_issue))]
 fn word_issue(words: &Words, prn: usize, kind: usize) -> u64
     requires { ((1 ≤ prn) × (prn ≤ 36)) × ((1 ≤ kind) × (kind ≤ 5)) }
     ensures { result ≡ word_issue (word_at words.now prn kind) }
@@ -107,6 +112,7 @@ pub fn usable(words: &Words, stamps: &Stamps, prn: usize, t: u32) -> bool
 // ---- a set's bytes
 
 // The IODnav of a set.
+#[tactic(auto, using(rules::proofs::Bounds::bits_lt), unfolding(rules::specs::Navdata::set_issue))]
 pub fn set_issue(set: &[u8; COPY_LENGTH]) -> u16
     ensures { result ≡ set_issue set.now }
 {
@@ -114,6 +120,7 @@ pub fn set_issue(set: &[u8; COPY_LENGTH]) -> u16
 }
 
 // The set of a satellite's held words into `out` from place `to`. `out` is a slice: the set is written at any place of a longer one.
+#[tactic(auto, using(crate::proofs::Sets::set_of_five, laws::proofs::Splice::range_part))]
 pub fn set_bytes(words: &Words, prn: usize, out: &mut [u8], to: usize)
     requires { ((1 ≤ prn) × (prn ≤ 36)) × (to + 69 ≤ length out.old) }
     ensures { out.new ≡ splice out.old to (set_of words.now prn) }

@@ -32,6 +32,7 @@ pub fn key_type(pubkeys: &Pubkeys, id: u8) -> u8
 }
 
 // The key's 67 bytes into `out`, zeros after a short one.
+#[tactic(auto, using(laws::proofs::Splice::length_part, laws::proofs::Splice::splice_whole), unfolding(rules::specs::PublicKeys::key_bytes))]
 pub fn key_bytes(pubkeys: &Pubkeys, id: u8, out: &mut [u8; 67])
     requires { id < 16 }
     ensures { out.new ≡ S.key_bytes pubkeys.now id }
@@ -85,6 +86,7 @@ pub fn add_key(pubkeys: &mut Pubkeys, id: u8, kind: u8, key: &[u8])
 }
 
 // Keys of lower ID are dropped.
+#[tactic(auto, unfolding(rules::specs::PublicKeys::without_lower))]
 pub fn drop_lower(pubkeys: &mut Pubkeys, id: u8)
     requires { id < 16 }
     ensures { pubkeys.new ≡ S.without_lower pubkeys.old id }

@@ -11,6 +11,7 @@ ghost use Rattle.rules.specs.Outcomes.{outcome_number};
 ghost use Rattle.rules.specs.Tags.{names_satellite, tag_record, record_issue, told};
 ghost use Rattle.tag_records.specs.Told.{start, Finds, Tells};
 
+use authentic_sets::Agreement;
 use regions::{Arrivals, COPY_LENGTH, Sets};
 use rules::{Outcome, Tag};
 
@@ -37,8 +38,10 @@ fn record_outcome(
         sets.new arrivals.new result }
 {
     match found {
-        Outcome::Agrees if names_satellite(t) => authentic_sets::agree(sets, arrivals, ms, t, set),
-        Outcome::Agrees => 9,
+        Outcome::Agrees if names_satellite(t) => {
+            authentic_sets::agree(sets, arrivals, ms, t, set).number()
+        }
+        Outcome::Agrees => Agreement::Candidate.number(),
         other => tags::outcome_number(other),
     }
 }

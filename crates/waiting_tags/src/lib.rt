@@ -23,6 +23,7 @@ use rules::{Chain, Tag};
 // These four take the entries as a slice and not as `Waiting`: their contracts hold of any number of entries, and an array would ask for 256.
 
 // The tag of entry k.
+#[tactic(auto, using(laws::proofs::Splice::range_part), unfolding(rules::specs::Tags::entry_at))]
 pub fn entry_tag(waiting: &[u8], k: usize) -> Tag
     requires { k * entry_length + entry_length ≤ length waiting.now }
     ensures { result ≡ entry_tag (entry_at waiting.now k) }
@@ -31,6 +32,7 @@ pub fn entry_tag(waiting: &[u8], k: usize) -> Tag
 }
 
 // The tag of an entry: a slice, since it is a part of the region and an array of it would have to be unwrapped.
+#[tactic(auto, unfolding(rules::specs::Tags::entry_tag))]
 fn tag_in(e: &[u8]) -> Tag
     requires { length e.now ≡ entry_length }
     ensures { result ≡ entry_tag e.now }
@@ -50,6 +52,7 @@ fn tag_in(e: &[u8]) -> Tag
 }
 
 // The set of entry k, copied to `out`.
+#[tactic(auto, using(crate::proofs::Entries::set_in_region, laws::proofs::Splice::length_part, laws::proofs::Splice::splice_whole))]
 pub fn copy_set(waiting: &[u8], k: usize, out: &mut [u8; COPY_LENGTH])
     requires { k * entry_length + entry_length ≤ length waiting.now }
     ensures { out.new ≡ entry_set (entry_at waiting.now k) }
@@ -75,6 +78,7 @@ pub fn put_entry(waiting: &mut [u8], k: usize, t: Tag, set: &[u8; COPY_LENGTH])
 // ---- entries close up
 
 // Entry `from` moves to place `to`, which is not after it.
+#[tactic(auto, using(crate::proofs::Entries::moved), unfolding(rules::specs::Tags::entry_at))]
 pub fn move_entry(waiting: &mut [u8], from: usize, to: usize)
     requires { (to ≤ from) × (from * entry_length + entry_length ≤ length waiting.old) }
     ensures { waiting.new ≡ splice waiting.old (to * entry_length) (entry_at waiting.old from) }
@@ -84,6 +88,7 @@ pub fn move_entry(waiting: &mut [u8], from: usize, to: usize)
 }
 
 // "A waiting tag is due once the held slot reaches its key's slot."
+#[tactic(auto, unfolding(rules::specs::Tags::is_due, rules::specs::Chain::key_slot))]
 pub fn is_due(c: Chain, slot: u64, t: Tag) -> bool
     requires { ((1 ≤ c.ns) × (c.ns ≤ 36)) × (c.nmack ≤ 3) }
     ensures { (key : List ℕ) → result ≡ is_due c (held slot key) t }
@@ -92,6 +97,7 @@ pub fn is_due(c: Chain, slot: u64, t: Tag) -> bool
 }
 
 // Whether the key of entry k's tag belongs to a sub-frame not before the root's sub-frame 0.
+#[tactic(auto, unfolding(rules::specs::Verdict::key_not_before))]
 fn stays(waiting: &Waiting, root: u64, k: usize) -> bool
     requires { k < 256 }
     ensures { result ≡ key_not_before root (entry_at waiting.now k) }
@@ -101,6 +107,7 @@ fn stays(waiting: &Waiting, root: u64, k: usize) -> bool
 }
 
 // Entry k, after `kept` that stay: where it stays, it closes up. Gives how many stay then.
+#[tactic(auto, using(laws::proofs::Splice::splice_nil))]
 fn keep_one(waiting: &mut Waiting, root: u64, k: usize, kept: usize) -> usize
     requires { (kept ≤ k) × (k < 256) }
     ensures { (waiting.new ≡ splice waiting.old (kept * entry_length)

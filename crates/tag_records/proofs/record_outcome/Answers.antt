@@ -7,13 +7,14 @@ use Rattle.tag_records.proofs.record_outcome.Goals as goal
 pub returns-in-Agrees : goal.returns-in-Agrees
 returns-in-Agrees c =
     let g = c.args in
-    agrees_there g.ms g.t g.set.now g.sets.now g.arrivals.now (outcome_number g.found) c.agree.new.sets c.agree.new.arrivals c.agree.result
-    (ap outcome_number c.in-Agrees.is) (sym c.names_satellite.ensures.0 ∙ c.if-names_satellite.true) c.agree.ensures
+    agrees_there g.ms g.t g.set.now g.sets.now g.arrivals.now (outcome_number g.found) c.agree.new.sets c.agree.new.arrivals _
+    (ap outcome_number c.in-Agrees.is) (sym c.names_satellite.ensures.0 ∙ c.if-names_satellite.true) (rw c.number.ensures c.agree.ensures)
 
 pub returns-in-Agrees-2 : goal.returns-in-Agrees-2
 returns-in-Agrees-2 c =
     let g = c.args in
-    agrees_nowhere g.ms g.t g.set.now g.sets.now g.arrivals.now (outcome_number g.found) (ap outcome_number c.in-Agrees-2.is) (sym c.names_satellite.ensures.0 ∙ c.if-names_satellite.false)
+    rw c.number-in-Agrees-2.ensures
+    (agrees_nowhere g.ms g.t g.set.now g.sets.now g.arrivals.now (outcome_number g.found) (ap outcome_number c.in-Agrees-2.is) (sym c.names_satellite.ensures.0 ∙ c.if-names_satellite.false))
 
 pub returns-in_default : goal.returns-in_default
 returns-in_default c =

@@ -1,5 +1,4 @@
 -- `waiting_tags::keep_staying` meets its contract: after k turns those of the first k entries that stay are at the front.
-use mathlib.Core.Path.{◌≡◌}
 use native.Mathlib.Omega.{arith}
 use Rattle.waiting_tags.proofs.Entries.{none_yet, stay_region, stay_length}
 use Rattle.waiting_tags.proofs.keep_staying.Goals as goal
@@ -17,9 +16,3 @@ loop-k-preserved c =
     let m = stay_length g.root g.waiting.now l.waiting s.new.waiting l.k l.kept s.result l.invariant.0 (omega arith) i.0 i.1 s.ensures.0 s.ensures.1 in
     let u = stay_region g.root g.waiting.now l.waiting s.new.waiting l.k l.kept s.result l.invariant.0 (omega arith) i.0 i.1 s.ensures.0 s.ensures.1 in
     (m.1, (m.0, u))
-
-pub returns : goal.returns
-returns c =
-    let l = c.loop-k in
-    let h : l.k ≡ c.args.n = omega arith in
-    rw (← h) (l.invariant.1.1, (l.invariant.1.0, l.invariant.0))
