@@ -37,7 +37,8 @@ fn tell_entry(
     let t = waiting_tags::entry_tag(waiting, k);
     let mut set = [0u8; regions::COPY_LENGTH];
     waiting_tags::copy_set(waiting, k, &mut set);
-    tag_records::tell(ms, outcome, t, &set, sets, arrivals, area, at);
+    let found = tags::outcome_number(outcome);
+    tag_records::tell(ms, found, t, &set, sets, arrivals, area, at);
 }
 
 // ---- arrival order

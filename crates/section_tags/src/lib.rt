@@ -42,7 +42,8 @@ fn settle(
     ensures { Leaves (settled ms (outcome_number outcome) t set.now (start count sets.old arrivals.old)) count at
         waiting.old area.old waiting.new sets.new arrivals.new area.new result }
 {
-    tag_records::tell(ms, outcome, t, set, sets, arrivals, area, at * 12);
+    let found = tags::outcome_number(outcome);
+    tag_records::tell(ms, found, t, set, sets, arrivals, area, at * 12);
     match outcome {
         Outcome::Waits => {
             waiting_tags::put_entry(waiting, count, t, set);

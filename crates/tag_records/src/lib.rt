@@ -7,13 +7,12 @@
 //   record_issue, put_record   the parts of a record
 ghost use Rattle.std.specs.Prelude.{◌≡◌, true, ◌+◌, ◌≤◌, ◌<◌, length};
 ghost use Rattle.laws.specs.Lists.{splice};
-ghost use Rattle.rules.specs.Outcomes.{outcome_number};
 ghost use Rattle.rules.specs.Tags.{names_satellite, tag_record, record_issue, told};
 ghost use Rattle.tag_records.specs.Told.{start, Finds, Tells};
 
 use authentic_sets::Agreement;
 use regions::{Arrivals, COPY_LENGTH, Sets};
-use rules::{Outcome, Tag};
+use rules::Tag;
 
 // ---- the outcome
 
@@ -24,33 +23,34 @@ fn names_satellite(t: Tag) -> bool
     1 <= t.prn && t.prn <= 36 && times::time_valid(t.time)
 }
 
-// The number of a record's outcome, of a tag of `ms` bits that was found to be this, after its satellite's sets have what it leaves there.
+// The number of a record's outcome, of a tag of `ms` bits that was found to be this, after its satellite's sets have what it leaves there. 1 says that it
+// agrees with its set, another number is its outcome: a number and no `Outcome`, since `tell` takes any byte.
 fn record_outcome(
     ms: u64,
-    found: Outcome,
+    found: u8,
     t: Tag,
     set: &[u8; COPY_LENGTH],
     sets: &mut Sets,
     arrivals: &mut Arrivals,
 ) -> u8
     requires { ms ≤ 40 }
-    ensures { Finds (told ms (outcome_number found) t set.now (start 0 sets.old arrivals.old)) t set.now
+    ensures { Finds (told ms found t set.now (start 0 sets.old arrivals.old)) t set.now
         sets.new arrivals.new result }
 {
-    match found {
-        Outcome::Agrees if names_satellite(t) => {
-            authentic_sets::agree(sets, arrivals, ms, t, set).number()
-        }
-        Outcome::Agrees => Agreement::Candidate.number(),
-        other => tags::outcome_number(other),
+    if found != 1 {
+        return found;
     }
+    if !names_satellite(t) {
+        return Agreement::Candidate.number();
+    }
+    authentic_sets::agree(sets, arrivals, ms, t, set).number()
 }
 
 // A tag of `ms` bits and what it was found to be: its record goes to place `at` of the area, and where it agrees, its satellite's sets follow.
 // The area stays a slice here and in `put_record`: their clause asks of any length that the record fits.
 pub fn tell(
     ms: u64,
-    found: Outcome,
+    found: u8,
     t: Tag,
     set: &[u8; COPY_LENGTH],
     sets: &mut Sets,
@@ -59,7 +59,7 @@ pub fn tell(
     at: usize,
 )
     requires { (at + 12 ≤ length area.old) × (ms ≤ 40) }
-    ensures { Tells (told ms (outcome_number found) t set.now (start 0 sets.old arrivals.old)) at area.old
+    ensures { Tells (told ms found t set.now (start 0 sets.old arrivals.old)) at area.old
         sets.new arrivals.new area.new }
 {
     let outcome = record_outcome(ms, found, t, set, sets, arrivals);
