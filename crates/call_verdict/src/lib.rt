@@ -13,11 +13,12 @@ ghost use Rattle.rules.specs.Bits.{filled};
 ghost use Rattle.rules.specs.Calls.{verdict_call};
 ghost use Rattle.rules.specs.Kroot.{kroot_of, no_offer};
 ghost use Rattle.rules.specs.Refusals.{answer_number};
-ghost use Rattle.rules.specs.State.{State, verdict_lent, with_auth, waiting_count, entry_length, contents_length};
+ghost use Rattle.rules.specs.State.{State, verdict_lent, with_auth, waiting_count, entry_length};
 ghost use Rattle.rules.specs.Verdict as S;
 ghost use Rattle.regions.specs.Tesla.{tesla};
 ghost use Rattle.authentic_sets.specs.Regions.{auth};
 
+use kroot::Contents;
 use regions::{Arrivals, ChainInForce, Config, HeldKey, Numbers, Offer, Pubkeys, Waiting};
 use rules::Refusal;
 
@@ -139,7 +140,7 @@ fn vouch(
         heldkey,
         waiting,
         arrivals,
-        &message[1..45],
+        message[1..45].as_array().unwrap(),
     );
 }
 
@@ -153,9 +154,8 @@ fn renew(
     heldkey: &mut HeldKey,
     waiting: &mut Waiting,
     arrivals: &mut Arrivals,
-    c: &[u8],
+    c: &Contents,
 )
-    requires { length c.now ≡ contents_length }
     ensures { (s : State) → s.config ≡ config.now → s.chain ≡ chain.old →
         s.tesla ≡ tesla numbers.old heldkey.old waiting.old → s.auth.arrivals ≡ arrivals.old →
         ((chain.new ≡ cond (S.same_contents s c.now) s.chain (S.forced c.now))
@@ -173,8 +173,7 @@ fn renew(
 }
 
 // Candidates stay where there is a chain in force and the contents leave it unchanged.
-fn keep_candidates(config: &Config, chain: &ChainInForce, arrivals: &mut Arrivals, c: &[u8])
-    requires { length c.now ≡ contents_length }
+fn keep_candidates(config: &Config, chain: &ChainInForce, arrivals: &mut Arrivals, c: &Contents)
     ensures { (s : State) → s.config ≡ config.now → s.chain ≡ chain.now → s.auth.arrivals ≡ arrivals.old →
         auth s.auth.sets arrivals.new ≡ S.candidates_at s c.now }
 {
@@ -185,8 +184,7 @@ fn keep_candidates(config: &Config, chain: &ChainInForce, arrivals: &mut Arrival
 
 // There is a chain in force, and the contents leave it unchanged.
 #[tactic(auto, unfolding(rules::specs::Verdict::chain_stays))]
-fn chain_stays(config: &Config, chain: &ChainInForce, c: &[u8]) -> bool
-    requires { length c.now ≡ contents_length }
+fn chain_stays(config: &Config, chain: &ChainInForce, c: &Contents) -> bool
     ensures { (s : State) → s.config ≡ config.now → s.chain ≡ chain.now →
         result ≡ S.chain_stays s c.now }
 {
@@ -194,8 +192,7 @@ fn chain_stays(config: &Config, chain: &ChainInForce, c: &[u8]) -> bool
 }
 
 // The contents are those in force from now on.
-fn put_in_force(chain: &mut ChainInForce, c: &[u8])
-    requires { length c.now ≡ contents_length }
+fn put_in_force(chain: &mut ChainInForce, c: &Contents)
     ensures { chain.new ≡ S.forced c.now }
 {
     chain[0] = 1;
@@ -209,9 +206,8 @@ fn hold_root(
     numbers: &mut Numbers,
     heldkey: &mut HeldKey,
     waiting: &mut Waiting,
-    c: &[u8],
+    c: &Contents,
 )
-    requires { length c.now ≡ contents_length }
     ensures { (s : State) → s.config ≡ config.now → s.chain ≡ chain.now →
         s.tesla ≡ tesla numbers.old heldkey.old waiting.old →
         tesla numbers.new heldkey.new waiting.new ≡ S.root_held s c.now }
@@ -236,9 +232,9 @@ fn keep_tags(
     chain: &ChainInForce,
     waiting: &mut Waiting,
     n: usize,
-    c: &[u8],
+    c: &Contents,
 ) -> usize
-    requires { (n ≤ 256) × (length c.now ≡ contents_length) }
+    requires { n ≤ 256 }
     ensures { (s : State) → s.config ≡ config.now → s.chain ≡ chain.now → s.tesla.waiting ≡ waiting.old →
         waiting_count s.tesla.numbers ≡ n →
         (waiting.new ≡ splice waiting.old 0 (S.staying_at s c.now))
@@ -252,8 +248,7 @@ fn keep_tags(
 }
 
 // The root key, zeros after a short one.
-fn put_root(heldkey: &mut HeldKey, c: &[u8])
-    requires { length c.now ≡ contents_length }
+fn put_root(heldkey: &mut HeldKey, c: &Contents)
     ensures { heldkey.new ≡ filled 32 (kroot_of c.now) }
 {
     let width = kroot::key_width(kroot::ks(c));

@@ -11,9 +11,10 @@ ghost use Rattle.laws.specs.Refusal.{first_refusal};
 ghost use Rattle.rules.specs.Bits.{within};
 ghost use Rattle.rules.specs.Gather.{status_of};
 ghost use Rattle.rules.specs.Refusals.{answer_number};
-ghost use Rattle.rules.specs.State.{State, contents_length};
+ghost use Rattle.rules.specs.State.{State};
 ghost use Rattle.rules.specs.Verdict as S;
 
+use kroot::Contents;
 use regions::{ChainInForce, Config, Offer};
 use rules::Refusal;
 
@@ -35,8 +36,7 @@ fn cid_in_force(config: &Config, chain: &ChainInForce, cid: u8) -> bool
 
 // Status 0; status 3 with no chain or other CID; status 1 or 2 with CIDKR not CID.
 #[tactic(auto, unfolding(rules::specs::Verdict::status_unfit))]
-fn status_unfit(config: &Config, chain: &ChainInForce, header: u8, c: &[u8]) -> bool
-    requires { contents_length ≤ length c.now }
+fn status_unfit(config: &Config, chain: &ChainInForce, header: u8, c: &Contents) -> bool
     ensures { (s : State) → s.config ≡ config.now → s.chain ≡ chain.now → result ≡ S.status_unfit s header c.now }
 {
     match gather::status_of(header) {
@@ -48,8 +48,7 @@ fn status_unfit(config: &Config, chain: &ChainInForce, header: u8, c: &[u8]) -> 
 
 // The root is earlier than the last put in force, or equal with other contents, or not later after a drop.
 #[tactic(auto, unfolding(rules::specs::Verdict::root_unfit, rules::specs::Kroot::ever_forced))]
-fn root_unfit(config: &Config, chain: &ChainInForce, c: &[u8]) -> bool
-    requires { contents_length ≤ length c.now }
+fn root_unfit(config: &Config, chain: &ChainInForce, c: &Contents) -> bool
     ensures { (s : State) → s.config ≡ config.now → s.chain ≡ chain.now → result ≡ S.root_unfit s c.now }
 {
     let last = kroot::root_seconds(kroot::chain_contents(chain));
@@ -80,18 +79,18 @@ pub fn vouch_refusal(
     if good != 1 {
         return Err(Refusal::VerdictBad);
     }
-    if status_unfit(config, chain, message[0], &message[1..45]) {
+    let c = message[1..45].as_array().unwrap();
+    if status_unfit(config, chain, message[0], c) {
         return Err(Refusal::NotInForce);
     }
-    if new_root_unfit(config, chain, message[0], &message[1..45]) {
+    if new_root_unfit(config, chain, message[0], c) {
         return Err(Refusal::NotNewer);
     }
     Ok(())
 }
 
 // A verdict that would put a root in force (status 1 or 2), whose root is unfit.
-fn new_root_unfit(config: &Config, chain: &ChainInForce, header: u8, c: &[u8]) -> bool
-    requires { contents_length ≤ length c.now }
+fn new_root_unfit(config: &Config, chain: &ChainInForce, header: u8, c: &Contents) -> bool
     ensures { (s : State) → s.config ≡ config.now → s.chain ≡ chain.now →
         result ≡ (within 1 2 (status_of header) && S.root_unfit s c.now) }
 {

@@ -20,6 +20,9 @@ ghost use Rattle.rules.specs.Verdict.{names_offer, chain_unchanged};
 use regions::{ChainInForce, Config, Offer, Pubkeys};
 use rules::{Chain, Refusal};
 
+// The contents of a message.
+pub type Contents = [u8; 44];
+
 // ---- a complete DSM-KROOT
 
 // Refused (7, 8 or 6), or it waits for a verdict, in place of one that waited.
