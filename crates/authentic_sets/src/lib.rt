@@ -7,7 +7,7 @@
 //   agree               a tag that agrees with its set: outcome 1 or 9
 //   clear_candidates    no satellite has a candidate
 //   stamp_of, copy_set  a satellite's authentic set, for a read
-ghost use Rattle.std.specs.Prelude.{◌≡◌, List, ℕ, ◌+◌, ◌-◌, ◌≤◌, ◌<◌, length, set};
+ghost use Rattle.std.specs.Prelude.{◌≡◌, List, ℕ, ◌+◌, ◌-◌, ◌≤◌, ◌<◌, set};
 ghost use Rattle.rules.specs.Calls.{auth_stamp, auth_set};
 ghost use Rattle.rules.specs.Candidates.{summed, agreed, pair_at, candidates_cleared};
 ghost use Rattle.rules.specs.Times.{stamp_of};

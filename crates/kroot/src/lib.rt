@@ -92,7 +92,7 @@ pub fn in_force(config: &Config, chain: &ChainInForce) -> bool
     chain[0] == 1 && !parameters_bad(config, chain_contents(chain))
 }
 
-// The contents that were put in force last.
+// The contents that were put in force last: a slice, as the functions below ask for 44 bytes or more.
 pub fn chain_contents(chain: &ChainInForce) -> &[u8]
     ensures { (result.now ≡ S.chain_contents chain.now) × (length result.now ≡ contents_length) }
 {
@@ -122,7 +122,7 @@ pub fn chain_with(ns: u64, c: &[u8]) -> Chain
 
 // ---- verdicts
 
-// Whether a verdict names what waits: key ID, message and signature.
+// Whether a verdict names what waits: key ID, message and signature, each of any length.
 #[tactic(auto, unfolding(rules::specs::Verdict::names_offer, rules::specs::Kroot::offer_waits, rules::specs::Kroot::offer_id, rules::specs::Kroot::offer_message, rules::specs::Kroot::offer_signature, laws::specs::Lists::part))]
 pub fn names_offer(offer: &Offer, id: u8, message: &[u8], signature: &[u8]) -> bool
     ensures { (good : ℕ) →

@@ -6,8 +6,7 @@
 //   take_field    a field: its tag, and its PRN, ADKD and IOD
 //   take_block    a block's key and spare bits
 //   take_macseq   MACSEQ
-ghost use Rattle.std.specs.Prelude.{◌≡◌, ◌+◌, ◌*◌, ◌≤◌, replicate};
-ghost use Rattle.laws.specs.Lists.{splice};
+ghost use Rattle.std.specs.Prelude.{◌≡◌, ◌+◌, ◌*◌, ◌≤◌};
 ghost use Rattle.rules.specs.Bits.{bits, bytes_at};
 ghost use Rattle.mack_reader.specs.Read.{after, taken, Left, key_taken, KeyLeft, field_taken, FieldLeft, block_taken, BlockLeft};
 

@@ -9,7 +9,7 @@
 //   is_due                whether the held key reaches a tag's slot
 //   keep_staying          the entries that stay at a new root close up, in order
 ghost use Rattle.std.specs.Prelude.{◌≡◌, cond, List, [], ℕ, ◌+◌, ◌*◌, ◌≤◌, ◌<◌, length};
-ghost use Rattle.laws.specs.Lists.{part, splice};
+ghost use Rattle.laws.specs.Lists.{splice};
 ghost use Rattle.rules.specs.Chain.{held};
 ghost use Rattle.rules.specs.Tags.{tag_entry, entry_at, entry_tag, entry_set, is_due};
 ghost use Rattle.rules.specs.Verdict.{key_not_before, staying};
