@@ -104,7 +104,7 @@ fn judge_tags(
     arrivals: &mut Arrivals,
     area: &mut Area,
 ) -> Judged
-    requires { ((Sound c × Laid c) × ((slot < 2 ^ 34) × (n ≤ 256))) × (OnWay c (held slot (take c.width key)) way × (length sent.mack.now ≡ 60)) }
+    requires { ((Sound c × Laid c) × ((slot < 2 ^ 34) × (n ≤ 256))) × OnWay c (held slot (take c.width key)) way }
     ensures { Leaves
         (fields_judged config.now (nav words.now stamps.now) c (held slot (take c.width key))
         (section_of sent.entry) sent.entry.marks (c.nmack * c.fields)

@@ -40,7 +40,7 @@ returns-in_err-p c =
 
 pub judge_tags-w-requires : goal.judge_tags-w-requires
 judge_tags-w-requires c =
-    ((fits (goal.at.judge_tags-w-requires c).After-chain_of-c, (c.prove_keys-p.ensures.1.0, c.waiting_count-n.ensures.1)), (c.prove_keys-p.ensures.1.1.0, search rules))
+    ((fits (goal.at.judge_tags-w-requires c).After-chain_of-c, (c.prove_keys-p.ensures.1.0, c.waiting_count-n.ensures.1)), c.prove_keys-p.ensures.1.1.0)
 
 pub returns : goal.returns
 returns c =

@@ -15,7 +15,7 @@ use Rattle.mack_half.proofs.judge_tags.Goals.{After-judge_due-stay}
 
 pub judge_due-stay-requires : goal.judge_due-stay-requires
 judge_due-stay-requires c =
-    ((c.requires.0.0.0, c.requires.0.1), c.requires.1.0.near_is)
+    ((c.requires.0.0.0, c.requires.0.1), c.requires.1.near_is)
 
 few : (d : After-judge_due-stay) → d.judge_due-stay.result ≤ d.args.n
 few d = d.judge_due-stay.ensures.1.few
@@ -29,11 +29,7 @@ overflow_mul-fields c = omega (arith, c.requires.0.0.1.few)
 pub judge_own-kept-requires : goal.judge_own-kept-requires
 judge_own-kept-requires c =
     let l = c.requires.0.0.1.few in
-    record {
-      config_len = search rules;
-      sets_len = search rules;
-      walks = ((c.requires.0.0.0.walks, (c.requires.0.0.1, keys_fit c.args.c c.requires.0.0.0)), ((c.requires.0.1.0, c.requires.1.0), (omega (arith, few (goal.at.judge_own-kept-requires c).After-judge_due-stay), omega (arith, few (goal.at.judge_own-kept-requires c).After-judge_due-stay, l))));
-    }
+    ((c.requires.0.0.0.walks, (c.requires.0.0.1, keys_fit c.args.c c.requires.0.0.0)), ((c.requires.0.1.0, c.requires.1), (omega (arith, few (goal.at.judge_own-kept-requires c).After-judge_due-stay), omega (arith, few (goal.at.judge_own-kept-requires c).After-judge_due-stay, l))))
 
 pub overflow_add-result : goal.overflow_add-result
 overflow_add-result c =
