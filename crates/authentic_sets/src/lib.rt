@@ -33,9 +33,9 @@ const AUTHENTIC_BITS: u64 = 40;
 #[derive(Clone, Copy, Debug, PartialEq, Eq)]
 pub enum Agreement {
     // Forty tag bits agree on it, or it was authentic before.
-    Authentic,
+    Authentic = 1,
     // Too few agree as yet.
-    Candidate,
+    Candidate = 9,
 }
 
 impl Agreement {
@@ -43,10 +43,7 @@ impl Agreement {
     pub fn number(self) -> u8
         ensures { result ≡ agreement_number self }
     {
-        match self {
-            Self::Authentic => 1,
-            Self::Candidate => 9,
-        }
+        self as u8
     }
 }
 
