@@ -35,12 +35,9 @@ pub extern "C" fn leaf_usable(words: &[u8], stamps: &[u32], prn: usize, t: u32) 
     requires { ((length words.now ≡ words_length) × (length stamps.now ≡ stamps_length)) × ((1 ≤ prn) × (prn ≤ 36)) }
     ensures { result ≡ cond (Navdata.usable (nav words.now stamps.now) prn t) 1 0 }
 {
-    bools::number(navdata::usable(
-        words.as_array().unwrap(),
-        stamps.as_array().unwrap(),
-        prn,
-        t,
-    ))
+    let words = words.as_array().unwrap();
+    let stamps = stamps.as_array().unwrap();
+    bools::number(navdata::usable(words, stamps, prn, t))
 }
 
 #[unsafe(no_mangle)]
