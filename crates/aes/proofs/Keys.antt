@@ -31,11 +31,6 @@ pub power_more : (r v i : ℕ) → r ≡ S.x_power i → v ≡ S.xtime r → v �
 unfolding S.x_power
 power_more r v i p q = rw (add-one i) (q ∙ ap S.xtime p)
 
-pub power_is : (r i n : ℕ) → i ≤ n → n ≤ i → r ≡ S.x_power i → r ≡ S.x_power n
-power_is r i n g h p =
-    let e : i ≡ n = omega arith in
-    p ∙ ap S.x_power e
-
 -- ---- SubWord
 
 pub sub_four : (x : ℕ) → S.sub_byte (x / 16777216 % 256) ∷ S.sub_byte (x / 65536 % 256) ∷ S.sub_byte (x / 256 % 256) ∷ S.sub_byte (x % 256) ∷ [] ≡ S.sub_bytes (be4 x)

@@ -1,6 +1,6 @@
 #![tactic(auto)]
 
-// A verdict of the signature chip (01, "Verdicts"), over the lent regions that it reads or writes. The caller has seen that every length is right.
+// A verdict of the signature chip (01, "Verdicts"), over the lent regions that it reads or writes.
 //   judge_verdict    the call: any bytes and numbers
 //   judge_named      the same for a verdict in range, of a core that is not stopped
 //   vouch            what a verdict that is not refused changes
@@ -13,12 +13,13 @@ ghost use Rattle.rules.specs.Bits.{filled};
 ghost use Rattle.rules.specs.Calls.{verdict_call};
 ghost use Rattle.rules.specs.Kroot.{kroot_of, no_offer};
 ghost use Rattle.rules.specs.Refusals.{answer_number};
-ghost use Rattle.rules.specs.State.{State, verdict_lent, with_auth, waiting_count, entry_length, contents_length};
-ghost use Rattle.rules.specs.State.{config_length, pubkeys_length, offer_length, chain_length, numbers_length, heldkey_length, waiting_length, arrivals_length};
+ghost use Rattle.rules.specs.State.{State, verdict_lent, with_auth, waiting_count, entry_length};
 ghost use Rattle.rules.specs.Verdict as S;
 ghost use Rattle.regions.specs.Tesla.{tesla};
 ghost use Rattle.authentic_sets.specs.Regions.{auth};
 
+use kroot::Contents;
+use regions::{Arrivals, ChainInForce, Config, HeldKey, Numbers, Offer, Pubkeys, Waiting};
 use rules::Refusal;
 
 // Public keys have the IDs up to this one.
@@ -26,24 +27,19 @@ const LAST_ID: u8 = 15;
 
 // A verdict: 1 (good) or 0, key ID, message (45 bytes) and signature (132). Out of range, or of a stopped core, it changes nothing.
 pub fn judge_verdict(
-    config: &[u8],
-    pubkeys: &mut [u8],
-    offer: &mut [u8],
-    chain: &mut [u8],
-    numbers: &mut [u64],
-    heldkey: &mut [u8],
-    waiting: &mut [u8],
-    arrivals: &mut [u32],
+    config: &Config,
+    pubkeys: &mut Pubkeys,
+    offer: &mut Offer,
+    chain: &mut ChainInForce,
+    numbers: &mut Numbers,
+    heldkey: &mut HeldKey,
+    waiting: &mut Waiting,
+    arrivals: &mut Arrivals,
     good: u8,
     id: u8,
-    message: &[u8],
-    signature: &[u8],
+    message: &[u8; 45],
+    signature: &[u8; 132],
 ) -> Result<(), Refusal>
-    requires config_len { (((length config.now ≡ config_length) × (length pubkeys.old ≡ pubkeys_length))
-        × ((length offer.old ≡ offer_length) × (length chain.old ≡ chain_length)))
-        × (((length numbers.old ≡ numbers_length) × (length heldkey.old ≡ heldkey_length))
-        × ((length waiting.old ≡ waiting_length) × ((length message.now ≡ 45) × (length signature.now ≡ 132)))) }
-    requires arrivals_len { length arrivals.old ≡ arrivals_length }
     ensures { (s : State) →
         told (answer_number result) (verdict_lent s config.now pubkeys.new offer.new chain.new
         numbers.new heldkey.new waiting.new arrivals.new)
@@ -65,24 +61,20 @@ pub fn judge_verdict(
 
 // A verdict in range: 14 leaves all as before, 15, 11 and 9 drop the waiting message; not refused, it does what the message says.
 fn judge_named(
-    config: &[u8],
-    pubkeys: &mut [u8],
-    offer: &mut [u8],
-    chain: &mut [u8],
-    numbers: &mut [u64],
-    heldkey: &mut [u8],
-    waiting: &mut [u8],
-    arrivals: &mut [u32],
+    config: &Config,
+    pubkeys: &mut Pubkeys,
+    offer: &mut Offer,
+    chain: &mut ChainInForce,
+    numbers: &mut Numbers,
+    heldkey: &mut HeldKey,
+    waiting: &mut Waiting,
+    arrivals: &mut Arrivals,
     good: u8,
     id: u8,
-    message: &[u8],
-    signature: &[u8],
+    message: &[u8; 45],
+    signature: &[u8; 132],
 ) -> Result<(), Refusal>
-    requires id_bound { (id < 16) × (length config.now ≡ config_length) }
-    requires pubkeys_len { ((length pubkeys.old ≡ pubkeys_length) × ((length offer.old ≡ offer_length) × (length chain.old ≡ chain_length)))
-        × (((length numbers.old ≡ numbers_length) × (length heldkey.old ≡ heldkey_length))
-        × ((length waiting.old ≡ waiting_length) × (length message.now ≡ 45))) }
-    requires arrivals_len { length arrivals.old ≡ arrivals_length }
+    requires { id < 16 }
     ensures { (s : State) →
         (answer_number result ≡ first_refusal (S.vouch_checks (verdict_lent s config.now pubkeys.old offer.old chain.old
         numbers.old heldkey.old waiting.old arrivals.old)
@@ -108,8 +100,7 @@ fn judge_named(
 }
 
 // No message waits.
-fn end_wait(offer: &mut [u8])
-    requires { length offer.old ≡ offer_length }
+fn end_wait(offer: &mut Offer)
     ensures { offer.new ≡ no_offer }
 {
     buffer::fill(offer, 0, regions::OFFER_LENGTH, 0);
@@ -117,20 +108,17 @@ fn end_wait(offer: &mut [u8])
 
 // Status 3 drops the chain, the waiting tags and the candidates. Any other drops keys of lower ID and puts the root in force.
 fn vouch(
-    config: &[u8],
-    pubkeys: &mut [u8],
-    chain: &mut [u8],
-    numbers: &mut [u64],
-    heldkey: &mut [u8],
-    waiting: &mut [u8],
-    arrivals: &mut [u32],
+    config: &Config,
+    pubkeys: &mut Pubkeys,
+    chain: &mut ChainInForce,
+    numbers: &mut Numbers,
+    heldkey: &mut HeldKey,
+    waiting: &mut Waiting,
+    arrivals: &mut Arrivals,
     id: u8,
-    message: &[u8],
+    message: &[u8; 45],
 )
-    requires id_bound { (id < 16) × (length config.now ≡ config_length) }
-    requires pubkeys_len { ((length pubkeys.old ≡ pubkeys_length) × ((length chain.old ≡ chain_length) × (length numbers.old ≡ numbers_length)))
-        × ((length heldkey.old ≡ heldkey_length) × ((length waiting.old ≡ waiting_length) × (length message.now ≡ 45))) }
-    requires arrivals_len { length arrivals.old ≡ arrivals_length }
+    requires { id < 16 }
     ensures { (s : State) (good : ℕ) (signature : List ℕ) → s.config ≡ config.now → s.pubkeys ≡ pubkeys.old →
         s.chain ≡ chain.old → s.tesla ≡ tesla numbers.old heldkey.old waiting.old →
         s.auth.arrivals ≡ arrivals.old →
@@ -152,7 +140,7 @@ fn vouch(
         heldkey,
         waiting,
         arrivals,
-        &message[1..45],
+        message[1..45].as_array().unwrap(),
     );
 }
 
@@ -160,17 +148,14 @@ fn vouch(
 
 // Contents that are in force stay so; others are put in force, and the held key begins again at their root. A new chain clears candidates.
 fn renew(
-    config: &[u8],
-    chain: &mut [u8],
-    numbers: &mut [u64],
-    heldkey: &mut [u8],
-    waiting: &mut [u8],
-    arrivals: &mut [u32],
-    c: &[u8],
+    config: &Config,
+    chain: &mut ChainInForce,
+    numbers: &mut Numbers,
+    heldkey: &mut HeldKey,
+    waiting: &mut Waiting,
+    arrivals: &mut Arrivals,
+    c: &Contents,
 )
-    requires config_len { ((length config.now ≡ config_length) × ((length chain.old ≡ chain_length) × (length numbers.old ≡ numbers_length)))
-        × ((length heldkey.old ≡ heldkey_length) × ((length waiting.old ≡ waiting_length) × (length c.now ≡ contents_length))) }
-    requires arrivals_len { length arrivals.old ≡ arrivals_length }
     ensures { (s : State) → s.config ≡ config.now → s.chain ≡ chain.old →
         s.tesla ≡ tesla numbers.old heldkey.old waiting.old → s.auth.arrivals ≡ arrivals.old →
         ((chain.new ≡ cond (S.same_contents s c.now) s.chain (S.forced c.now))
@@ -188,9 +173,7 @@ fn renew(
 }
 
 // Candidates stay where there is a chain in force and the contents leave it unchanged.
-fn keep_candidates(config: &[u8], chain: &[u8], arrivals: &mut [u32], c: &[u8])
-    requires { ((length config.now ≡ config_length) × (length chain.now ≡ chain_length))
-        × ((length arrivals.old ≡ arrivals_length) × (length c.now ≡ contents_length)) }
+fn keep_candidates(config: &Config, chain: &ChainInForce, arrivals: &mut Arrivals, c: &Contents)
     ensures { (s : State) → s.config ≡ config.now → s.chain ≡ chain.now → s.auth.arrivals ≡ arrivals.old →
         auth s.auth.sets arrivals.new ≡ S.candidates_at s c.now }
 {
@@ -201,8 +184,7 @@ fn keep_candidates(config: &[u8], chain: &[u8], arrivals: &mut [u32], c: &[u8])
 
 // There is a chain in force, and the contents leave it unchanged.
 #[tactic(auto, unfolding(rules::specs::Verdict::chain_stays))]
-fn chain_stays(config: &[u8], chain: &[u8], c: &[u8]) -> bool
-    requires { (length config.now ≡ config_length) × ((length chain.now ≡ chain_length) × (length c.now ≡ contents_length)) }
+fn chain_stays(config: &Config, chain: &ChainInForce, c: &Contents) -> bool
     ensures { (s : State) → s.config ≡ config.now → s.chain ≡ chain.now →
         result ≡ S.chain_stays s c.now }
 {
@@ -210,8 +192,7 @@ fn chain_stays(config: &[u8], chain: &[u8], c: &[u8]) -> bool
 }
 
 // The contents are those in force from now on.
-fn put_in_force(chain: &mut [u8], c: &[u8])
-    requires { (length chain.old ≡ chain_length) × (length c.now ≡ contents_length) }
+fn put_in_force(chain: &mut ChainInForce, c: &Contents)
     ensures { chain.new ≡ S.forced c.now }
 {
     chain[0] = 1;
@@ -220,15 +201,13 @@ fn put_in_force(chain: &mut [u8], c: &[u8])
 
 // The root is the held key, at slot 0; waiting tags stay where the rule says so.
 fn hold_root(
-    config: &[u8],
-    chain: &[u8],
-    numbers: &mut [u64],
-    heldkey: &mut [u8],
-    waiting: &mut [u8],
-    c: &[u8],
+    config: &Config,
+    chain: &ChainInForce,
+    numbers: &mut Numbers,
+    heldkey: &mut HeldKey,
+    waiting: &mut Waiting,
+    c: &Contents,
 )
-    requires { ((length config.now ≡ config_length) × ((length chain.now ≡ chain_length) × (length numbers.old ≡ numbers_length)))
-        × ((length heldkey.old ≡ heldkey_length) × ((length waiting.old ≡ waiting_length) × (length c.now ≡ contents_length))) }
     ensures { (s : State) → s.config ≡ config.now → s.chain ≡ chain.now →
         s.tesla ≡ tesla numbers.old heldkey.old waiting.old →
         tesla numbers.new heldkey.new waiting.new ≡ S.root_held s c.now }
@@ -240,8 +219,7 @@ fn hold_root(
 }
 
 // Slot 0 is held, and so many tags wait.
-fn put_numbers(numbers: &mut [u64], kept: usize)
-    requires { length numbers.old ≡ numbers_length }
+fn put_numbers(numbers: &mut Numbers, kept: usize)
     ensures { numbers.new ≡ 0 ∷ kept ∷ [] }
 {
     numbers[0] = 0;
@@ -249,9 +227,14 @@ fn put_numbers(numbers: &mut [u64], kept: usize)
 }
 
 // The tags that stay at the new contents close up, in order. Gives their number.
-fn keep_tags(config: &[u8], chain: &[u8], waiting: &mut [u8], n: usize, c: &[u8]) -> usize
-    requires { ((length config.now ≡ config_length) × ((length chain.now ≡ chain_length) × (length waiting.old ≡ waiting_length)))
-        × ((n ≤ 256) × (length c.now ≡ contents_length)) }
+fn keep_tags(
+    config: &Config,
+    chain: &ChainInForce,
+    waiting: &mut Waiting,
+    n: usize,
+    c: &Contents,
+) -> usize
+    requires { n ≤ 256 }
     ensures { (s : State) → s.config ≡ config.now → s.chain ≡ chain.now → s.tesla.waiting ≡ waiting.old →
         waiting_count s.tesla.numbers ≡ n →
         (waiting.new ≡ splice waiting.old 0 (S.staying_at s c.now))
@@ -265,8 +248,7 @@ fn keep_tags(config: &[u8], chain: &[u8], waiting: &mut [u8], n: usize, c: &[u8]
 }
 
 // The root key, zeros after a short one.
-fn put_root(heldkey: &mut [u8], c: &[u8])
-    requires { (length heldkey.old ≡ heldkey_length) × (length c.now ≡ contents_length) }
+fn put_root(heldkey: &mut HeldKey, c: &Contents)
     ensures { heldkey.new ≡ filled 32 (kroot_of c.now) }
 {
     let width = kroot::key_width(kroot::ks(c));

@@ -11,15 +11,16 @@ ghost use Rattle.laws.specs.Refusal.{first_refusal};
 ghost use Rattle.rules.specs.Bits.{within};
 ghost use Rattle.rules.specs.Gather.{status_of};
 ghost use Rattle.rules.specs.Refusals.{answer_number};
-ghost use Rattle.rules.specs.State.{State, config_length, offer_length, chain_length, contents_length};
+ghost use Rattle.rules.specs.State.{State};
 ghost use Rattle.rules.specs.Verdict as S;
 
+use kroot::Contents;
+use regions::{ChainInForce, Config, Offer};
 use rules::Refusal;
 
 // Whether the contents are those in force.
 #[tactic(auto, unfolding(rules::specs::Verdict::same_contents))]
-pub fn same_contents(config: &[u8], chain: &[u8], c: &[u8]) -> bool
-    requires { (length config.now ≡ config_length) × (length chain.now ≡ chain_length) }
+pub fn same_contents(config: &Config, chain: &ChainInForce, c: &[u8]) -> bool
     ensures { (s : State) → s.config ≡ config.now → s.chain ≡ chain.now → result ≡ S.same_contents s c.now }
 {
     kroot::in_force(config, chain) && buffer::equal(kroot::chain_contents(chain), c)
@@ -27,8 +28,7 @@ pub fn same_contents(config: &[u8], chain: &[u8], c: &[u8]) -> bool
 
 // Whether the chain in force has this CID.
 #[tactic(auto, unfolding(rules::specs::Verdict::cid_in_force))]
-fn cid_in_force(config: &[u8], chain: &[u8], cid: u8) -> bool
-    requires { (length config.now ≡ config_length) × (length chain.now ≡ chain_length) }
+fn cid_in_force(config: &Config, chain: &ChainInForce, cid: u8) -> bool
     ensures { (s : State) → s.config ≡ config.now → s.chain ≡ chain.now → result ≡ S.cid_in_force s cid }
 {
     kroot::in_force(config, chain) && kroot::cidkr(kroot::chain_contents(chain)) == cid
@@ -36,8 +36,7 @@ fn cid_in_force(config: &[u8], chain: &[u8], cid: u8) -> bool
 
 // Status 0; status 3 with no chain or other CID; status 1 or 2 with CIDKR not CID.
 #[tactic(auto, unfolding(rules::specs::Verdict::status_unfit))]
-fn status_unfit(config: &[u8], chain: &[u8], header: u8, c: &[u8]) -> bool
-    requires { (length config.now ≡ config_length) × ((length chain.now ≡ chain_length) × (contents_length ≤ length c.now)) }
+fn status_unfit(config: &Config, chain: &ChainInForce, header: u8, c: &Contents) -> bool
     ensures { (s : State) → s.config ≡ config.now → s.chain ≡ chain.now → result ≡ S.status_unfit s header c.now }
 {
     match gather::status_of(header) {
@@ -49,8 +48,7 @@ fn status_unfit(config: &[u8], chain: &[u8], header: u8, c: &[u8]) -> bool
 
 // The root is earlier than the last put in force, or equal with other contents, or not later after a drop.
 #[tactic(auto, unfolding(rules::specs::Verdict::root_unfit, rules::specs::Kroot::ever_forced))]
-fn root_unfit(config: &[u8], chain: &[u8], c: &[u8]) -> bool
-    requires { (length config.now ≡ config_length) × ((length chain.now ≡ chain_length) × (contents_length ≤ length c.now)) }
+fn root_unfit(config: &Config, chain: &ChainInForce, c: &Contents) -> bool
     ensures { (s : State) → s.config ≡ config.now → s.chain ≡ chain.now → result ≡ S.root_unfit s c.now }
 {
     let last = kroot::root_seconds(kroot::chain_contents(chain));
@@ -61,19 +59,17 @@ fn root_unfit(config: &[u8], chain: &[u8], c: &[u8]) -> bool
     chain[0] != 0 && root <= last
 }
 
-// A verdict against what waits and the chain: refused (14, 15, 11 or 9) or not.
+// A verdict against what waits and the chain: refused (14, 15, 11 or 9) or not. A signature of any length.
 #[tactic(auto, unfolding(rules::specs::Verdict::vouch_checks, rules::specs::Verdict::message_header, rules::specs::Verdict::message_contents, laws::specs::Lists::part))]
 pub fn vouch_refusal(
-    config: &[u8],
-    chain: &[u8],
-    offer: &[u8],
+    config: &Config,
+    chain: &ChainInForce,
+    offer: &Offer,
     good: u8,
     id: u8,
-    message: &[u8],
+    message: &[u8; 45],
     signature: &[u8],
 ) -> Result<(), Refusal>
-    requires { ((length config.now ≡ config_length) × (length chain.now ≡ chain_length))
-        × ((length offer.now ≡ offer_length) × (length message.now ≡ 45)) }
     ensures { (s : State) → s.config ≡ config.now → s.chain ≡ chain.now → s.offer ≡ offer.now →
         answer_number result ≡ first_refusal (S.vouch_checks s (record { good = good; id = id; message = message.now; signature = signature.now })) }
 {
@@ -83,18 +79,18 @@ pub fn vouch_refusal(
     if good != 1 {
         return Err(Refusal::VerdictBad);
     }
-    if status_unfit(config, chain, message[0], &message[1..45]) {
+    let c = message[1..45].as_array().unwrap();
+    if status_unfit(config, chain, message[0], c) {
         return Err(Refusal::NotInForce);
     }
-    if new_root_unfit(config, chain, message[0], &message[1..45]) {
+    if new_root_unfit(config, chain, message[0], c) {
         return Err(Refusal::NotNewer);
     }
     Ok(())
 }
 
 // A verdict that would put a root in force (status 1 or 2), whose root is unfit.
-fn new_root_unfit(config: &[u8], chain: &[u8], header: u8, c: &[u8]) -> bool
-    requires { (length config.now ≡ config_length) × ((length chain.now ≡ chain_length) × (contents_length ≤ length c.now)) }
+fn new_root_unfit(config: &Config, chain: &ChainInForce, header: u8, c: &Contents) -> bool
     ensures { (s : State) → s.config ≡ config.now → s.chain ≡ chain.now →
         result ≡ (within 1 2 (status_of header) && S.root_unfit s c.now) }
 {

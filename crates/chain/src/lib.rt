@@ -12,7 +12,7 @@
 //   key_slot     the slot of the key that a tag uses
 // A step hashes one block, which stays filled from step to step: only the key and the time in it change.
 // The hash is the one that HF names (02, P6). It is chosen once a walk, `walk_by`, which stands for SHA-256 and for the sponges of SHA3.
-ghost use Rattle.std.specs.Prelude.{◌≡◌, List, ℕ, cond, ◌+◌, ◌-◌, ◌%◌, ◌^◌, ◌≤◌, ◌<◌, ◌++◌, length, replicate, take};
+ghost use Rattle.std.specs.Prelude.{◌≡◌, List, ℕ, ◌+◌, ◌-◌, ◌%◌, ◌^◌, ◌≤◌, ◌<◌, ◌++◌, length, replicate, take};
 ghost use Rattle.laws.specs.Lists.{splice, same};
 ghost use Rattle.rules.specs.Chain as S;
 ghost use Rattle.rules.specs.declared.Chain.{Chain};

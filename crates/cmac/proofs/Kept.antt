@@ -46,10 +46,6 @@ length-aes k b =
     let r = rounds_range (length k) in
     length-cipher (rounds_of (length k)) (expanded k) b (omega arith)
 
-pub length-kept_of : (k : List ℕ) → length (S.kept_of k) ≡ 273
-unfolding S.kept_of
-length-kept_of k = simp length-append (omega (arith, length-expanded k, length_K1 (aes k) (length-aes k), length_K2 (aes k) (length-aes k)))
-
 -- ---- the parts of four joined lists
 module _ (w a b : List ℕ) (r : ℕ) (hw : length w ≡ 240) (ha : length a ≡ 16) (hb : length b ≡ 16) where
   round_keys : part (w ++ (a ++ (b ++ (r ∷ [])))) 0 240 ≡ w

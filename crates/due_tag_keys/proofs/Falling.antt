@@ -5,7 +5,7 @@ use mathlib.Core.Path.{◌≡◌, refl, sym, ap, ◌∙◌}
 use mathlib.Core.Bool.{Bool, true, false, cond}
 use mathlib.Core.Logic.{◌⊎◌, inl, inr, ⊎_elim}
 use mathlib.Core.List.{List}
-use Prim.Native.Nat.{ℕ, ◌+◌, ◌-◌, ◌≤◌, ◌<◌}
+use Prim.Native.Nat.{ℕ, ◌+◌, ◌≤◌, ◌<◌}
 use native.Mathlib.Omega.{arith}
 use lib.Dec.{ltb, eqb}
 use lib.ListN.{length, take, get_or, set}
@@ -21,7 +21,7 @@ use Rattle.rules.specs.declared.Chain.{Chain}
 use Rattle.rules.specs.declared.Outcome.{Outcome}
 use Rattle.rules.specs.declared.Outcome.TheVariants.{Agrees, Wrong, NoUsableSet, NotAllowed, Waits, SequenceUnfit, NoPlace, Lost}
 use Rattle.rules.specs.declared.Tag.{Tag}
-use Rattle.chain.proofs.Steps.{walk_on, walked_key, walked_length}
+use Rattle.chain.proofs.Steps.{walk_on, walked_key}
 use Rattle.due_tag_keys.specs.Outcomes.{entry_slot, TagOfSlot, due_number, match_outcome, due_outcome, Outcomes, JudgedAt, JudgedAbove}
 
 -- ---- a list that is filled place by place
@@ -104,11 +104,6 @@ key-after c h at m key out w n p q e o =
     walked_key c at m key out w n o
     ∙ ap (λ (k : List ℕ). S.key_of_slot c (S.held at k) m) e
     ∙ walk_on c h at m p q
-
-pub key_long : (c : Chain) (at m : ℕ) (key out : List ℕ) → c.width ≤ S.hash_bytes c.hf → length key ≡ 32
-    → out ≡ splice key 0 (S.key_of_slot c (S.held at (take c.width key)) m) → length out ≡ 32
-unfolding S.key_of_slot
-key_long c at m key out w n o = walked_length c (at - m) m key out w n o
 
 -- ---- tags above a slot
 

@@ -6,15 +6,15 @@
 // Public calls:
 //   outcomes       one outcome for each entry
 //   slot_to_keep   the slot whose key is worth keeping while a key is proved
-ghost use Rattle.std.specs.Prelude.{◌≡◌, cond, ◌⊎◌, ℕ, ◌+◌, ◌*◌, ◌^◌, ◌≤◌, ◌<◌, eqb, length, take};
+ghost use Rattle.std.specs.Prelude.{◌≡◌, cond, ◌⊎◌, ℕ, ◌+◌, ◌^◌, ◌≤◌, ◌<◌, eqb, take};
 ghost use Rattle.mac.specs.Kept.{kept_of};
 ghost use Rattle.rules.specs.Chain.{Held, held, key_of_slot};
 ghost use Rattle.rules.specs.Tags.{entry_at};
-ghost use Rattle.rules.specs.State.{waiting_length, entry_length};
 ghost use Rattle.rules.specs.declared.Chain.{Chain};
 ghost use Rattle.chain.specs.Sound.{Walks, Met};
 ghost use Rattle.due_tag_keys.specs.Outcomes.{entry_slot, TagOfSlot, due_number, match_outcome, Outcomes, JudgedAt};
 
+use regions::Waiting;
 use rules::{Chain, Outcome};
 
 // Steps of a way that are sooner walked again than the waiting tags are looked through.
@@ -23,8 +23,8 @@ const SHORT_WAY: u64 = 256;
 // ---- slots
 
 // The slot of the key of entry k's tag.
-fn entry_slot(c: Chain, waiting: &[u8], k: usize) -> u64
-    requires { Walks c × (k * entry_length + entry_length ≤ length waiting.now) }
+fn entry_slot(c: Chain, waiting: &Waiting, k: usize) -> u64
+    requires { Walks c × (k < 256) }
     ensures { result ≡ entry_slot c (entry_at waiting.now k) }
 {
     let t = waiting_tags::entry_tag(waiting, k);
@@ -40,8 +40,8 @@ fn higher(best: u64, slot: u64, below: u64) -> u64
 }
 
 // The highest slot of the first n entries that is below the bound, or 0.
-fn next_below(c: Chain, waiting: &[u8], n: usize, below: u64) -> u64
-    requires { (Walks c × (1 ≤ below)) × ((length waiting.now ≡ waiting_length) × (n ≤ 256)) }
+fn next_below(c: Chain, waiting: &Waiting, n: usize, below: u64) -> u64
+    requires { (Walks c × (1 ≤ below)) × (n ≤ 256) }
     ensures { (result < below)
         × (((k : ℕ) → k < n → entry_slot c (entry_at waiting.now k) < below → entry_slot c (entry_at waiting.now k) ≤ result)
         × ((result ≡ 0) ⊎ TagOfSlot c waiting.now n result)) }
@@ -55,8 +55,8 @@ fn next_below(c: Chain, waiting: &[u8], n: usize, below: u64) -> u64
 
 // The slot whose key is worth keeping on the way between a key of slot `last` and the one of slot `slot`. Where the way up is short it is `own`. Where it
 // is long it is one at or below `last`, 0 or a waiting tag's, above which no tag that falls due has its slot. Any slot serves, and changes no answer.
-pub fn slot_to_keep(c: Chain, slot: u64, last: u64, own: u64, waiting: &[u8], n: usize) -> u64
-    requires { (Walks c × ((slot < 2 ^ 34) × (last < 2 ^ 34))) × ((length waiting.now ≡ waiting_length) × (n ≤ 256)) }
+pub fn slot_to_keep(c: Chain, slot: u64, last: u64, own: u64, waiting: &Waiting, n: usize) -> u64
+    requires { (Walks c × ((slot < 2 ^ 34) × (last < 2 ^ 34))) × (n ≤ 256) }
     ensures { (last ≤ slot + 256 → result ≡ own)
         × (slot + 256 < last →
         (result ≤ last)
@@ -72,8 +72,8 @@ pub fn slot_to_keep(c: Chain, slot: u64, last: u64, own: u64, waiting: &[u8], n:
 // ---- the tags of one slot
 
 // The outcome of entry k's tag under the key of its slot.
-fn judge_entry(c: Chain, key: &[u8; 273], waiting: &[u8], k: usize) -> Outcome
-    requires { (c.ms ≤ 40) × (k * entry_length + entry_length ≤ length waiting.now) }
+fn judge_entry(c: Chain, key: &[u8; 273], waiting: &Waiting, k: usize) -> Outcome
+    requires { (c.ms ≤ 40) × (k < 256) }
     ensures { (h : Held) → key.now ≡ kept_of c.mf (key_of_slot c h (entry_slot c (entry_at waiting.now k))) →
         due_number result ≡ match_outcome c h (entry_at waiting.now k) }
 {
@@ -85,8 +85,15 @@ fn judge_entry(c: Chain, key: &[u8; 273], waiting: &[u8], k: usize) -> Outcome
 }
 
 // The outcome of entry k once the tags of slot m are judged: where its slot is another, the one it had.
-fn outcome_at(c: Chain, key: &[u8; 273], m: u64, waiting: &[u8], k: usize, old: Outcome) -> Outcome
-    requires { (Walks c × (c.ms ≤ 40)) × (k * entry_length + entry_length ≤ length waiting.now) }
+fn outcome_at(
+    c: Chain,
+    key: &[u8; 273],
+    m: u64,
+    waiting: &Waiting,
+    k: usize,
+    old: Outcome,
+) -> Outcome
+    requires { (Walks c × (c.ms ≤ 40)) × (k < 256) }
     ensures { (h : Held) → key.now ≡ kept_of c.mf (key_of_slot c h m) →
         due_number result
         ≡ cond (eqb (entry_slot c (entry_at waiting.now k)) m) (match_outcome c h (entry_at waiting.now k)) (due_number old) }
@@ -102,15 +109,13 @@ fn judge_slot(
     c: Chain,
     key: &[u8; 273],
     m: u64,
-    waiting: &[u8],
+    waiting: &Waiting,
     n: usize,
     outcomes: &mut [Outcome; 256],
 )
-    requires walks { (Walks c × (c.ms ≤ 40)) × ((length waiting.now ≡ waiting_length) × (n ≤ 256)) }
-    requires outcomes_len { length outcomes.old ≡ 256 }
-    ensures { (length outcomes.new ≡ 256)
-        × ((h : Held) → key.now ≡ kept_of c.mf (key_of_slot c h m) →
-        JudgedAt c h waiting.now n m outcomes.old outcomes.new) }
+    requires { (Walks c × (c.ms ≤ 40)) × (n ≤ 256) }
+    ensures { (h : Held) → key.now ≡ kept_of c.mf (key_of_slot c h m) →
+        JudgedAt c h waiting.now n m outcomes.old outcomes.new }
 {
     for k in 0..n {
         outcomes[k] = outcome_at(c, key, m, waiting, k, outcomes[k]);
@@ -120,8 +125,8 @@ fn judge_slot(
 // ---- the way down
 
 // What is kept of a key, the first `width` bytes.
-fn keep_key(mf: u8, key: &[u8], width: usize, kept: &mut [u8; 273])
-    requires { (length key.now ≡ 32) × (width ≤ 32) }
+fn keep_key(mf: u8, key: &[u8; 32], width: usize, kept: &mut [u8; 273])
+    requires { width ≤ 32 }
     ensures { kept.new ≡ kept_of mf (take width key.now) }
 {
     mac::keep(mf, &key[0..width], kept);
@@ -133,16 +138,14 @@ fn judge_down(
     at: u64,
     m: u64,
     key: &mut [u8; 32],
-    waiting: &[u8],
+    waiting: &Waiting,
     n: usize,
     outcomes: &mut [Outcome; 256],
 )
-    requires walks { (Walks c × (c.ms ≤ 40)) × (((length waiting.now ≡ waiting_length) × (n ≤ 256)) × ((m ≤ at) × (at ≤ 2 ^ 34))) }
-    requires key_len { (length key.old ≡ 32) × (length outcomes.old ≡ 256) }
-    ensures { ((length key.new ≡ 32) × (length outcomes.new ≡ 256))
-        × ((h : Held) → at ≤ h.slot → take c.width key.old ≡ key_of_slot c h at →
+    requires { (Walks c × (c.ms ≤ 40)) × ((n ≤ 256) × ((m ≤ at) × (at ≤ 2 ^ 34))) }
+    ensures { (h : Held) → at ≤ h.slot → take c.width key.old ≡ key_of_slot c h at →
         (take c.width key.new ≡ key_of_slot c h m)
-        × JudgedAt c h waiting.now n m outcomes.old outcomes.new) }
+        × JudgedAt c h waiting.now n m outcomes.old outcomes.new }
 {
     chain::key_of_slot(c, at, m, key);
     let mut kept = [0u8; 273];
@@ -158,10 +161,10 @@ pub fn outcomes(
     known: [u8; 32],
     near: u64,
     met: [u8; 32],
-    waiting: &[u8],
+    waiting: &Waiting,
     n: usize,
 ) -> [Outcome; 256]
-    requires walks { (Walks c × (c.ms ≤ 40)) × (((length waiting.now ≡ waiting_length) × (n ≤ 256)) × (slot < 2 ^ 34)) }
+    requires walks { (Walks c × (c.ms ≤ 40)) × ((n ≤ 256) × (slot < 2 ^ 34)) }
     requires met { Met c (held slot (take c.width known)) near met }
     ensures { Outcomes c (held slot (take c.width known)) waiting.now n result }
 {

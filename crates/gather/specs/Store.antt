@@ -1,17 +1,10 @@
 -- The lent store and the answer of `gather`, read as 01's number, the store and the complete DSM.
-use Rattle.std.specs.Prelude.{◌≡◌, List, [], ℕ, ◌*◌, ◌≤◌, length}
+use Rattle.std.specs.Prelude.{List, [], ℕ, ◌*◌, ◌≤◌}
 use Rattle.laws.specs.Lists.{part}
-use Rattle.rules.specs.State.{Store, blocks_length, dsm_ids}
+use Rattle.rules.specs.State.{Store}
 use Rattle.rules.specs.Gather as Rule
 use Rattle.gather.specs.declared.Gathered.{Gathered}
 use Rattle.gather.specs.declared.Gathered.TheVariants.{Stored, Complete, Refused}
-
--- the four regions have their lengths
-pub record Lent (blocks headers present since : List ℕ) : Type 0 where
-  pub blocks_long : length blocks ≡ blocks_length
-  pub headers_long : length headers ≡ dsm_ids
-  pub marks_long : length present ≡ dsm_ids
-  pub times_long : length since ≡ dsm_ids
 
 -- the four regions as the store of the rules
 abbrev pub store : List ℕ → List ℕ → List ℕ → List ℕ → Store

@@ -2,16 +2,18 @@
 
 // DSM blocks, gathered per DSM ID from all satellites (01, "HKROOT"), and the split of a sub-frame's 75 bytes that brings them.
 // The store is lent as four regions: 16 blocks of 13 bytes for each of 16 IDs, and for each ID the NMA header, the marks of the blocks
-// present and the time of the first. Each function gives what the definition of the same name in rules/specs/Gather.antt gives.
+// present and the time of the first; they stay four arrays, as C lends them. Each function gives what the definition of the same name in rules/specs/Gather.antt gives.
 ghost use Rattle.std.specs.Prelude.{◌≡◌, cond, not, ◌&&◌, List, ℕ, ◌+◌, ◌-◌, ◌*◌, ◌/◌, ◌^◌, ◌≤◌, ◌<◌, leb, ltb, eqb, length};
 ghost use Rattle.laws.specs.Lists.{part, same};
 ghost use Rattle.laws.specs.Refusal.{neb};
 ghost use Rattle.rules.specs.Times.{seconds_of};
 ghost use Rattle.rules.specs.Gather as Rule;
-ghost use Rattle.rules.specs.State.{blocks_length, dsm_ids};
-ghost use Rattle.gather.specs.Store.{Lent, store, told, Sized};
+ghost use Rattle.rules.specs.State.{blocks_length};
+ghost use Rattle.gather.specs.Store.{store, told, Sized};
 
-// What the coming of a block gives.
+use regions::{Blocks, Headers, Present, Since};
+
+// What the coming of a block gives. A refused block is one of three cases here, as `told` and `Sized` of specs/Store.antt read them.
 #[derive(Clone, Copy, Debug, PartialEq, Eq)]
 pub enum Gathered {
     // The block is stored; its DSM is not complete.
@@ -25,8 +27,7 @@ pub enum Gathered {
 // ---- a sub-frame's 75 bytes
 
 // The HKROOT section: the first byte of each of 15 fields.
-pub fn hkroot_of(f: &[u8]) -> [u8; 15]
-    requires { length f.now ≡ 75 }
+pub fn hkroot_of(f: &[u8; 75]) -> [u8; 15]
     ensures { result ≡ Rule.hkroot_of f.now 15 }
 {
     let mut hk = [0u8; 15];
@@ -37,8 +38,7 @@ pub fn hkroot_of(f: &[u8]) -> [u8; 15]
 }
 
 // The MACK section: the other four bytes of each field.
-pub fn mack_of(f: &[u8]) -> [u8; 60]
-    requires { length f.now ≡ 75 }
+pub fn mack_of(f: &[u8; 75]) -> [u8; 60]
     ensures { result ≡ Rule.mack_of f.now 15 }
 {
     let mut mack = [0u8; 60];
@@ -102,6 +102,7 @@ fn blocks_for(nb: u8) -> usize
 }
 
 // The blocks that the block 0 at a place names.
+#[tactic(auto, using(laws::proofs::Splice::get_d_part), unfolding(rules::specs::Gather::total_of))]
 pub fn total_of(s: &[u8], at: usize) -> usize
     requires { at + 13 ≤ length s.now }
     ensures { result ≡ Rule.total_of (part s.now at 13) }
@@ -110,7 +111,7 @@ pub fn total_of(s: &[u8], at: usize) -> usize
 }
 
 // Whether this is a block 0 with a reserved NB.
-#[tactic(auto, unfolding(rules::specs::Gather::reserved_count))]
+#[tactic(auto, unfolding(rules::specs::Gather::reserved_count, rules::specs::Gather::block_of))]
 fn reserved_count(hk: &[u8; 15]) -> bool
     ensures { result ≡ Rule.reserved_count hk.now }
 {
@@ -142,6 +143,7 @@ fn with_mark(present: u16, k: usize) -> u16
 // ---- the four reasons to drop an ID's blocks
 
 // The oldest block is over 3,600 s old.
+#[tactic(auto, using(crate::proofs::Counts::age, times::proofs::Times::seconds_bound))]
 fn too_old(first: u32, t: u32) -> bool
     ensures { result ≡ ltb 3600 (seconds_of t - seconds_of first) }
 {
@@ -149,22 +151,24 @@ fn too_old(first: u32, t: u32) -> bool
 }
 
 // Whether the block at a place has the bytes of the coming one.
-fn same_block(blocks: &[u8], at: usize, hk: &[u8]) -> bool
-    requires { (at + 13 ≤ length blocks.now) × (length hk.now ≡ 15) }
+fn same_block(blocks: &Blocks, at: usize, hk: &[u8; 15]) -> bool
+    requires { at + 13 ≤ blocks_length }
     ensures { result ≡ same (part blocks.now at 13) (Rule.block_of hk.now) }
 {
     buffer::equal(&blocks[at..at + 13], &hk[2..15])
 }
 
 // The same block ID held other bytes.
-fn other_bytes(blocks: &[u8], present: u16, id: usize, k: usize, hk: &[u8; 15]) -> bool
-    requires { (length blocks.now ≡ blocks_length) × ((id < 16) × (k < 16)) }
+#[tactic(auto, unfolding(rules::specs::Gather::stored_block))]
+fn other_bytes(blocks: &Blocks, present: u16, id: usize, k: usize, hk: &[u8; 15]) -> bool
+    requires { (id < 16) × (k < 16) }
     ensures { result ≡ Rule.marked present k && not (same (Rule.stored_block blocks.now id k) (Rule.block_of hk.now)) }
 {
     marked(present, k) && !same_block(blocks, id * 208 + k * 13, hk)
 }
 
 // It is a block 0 whose count is not above every stored block ID.
+#[tactic(auto, using(rules::proofs::Bounds::total_bound), unfolding(rules::specs::Gather::block_of))]
 fn count_too_low(present: u16, k: usize, hk: &[u8; 15]) -> bool
     ensures { result ≡ eqb k 0 && neb (present / 2 ^ Rule.total_of (Rule.block_of hk.now)) 0 }
 {
@@ -173,15 +177,15 @@ fn count_too_low(present: u16, k: usize, hk: &[u8; 15]) -> bool
 
 #[tactic(auto, unfolding(rules::specs::Gather::drops_blocks))]
 fn drops_blocks(
-    blocks: &[u8],
-    headers: &[u8],
-    present: &[u16],
-    since: &[u32],
+    blocks: &Blocks,
+    headers: &Headers,
+    present: &Present,
+    since: &Since,
     t: u32,
     id: usize,
     hk: &[u8; 15],
 ) -> bool
-    requires { Lent blocks.now headers.now present.now since.now × (id < 16) }
+    requires { id < 16 }
     ensures { result ≡ Rule.drops_blocks (store blocks.now headers.now present.now since.now) t id
         hk.now }
 {
@@ -196,15 +200,15 @@ fn drops_blocks(
 // The marks that are left of an ID's blocks when this one comes.
 #[tactic(auto, unfolding(rules::specs::Gather::kept_marks))]
 fn kept_marks(
-    blocks: &[u8],
-    headers: &[u8],
-    present: &[u16],
-    since: &[u32],
+    blocks: &Blocks,
+    headers: &Headers,
+    present: &Present,
+    since: &Since,
     t: u32,
     id: usize,
     hk: &[u8; 15],
 ) -> u16
-    requires { Lent blocks.now headers.now present.now since.now × (id < 16) }
+    requires { id < 16 }
     ensures { result ≡ Rule.kept_marks (store blocks.now headers.now present.now since.now) t id
         hk.now }
 {
@@ -216,8 +220,9 @@ fn kept_marks(
 }
 
 // Whether a block ID is not below the count of the block 0 held, of the blocks that are left.
-fn too_high(blocks: &[u8], kept: u16, id: usize, k: usize) -> bool
-    requires { (length blocks.now ≡ blocks_length) × (id < 16) }
+#[tactic(auto, using(crate::proofs::Stores::first_block))]
+fn too_high(blocks: &Blocks, kept: u16, id: usize, k: usize) -> bool
+    requires { id < 16 }
     ensures { result ≡ Rule.marked kept 0 && leb (Rule.total_of (Rule.stored_block blocks.now id 0)) k }
 {
     marked(kept, 0) && total_of(blocks, id * 208) <= k
@@ -232,17 +237,18 @@ fn first_time(kept: u16, t: u32, held: u32) -> u32
     if kept == 0 { t } else { held }
 }
 
+#[tactic(auto, unfolding(rules::specs::Gather::with_block, rules::specs::Gather::block_of))]
 fn put_block(
-    blocks: &mut [u8],
-    headers: &mut [u8],
-    present: &mut [u16],
-    since: &mut [u32],
+    blocks: &mut Blocks,
+    headers: &mut Headers,
+    present: &mut Present,
+    since: &mut Since,
     t: u32,
     id: usize,
     kept: u16,
     hk: &[u8; 15],
 )
-    requires { (Lent blocks.old headers.old present.old since.old × (id < 16))
+    requires { (id < 16)
         × (kept ≡ Rule.kept_marks (store blocks.old headers.old present.old since.old) t id hk.now) }
     ensures { store blocks.new headers.new present.new since.new
         ≡ Rule.with_block (store blocks.old headers.old present.old since.old) t id hk.now }
@@ -258,8 +264,8 @@ fn put_block(
 }
 
 // A complete DSM is taken out: as many blocks are marked as its block 0 names.
-fn take_out(blocks: &[u8], present: &mut [u16], id: usize) -> Gathered
-    requires { ((length blocks.now ≡ blocks_length) × (length present.old ≡ dsm_ids)) × (id < 16) }
+fn take_out(blocks: &Blocks, present: &mut Present, id: usize) -> Gathered
+    requires { id < 16 }
     ensures { ((headers since : List ℕ) →
         told result (store blocks.now headers present.new since) id
         ≡ Rule.stored (store blocks.now headers present.old since) id)
@@ -279,16 +285,16 @@ fn take_out(blocks: &[u8], present: &mut [u16], id: usize) -> Gathered
 
 // A block that is not refused: in its place, and its DSM taken out if that makes it complete.
 fn store_block(
-    blocks: &mut [u8],
-    headers: &mut [u8],
-    present: &mut [u16],
-    since: &mut [u32],
+    blocks: &mut Blocks,
+    headers: &mut Headers,
+    present: &mut Present,
+    since: &mut Since,
     t: u32,
     id: usize,
     kept: u16,
     hk: &[u8; 15],
 ) -> Gathered
-    requires { (Lent blocks.old headers.old present.old since.old × (id < 16))
+    requires { (id < 16)
         × (kept ≡ Rule.kept_marks (store blocks.old headers.old present.old since.old) t id hk.now) }
     ensures { (told result (store blocks.new headers.new present.new since.new) id
         ≡ Rule.stored
@@ -300,15 +306,15 @@ fn store_block(
 }
 
 // A block comes at time t.
+#[tactic(auto, using(crate::proofs::Stores::refused_count, crate::proofs::Stores::refused_high, crate::proofs::Stores::high_is, crate::proofs::Stores::stored_is))]
 pub fn gather(
-    blocks: &mut [u8],
-    headers: &mut [u8],
-    present: &mut [u16],
-    since: &mut [u32],
+    blocks: &mut Blocks,
+    headers: &mut Headers,
+    present: &mut Present,
+    since: &mut Since,
     t: u32,
     hk: &[u8; 15],
 ) -> Gathered
-    requires { Lent blocks.old headers.old present.old since.old }
     ensures { (told result (store blocks.new headers.new present.new since.new)
         (Rule.dsm_id_of hk.now)
         ≡ Rule.gathered (store blocks.old headers.old present.old since.old) t hk.now)

@@ -3,7 +3,7 @@
 // The published examples of SHA-256 (FIPS 180-4's example values and NIST's additional ones), of HMAC (RFC 4231), and of SHA3-224 and
 // SHA3-256 (NIST's example values for FIPS 202). Each line names the example and gives the code; the expected output is the documents', and
 // for SHA-3's lengths about a block's end that of another implementation.
-ghost use Rattle.std.specs.Prelude.{◌<◌, ◌≤◌, ◌^◌, length};
+ghost use Rattle.std.specs.Prelude.{◌<◌, ◌^◌, length};
 
 use std::io;
 

@@ -7,16 +7,17 @@
 //   renewed           a complete DSM-PKR; a proved emergency message stops the core
 ghost use Rattle.std.specs.Prelude.{◌≡◌, cond, ◌*◌, ◌+◌, ◌≤◌, ◌<◌, leb, length, set};
 ghost use Rattle.laws.specs.Lists.{part};
-ghost use Rattle.gather.specs.Store.{Lent, store};
+ghost use Rattle.gather.specs.Store.{store};
 ghost use Rattle.rules.specs.Calls.{hkroot_half, hkroot_received, kroot_done, pkr_done};
 ghost use Rattle.rules.specs.Gather.{dsm_id_of, header_of};
 ghost use Rattle.rules.specs.Pkr.{pkr_judged};
 ghost use Rattle.rules.specs.Refusals.{answer_number};
-ghost use Rattle.rules.specs.State.{State, Store, tree_root, config_length, blocks_length, pubkeys_length, offer_length, stopped_at};
+ghost use Rattle.rules.specs.State.{State, Store, tree_root, stopped_at};
 ghost use Rattle.hkroot_half.specs.Done.{done, gathering, stops};
 
 use gather::Gathered;
 use pkr::Renewal;
+use regions::{Blocks, Config, Headers, Offer, Present, Pubkeys, Since};
 use rules::Refusal;
 
 // What a half does that is not refused.
@@ -30,19 +31,17 @@ pub enum Half {
 
 // An HKROOT section of 15 bytes, one of each field, comes at time t: 17 where a field is missing, and nothing changes; else its block is taken.
 pub fn hkroot_received(
-    config: &mut [u8],
-    blocks: &mut [u8],
-    headers: &mut [u8],
-    present: &mut [u16],
-    since: &mut [u32],
-    pubkeys: &mut [u8],
-    offer: &mut [u8],
+    config: &mut Config,
+    blocks: &mut Blocks,
+    headers: &mut Headers,
+    present: &mut Present,
+    since: &mut Since,
+    pubkeys: &mut Pubkeys,
+    offer: &mut Offer,
     t: u32,
     marks: u16,
     hk: &[u8; 15],
 ) -> Result<Half, Refusal>
-    requires { Lent blocks.old headers.old present.old since.old
-        × ((length config.old ≡ config_length) × ((length pubkeys.old ≡ pubkeys_length) × (length offer.old ≡ offer_length))) }
     ensures { (s : State) → s.config ≡ config.old →
         s.store ≡ store blocks.old headers.old present.old since.old →
         s.pubkeys ≡ pubkeys.old → s.offer ≡ offer.old →
@@ -61,18 +60,16 @@ pub fn hkroot_received(
 
 // The block of an HKROOT section of 15 bytes comes at time t.
 fn hkroot_half(
-    config: &mut [u8],
-    blocks: &mut [u8],
-    headers: &mut [u8],
-    present: &mut [u16],
-    since: &mut [u32],
-    pubkeys: &mut [u8],
-    offer: &mut [u8],
+    config: &mut Config,
+    blocks: &mut Blocks,
+    headers: &mut Headers,
+    present: &mut Present,
+    since: &mut Since,
+    pubkeys: &mut Pubkeys,
+    offer: &mut Offer,
     t: u32,
     hk: &[u8; 15],
 ) -> Result<Half, Refusal>
-    requires { Lent blocks.old headers.old present.old since.old
-        × ((length config.old ≡ config_length) × ((length pubkeys.old ≡ pubkeys_length) × (length offer.old ≡ offer_length))) }
     ensures { (s : State) → s.config ≡ config.old →
         s.store ≡ store blocks.old headers.old present.old since.old →
         s.pubkeys ≡ pubkeys.old → s.offer ≡ offer.old →
@@ -90,15 +87,14 @@ fn hkroot_half(
 
 // A complete DSM of n bytes, which stands in the lent blocks from place DSM ID × 208.
 fn complete(
-    config: &mut [u8],
-    blocks: &[u8],
-    pubkeys: &mut [u8],
-    offer: &mut [u8],
+    config: &mut Config,
+    blocks: &Blocks,
+    pubkeys: &mut Pubkeys,
+    offer: &mut Offer,
     hk: &[u8; 15],
     n: usize,
 ) -> Result<Half, Refusal>
-    requires { ((length config.old ≡ config_length) × (length blocks.now ≡ blocks_length))
-        × (((length pubkeys.old ≡ pubkeys_length) × (length offer.old ≡ offer_length)) × ((91 ≤ n) × (n ≤ 208))) }
+    requires { (91 ≤ n) × (n ≤ 208) }
     ensures { ((s : State) (left : Store) → s.config ≡ config.old → s.pubkeys ≡ pubkeys.old → s.offer ≡ offer.old →
         done result (gathering s config.new left pubkeys.new offer.new)
         ≡ cond (leb (dsm_id_of hk.now) 11)
@@ -122,8 +118,8 @@ fn complete(
 }
 
 // A complete DSM-PKR. Proved with type 4 (an emergency message), it stops the core.
-fn renewed(config: &mut [u8], pubkeys: &mut [u8], d: &[u8]) -> Result<Half, Refusal>
-    requires { ((length config.old ≡ config_length) × (length pubkeys.old ≡ pubkeys_length)) × ((91 ≤ length d.now) × (length d.now ≤ 208)) }
+fn renewed(config: &mut Config, pubkeys: &mut Pubkeys, d: &[u8]) -> Result<Half, Refusal>
+    requires { (91 ≤ length d.now) × (length d.now ≤ 208) }
     ensures { ((answer_number result ≡ (pkr_judged pubkeys.old (tree_root config.old) d.now).code)
         × (stops result ≡ (pkr_judged pubkeys.old (tree_root config.old) d.now).stops))
         × ((pubkeys.new ≡ (pkr_judged pubkeys.old (tree_root config.old) d.now).pubkeys)

@@ -14,23 +14,26 @@ ghost use Rattle.rules.specs.Bits.{filled};
 ghost use Rattle.rules.specs.Chain.{hash_bytes};
 ghost use Rattle.rules.specs.Kroot as S;
 ghost use Rattle.rules.specs.Refusals.{answer_number};
-ghost use Rattle.rules.specs.State.{config_length, pubkeys_length, offer_length, chain_length, contents_length};
+ghost use Rattle.rules.specs.State.{contents_length};
 ghost use Rattle.rules.specs.Verdict.{names_offer, chain_unchanged};
 
+use regions::{ChainInForce, Config, Offer, Pubkeys};
 use rules::{Chain, Refusal};
+
+// The contents of a message.
+pub type Contents = [u8; 44];
 
 // ---- a complete DSM-KROOT
 
 // Refused (7, 8 or 6), or it waits for a verdict, in place of one that waited.
 pub fn kroot_judge(
-    pubkeys: &[u8],
-    config: &[u8],
-    offer: &mut [u8],
+    pubkeys: &Pubkeys,
+    config: &Config,
+    offer: &mut Offer,
     header: u8,
     d: &[u8],
 ) -> Result<(), Refusal>
-    requires { ((length pubkeys.now ≡ pubkeys_length) × (length config.now ≡ config_length))
-        × ((length offer.old ≡ offer_length) × (91 ≤ length d.now)) }
+    requires { 91 ≤ length d.now }
     ensures { (answer_number result ≡ (S.kroot_judged pubkeys.now config.now offer.old header d.now).code)
         × (offer.new ≡ (S.kroot_judged pubkeys.now config.now offer.old header d.now).offer) }
 {
@@ -51,8 +54,8 @@ pub fn kroot_judge(
 }
 
 // The message that waits: 1, key ID, message in 45 bytes, signature in 132.
-fn store_offer(offer: &mut [u8], id: u8, header: u8, d: &[u8], width: usize, signed: usize)
-    requires { ((length offer.old ≡ offer_length) × (width ≤ 32)) × ((signed ≤ 132) × (13 + width + signed ≤ length d.now)) }
+fn store_offer(offer: &mut Offer, id: u8, header: u8, d: &[u8], width: usize, signed: usize)
+    requires { (width ≤ 32) × ((signed ≤ 132) × (13 + width + signed ≤ length d.now)) }
     ensures { offer.new ≡ S.offered id (filled 45 (header ∷ part d.now 1 (12 + width)))
         (filled 132 (part d.now (13 + width) signed)) }
 {
@@ -86,16 +89,14 @@ pub fn least_blocks(n: usize) -> usize
 
 // Whether a chain is in force.
 #[tactic(auto, unfolding(rules::specs::Kroot::in_force))]
-pub fn in_force(config: &[u8], chain: &[u8]) -> bool
-    requires { (length config.now ≡ config_length) × (length chain.now ≡ chain_length) }
+pub fn in_force(config: &Config, chain: &ChainInForce) -> bool
     ensures { result ≡ S.in_force config.now chain.now }
 {
     chain[0] == 1 && !parameters_bad(config, chain_contents(chain))
 }
 
-// The contents that were put in force last.
-pub fn chain_contents(chain: &[u8]) -> &[u8]
-    requires { length chain.now ≡ chain_length }
+// The contents that were put in force last: a slice, as the functions below ask for 44 bytes or more.
+pub fn chain_contents(chain: &ChainInForce) -> &[u8]
     ensures { (result.now ≡ S.chain_contents chain.now) × (length result.now ≡ contents_length) }
 {
     &chain[1..45]
@@ -124,10 +125,9 @@ pub fn chain_with(ns: u64, c: &[u8]) -> Chain
 
 // ---- verdicts
 
-// Whether a verdict names what waits: key ID, message and signature.
+// Whether a verdict names what waits: key ID, message and signature, each of any length.
 #[tactic(auto, unfolding(rules::specs::Verdict::names_offer, rules::specs::Kroot::offer_waits, rules::specs::Kroot::offer_id, rules::specs::Kroot::offer_message, rules::specs::Kroot::offer_signature, laws::specs::Lists::part))]
-pub fn names_offer(offer: &[u8], id: u8, message: &[u8], signature: &[u8]) -> bool
-    requires { length offer.now ≡ offer_length }
+pub fn names_offer(offer: &Offer, id: u8, message: &[u8], signature: &[u8]) -> bool
     ensures { (good : ℕ) →
         result ≡ names_offer offer.now (record { good = good; id = id; message = message.now; signature = signature.now }) }
 {
@@ -158,8 +158,8 @@ pub fn chain_unchanged(a: &[u8], b: &[u8]) -> bool
 
 // Whether contents have a parameter that is refused.
 #[tactic(auto, unfolding(rules::specs::Kroot::parameters_bad))]
-fn parameters_bad(config: &[u8], c: &[u8]) -> bool
-    requires { (length config.now ≡ config_length) × (contents_length ≤ length c.now) }
+fn parameters_bad(config: &Config, c: &[u8]) -> bool
+    requires { contents_length ≤ length c.now }
     ensures { result ≡ S.parameters_bad config.now c.now }
 {
     hf_bad(c)

@@ -7,7 +7,7 @@
 //   section_start, next_key  the cursor at the first block; a block's key and spare bits
 //   macseq_of                MACSEQ
 //   field_place, key_place   the bits at which a field and a block's key begin
-ghost use Rattle.std.specs.Prelude.{◌≡◌, ◌+◌, ◌*◌, ◌≤◌, ◌<◌, length};
+ghost use Rattle.std.specs.Prelude.{◌≡◌, ◌+◌, ◌*◌, ◌≤◌, ◌<◌};
 ghost use Rattle.rules.specs.Mack as S;
 ghost use Rattle.mack.specs.Layout.{FieldsFit, KeysFit, rest_bits};
 ghost use Rattle.mack.specs.Read.{field_taken, field_read, block_read};
@@ -39,8 +39,8 @@ pub struct Block {
 // ---- fields
 
 // Field j, at which the cursor stands. After a block's last field the key and the spare bits are passed.
-pub fn next_field(c: Chain, m: &[u8], k: Cursor, j: usize) -> Field
-    requires { FieldsFit c × ((k.used ≡ S.field_at c j) × ((j < c.nmack * c.fields) × (length m.now ≡ 60))) }
+pub fn next_field(c: Chain, m: &[u8; 60], k: Cursor, j: usize) -> Field
+    requires { FieldsFit c × ((k.used ≡ S.field_at c j) × (j < c.nmack * c.fields)) }
     ensures { result ≡ field_read c m.now j }
 {
     let fields = c.fields as usize;
@@ -57,8 +57,8 @@ pub fn next_field(c: Chain, m: &[u8], k: Cursor, j: usize) -> Field
 }
 
 // Field j, by a cursor at its place.
-pub fn read_field(c: Chain, m: &[u8], j: usize) -> Field
-    requires { FieldsFit c × ((j < c.nmack * c.fields) × (length m.now ≡ 60)) }
+pub fn read_field(c: Chain, m: &[u8; 60], j: usize) -> Field
+    requires { FieldsFit c × (j < c.nmack * c.fields) }
     ensures { result ≡ field_read c m.now j }
 {
     next_field(
@@ -72,8 +72,8 @@ pub fn read_field(c: Chain, m: &[u8], j: usize) -> Field
 }
 
 // The field after the bits used, by the reader.
-fn take_field(c: Chain, m: &[u8], k: Cursor) -> Field
-    requires { (k.used + (c.ms + 16) ≤ 480) × ((c.ms ≤ 40) × (length m.now ≡ 60)) }
+fn take_field(c: Chain, m: &[u8; 60], k: Cursor) -> Field
+    requires { (k.used + (c.ms + 16) ≤ 480) × (c.ms ≤ 40) }
     ensures { result ≡ field_taken c m.now k }
 {
     let f = mack_reader::take_field(m, k.used, c.ms as usize);
@@ -86,8 +86,8 @@ fn take_field(c: Chain, m: &[u8], k: Cursor) -> Field
 
 // MACSEQ, after tag0.
 #[tactic(auto, unfolding(rules::specs::Mack::macseq_of))]
-pub fn macseq_of(c: Chain, m: &[u8]) -> u64
-    requires { (c.ms ≤ 40) × (length m.now ≡ 60) }
+pub fn macseq_of(c: Chain, m: &[u8; 60]) -> u64
+    requires { c.ms ≤ 40 }
     ensures { result ≡ S.macseq_of c m.now }
 {
     mack_reader::take_macseq(m, c.ms as usize)
@@ -103,8 +103,8 @@ pub fn section_start() -> Cursor
 }
 
 // The key and the spare bits of block b, at whose start the cursor stands.
-pub fn next_key(c: Chain, m: &[u8], k: Cursor, b: u64) -> Block
-    requires { KeysFit c × ((k.used ≡ S.block_at c b) × (((1 ≤ b) × (b ≤ c.nmack)) × (length m.now ≡ 60))) }
+pub fn next_key(c: Chain, m: &[u8; 60], k: Cursor, b: u64) -> Block
+    requires { KeysFit c × ((k.used ≡ S.block_at c b) × ((1 ≤ b) × (b ≤ c.nmack))) }
     ensures { result ≡ block_read c m.now b }
 {
     let fields = (c.fields * (c.ms + 16)) as usize;

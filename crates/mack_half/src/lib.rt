@@ -11,25 +11,29 @@ ghost use Rattle.rules.specs.Chain.{held};
 ghost use Rattle.rules.specs.Kroot.{in_force};
 ghost use Rattle.rules.specs.Refusals.{answer_number};
 ghost use Rattle.rules.specs.Received.{field_came, keys_received, fields_judged};
-ghost use Rattle.rules.specs.State.{State, config_length, chain_length, numbers_length, heldkey_length, waiting_length, area_length, sets_length, stamps_length, words_length, arrivals_length};
+ghost use Rattle.rules.specs.State.{State};
 ghost use Rattle.rules.specs.Tags.{dues_judged};
 ghost use Rattle.authentic_sets.specs.Regions.{auth};
 ghost use Rattle.chain.specs.Sound.{Sound, OnWay};
 ghost use Rattle.navdata.specs.Pieces.{nav};
 ghost use Rattle.tag_records.specs.Told.{start, Leaves};
-ghost use Rattle.tags.specs.Layout.{Laid, section};
+ghost use Rattle.tags.specs.Layout.{Laid, section_of};
 ghost use Rattle.mack_keys.specs.Keys.{Hands};
 ghost use Rattle.mack_half.specs.Half.{tesla, judging, records_written, Gives, WalkedOnce};
 
 use chain::Way;
 use mack_keys::Keys;
+use regions::{
+    Area, Arrivals, ChainInForce, Config, HeldKey, Numbers, Sets, Stamps, Waiting, Words,
+};
 use rules::{Chain, Refusal};
+use tags::Section;
 
 // ---- the held key
 
 // The held key in its first bytes, zeros after it.
-fn held_key(heldkey: &[u8], width: usize) -> [u8; 32]
-    requires { (length heldkey.now ≡ heldkey_length) × (width ≤ 32) }
+fn held_key(heldkey: &HeldKey, width: usize) -> [u8; 32]
+    requires { width ≤ 32 }
     ensures { result ≡ filled 32 (take width heldkey.now) }
 {
     let mut key = [0u8; 32];
@@ -38,8 +42,7 @@ fn held_key(heldkey: &[u8], width: usize) -> [u8; 32]
 }
 
 // The held key, its slot and the count of waiting tags are these.
-fn hold(numbers: &mut [u64], heldkey: &mut [u8], slot: u64, kept: usize, key: [u8; 32])
-    requires { (length numbers.old ≡ numbers_length) × (length heldkey.old ≡ heldkey_length) }
+fn hold(numbers: &mut Numbers, heldkey: &mut HeldKey, slot: u64, kept: usize, key: [u8; 32])
     ensures { (numbers.new ≡ slot ∷ kept ∷ []) × (heldkey.new ≡ key) }
 {
     numbers[0] = slot;
@@ -55,15 +58,14 @@ fn prove_keys(
     c: Chain,
     time: u32,
     prn: u8,
-    mack: &[u8],
+    mack: &[u8; 60],
     marks: u16,
     slot: u64,
-    waiting: &[u8],
+    waiting: &Waiting,
     n: usize,
     key: &mut [u8; 32],
 ) -> Keys
-    requires sound { Sound c × ((length mack.now ≡ 60) × ((slot < 2 ^ 34) × (length key.old ≡ 32))) }
-    requires waiting_len { (length waiting.now ≡ waiting_length) × (n ≤ 256) }
+    requires { Sound c × ((slot < 2 ^ 34) × (n ≤ 256)) }
     ensures { Hands (keys_received c time prn mack.now marks (held slot (take c.width key.old)) c.nmack)
         (answer_number result.judged) result.slot key.old key.new
         × ((result.slot < 2 ^ 34)
@@ -85,41 +87,32 @@ pub struct Judged {
     pub records: usize,
 }
 
-// The first n waiting tags that are due under the held key of this slot (`way` has keys on the way down from it), then the tags of a section of 60
-// bytes that satellite `prn` sent at `time`. Records stand one after the other at the front of `area`, and the tags that wait at the front of
-// `waiting`; other bytes stay.
+// The first n waiting tags that are due under the held key of this slot (`way` has keys on the way down from it), then the tags of the section that
+// was sent. Records stand one after the other at the front of `area`, and the tags that wait at the front of `waiting`; other bytes stay.
 fn judge_tags(
-    config: &[u8],
-    words: &[u8],
-    stamps: &[u32],
+    config: &Config,
+    words: &Words,
+    stamps: &Stamps,
     c: Chain,
     slot: u64,
     key: [u8; 32],
     way: Way,
-    prn: u8,
-    time: u32,
-    status: u8,
-    mack: &[u8],
-    marks: u16,
-    waiting: &mut [u8],
+    sent: Section<'_>,
+    waiting: &mut Waiting,
     n: usize,
-    sets: &mut [u8],
-    arrivals: &mut [u32],
-    area: &mut [u8],
+    sets: &mut Sets,
+    arrivals: &mut Arrivals,
+    area: &mut Area,
 ) -> Judged
-    requires config_len { ((length config.now ≡ config_length) × (length words.now ≡ words_length))
-        × ((length stamps.now ≡ stamps_length) × (length mack.now ≡ 60)) }
-    requires sets_len { ((length sets.old ≡ sets_length) × (length arrivals.old ≡ arrivals_length))
-        × ((length waiting.old ≡ waiting_length) × (length area.old ≡ area_length)) }
-    requires sound { ((Sound c × Laid c) × ((slot < 2 ^ 34) × (n ≤ 256))) × OnWay c (held slot (take c.width key)) way }
+    requires { ((Sound c × Laid c) × ((slot < 2 ^ 34) × (n ≤ 256))) × OnWay c (held slot (take c.width key)) way }
     ensures { Leaves
         (fields_judged config.now (nav words.now stamps.now) c (held slot (take c.width key))
-        (section prn time status mack.now) marks (c.nmack * c.fields)
+        (section_of sent.entry) sent.entry.marks (c.nmack * c.fields)
         (dues_judged c (held slot (take c.width key)) waiting.old n (start 0 sets.old arrivals.old))) 0 0
         waiting.old area.old waiting.new sets.new arrivals.new area.new result.kept
         × ((length
         (fields_judged config.now (nav words.now stamps.now) c (held slot (take c.width key))
-        (section prn time status mack.now) marks (c.nmack * c.fields)
+        (section_of sent.entry) sent.entry.marks (c.nmack * c.fields)
         (dues_judged c (held slot (take c.width key)) waiting.old n (start 0 sets.old arrivals.old))).records
         ≡ result.records * 12)
         × (result.records ≤ 270)) }
@@ -130,8 +123,24 @@ fn judge_tags(
     let told = n - stay;
     let fields = (c.nmack * c.fields) as usize;
     let kept = section_tags::judge_own(
-        config, words, stamps, c, slot, key, way, prn, time, status, mack, marks, waiting, stay,
-        sets, arrivals, area, told,
+        config,
+        words,
+        stamps,
+        c,
+        slot,
+        key,
+        way,
+        sent.prn,
+        sent.time,
+        sent.status,
+        sent.mack,
+        sent.marks,
+        waiting,
+        stay,
+        sets,
+        arrivals,
+        area,
+        told,
     );
     Judged {
         kept,
@@ -143,28 +152,23 @@ fn judge_tags(
 
 // A section that neither 17 nor row 11 refuses: its keys are proved, then tags are judged, and the highest key proved is held.
 fn judge_section(
-    config: &[u8],
-    words: &[u8],
-    stamps: &[u32],
-    chain: &[u8],
-    numbers: &mut [u64],
-    heldkey: &mut [u8],
-    waiting: &mut [u8],
-    sets: &mut [u8],
-    arrivals: &mut [u32],
-    area: &mut [u8],
+    config: &Config,
+    words: &Words,
+    stamps: &Stamps,
+    chain: &ChainInForce,
+    numbers: &mut Numbers,
+    heldkey: &mut HeldKey,
+    waiting: &mut Waiting,
+    sets: &mut Sets,
+    arrivals: &mut Arrivals,
+    area: &mut Area,
     prn: u8,
     time: u32,
     marks: u16,
     header: u8,
-    mack: &[u8],
+    mack: &[u8; 60],
 ) -> Result<usize, Refusal>
-    requires config_len { ((length config.now ≡ config_length) × (length words.now ≡ words_length))
-        × ((length stamps.now ≡ stamps_length) × (length mack.now ≡ 60)) }
-    requires sets_len { ((length sets.old ≡ sets_length) × (length arrivals.old ≡ arrivals_length))
-        × ((length waiting.old ≡ waiting_length) × (length area.old ≡ area_length)) }
-    requires chain_len { ((length chain.now ≡ chain_length) × (length numbers.old ≡ numbers_length))
-        × ((length heldkey.old ≡ heldkey_length) × (in_force config.now chain.now ≡ true)) }
+    requires { in_force config.now chain.now ≡ true }
     ensures { ((s : State) → s.config ≡ config.now → s.nav ≡ nav words.now stamps.now → s.chain ≡ chain.now →
         s.tesla ≡ tesla numbers.old heldkey.old waiting.old →
         s.auth ≡ auth sets.old arrivals.old → field_came marks 0 ≡ true → section_unfit s time header ≡ false →
@@ -179,24 +183,15 @@ fn judge_section(
     let mut key = held_key(heldkey, c.width);
     let p = prove_keys(c, time, prn, mack, marks, slot, waiting, n, &mut key);
     p.judged?;
-    let w = judge_tags(
-        config,
-        words,
-        stamps,
-        c,
-        p.slot,
-        key,
-        p.way,
+    let sent = Section {
         prn,
         time,
-        gather::status_of(header),
+        status: gather::status_of(header),
         mack,
         marks,
-        waiting,
-        n,
-        sets,
-        arrivals,
-        area,
+    };
+    let w = judge_tags(
+        config, words, stamps, c, p.slot, key, p.way, sent, waiting, n, sets, arrivals, area,
     );
     hold(numbers, heldkey, p.slot, w.kept, key);
     Ok(w.records)
@@ -206,27 +201,22 @@ fn judge_section(
 // Records stand one after the other at the front of `area`; the other bytes stay. Gives how many were written.
 // The regions come one by one, as C lends them, and the section as `call_subframe` has it.
 pub fn mack_half(
-    config: &[u8],
-    words: &[u8],
-    stamps: &[u32],
-    chain: &[u8],
-    numbers: &mut [u64],
-    heldkey: &mut [u8],
-    waiting: &mut [u8],
-    sets: &mut [u8],
-    arrivals: &mut [u32],
-    area: &mut [u8],
+    config: &Config,
+    words: &Words,
+    stamps: &Stamps,
+    chain: &ChainInForce,
+    numbers: &mut Numbers,
+    heldkey: &mut HeldKey,
+    waiting: &mut Waiting,
+    sets: &mut Sets,
+    arrivals: &mut Arrivals,
+    area: &mut Area,
     prn: u8,
     time: u32,
     marks: u16,
     header: u8,
-    mack: &[u8],
+    mack: &[u8; 60],
 ) -> Result<usize, Refusal>
-    requires config_len { ((length config.now ≡ config_length) × (length words.now ≡ words_length))
-        × ((length stamps.now ≡ stamps_length) × (length mack.now ≡ 60)) }
-    requires sets_len { ((length sets.old ≡ sets_length) × (length arrivals.old ≡ arrivals_length))
-        × ((length waiting.old ≡ waiting_length) × (length area.old ≡ area_length)) }
-    requires chain_len { (length chain.now ≡ chain_length) × ((length numbers.old ≡ numbers_length) × (length heldkey.old ≡ heldkey_length)) }
     ensures { ((s : State) → s.config ≡ config.now → s.nav ≡ nav words.now stamps.now → s.chain ≡ chain.now →
         s.tesla ≡ tesla numbers.old heldkey.old waiting.old →
         s.auth ≡ auth sets.old arrivals.old →

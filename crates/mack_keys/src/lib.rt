@@ -6,7 +6,7 @@
 // On the way between a sent key and the key that it is checked against, the key of one slot is kept, and so is the sent key of block 1: tags whose
 // keys lie at or below these need no walk from the top. Which keys are kept changes no answer; where they are kept stands in the contracts (`Keeps`,
 // `KeepsOwn`).
-ghost use Rattle.std.specs.Prelude.{◌≡◌, true, ◌≤◌, ◌<◌, ◌^◌, length, take, MatchResult};
+ghost use Rattle.std.specs.Prelude.{◌≡◌, true, ◌≤◌, ◌<◌, ◌^◌, take, MatchResult};
 ghost use Rattle.laws.specs.Lists.{splice};
 ghost use Rattle.rules.specs.Chain.{Held, held, higher, sent_slot};
 ghost use Rattle.rules.specs.Received.{key_came, keys_received};
@@ -55,13 +55,13 @@ pub fn keys_proved(
     c: Chain,
     g: u32,
     prn: u8,
-    m: &[u8],
+    m: &[u8; 60],
     marks: u16,
     slot: u64,
     via: u64,
     key: &mut [u8; 32],
 ) -> Keys
-    requires { Sound c × ((length m.now ≡ 60) × ((slot < 2 ^ 34) × (length key.old ≡ 32))) }
+    requires { Sound c × (slot < 2 ^ 34) }
     ensures { Hands (keys_received c g prn m.now marks (held slot (take c.width key.old)) c.nmack)
         (answer_number result.judged) result.slot key.old key.new
         × ((result.slot < 2 ^ 34)

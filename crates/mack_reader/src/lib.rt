@@ -1,13 +1,12 @@
 #![tactic(auto)]
 
-// A reader over a lent MACK section that counts used bits (01, "MACK"): a struct that holds the slice and the count, and thin functions
-// over it. Each takes it apart and calls a function on the slice and the numbers.
-// Public calls, on a plain slice and numbers:
+// A reader over a lent MACK section that counts used bits (01, "MACK"): a struct that holds the section and the count, and thin functions
+// over it. Each takes it apart and calls a function on the section and the numbers.
+// Public calls, on a section and numbers:
 //   take_field    a field: its tag, and its PRN, ADKD and IOD
 //   take_block    a block's key and spare bits
 //   take_macseq   MACSEQ
-ghost use Rattle.std.specs.Prelude.{◌≡◌, ◌+◌, ◌*◌, ◌≤◌, length, replicate};
-ghost use Rattle.laws.specs.Lists.{splice};
+ghost use Rattle.std.specs.Prelude.{◌≡◌, ◌+◌, ◌*◌, ◌≤◌};
 ghost use Rattle.rules.specs.Bits.{bits, bytes_at};
 ghost use Rattle.mack_reader.specs.Read.{after, taken, Left, key_taken, KeyLeft, field_taken, FieldLeft, block_taken, BlockLeft};
 
@@ -29,8 +28,8 @@ pub struct Block {
 }
 
 // The field after `used` bits: a tag of ms bits, then 16 bits.
-pub fn take_field(section: &[u8], used: usize, ms: usize) -> Field
-    requires { FieldLeft section.now used ms }
+pub fn take_field(section: &[u8; 60], used: usize, ms: usize) -> Field
+    requires { FieldLeft used ms }
     ensures { result ≡ field_taken section.now used ms }
 {
     let tag = Reader::over(section, used).take(ms);
@@ -44,8 +43,14 @@ pub fn take_field(section: &[u8], used: usize, ms: usize) -> Field
 
 // The key and the spare bits of the block that begins after `used` bits: the bits of its fields are passed, then the key has `width` bytes
 // and `spare` bits follow it.
-pub fn take_block(section: &[u8], used: usize, fields: usize, width: usize, spare: usize) -> Block
-    requires { BlockLeft section.now used fields width spare }
+pub fn take_block(
+    section: &[u8; 60],
+    used: usize,
+    fields: usize,
+    width: usize,
+    spare: usize,
+) -> Block
+    requires { BlockLeft used fields width spare }
     ensures { result ≡ block_taken section.now used fields width spare }
 {
     let key = Reader::over(section, used).skip(fields).take_key(width);
@@ -58,8 +63,8 @@ pub fn take_block(section: &[u8], used: usize, fields: usize, width: usize, spar
 }
 
 // MACSEQ: the 12 bits after tag0, which has ms bits.
-pub fn take_macseq(section: &[u8], ms: usize) -> u64
-    requires { (length section.now ≡ 60) × (ms ≤ 40) }
+pub fn take_macseq(section: &[u8; 60], ms: usize) -> u64
+    requires { ms ≤ 40 }
     ensures { result ≡ bits section.now ms 12 }
 {
     Reader::over(section, 0).skip(ms).take(12).value
@@ -70,7 +75,7 @@ pub fn take_macseq(section: &[u8], ms: usize) -> u64
 // The lent section, and how many of its bits are used.
 #[derive(Clone, Copy)]
 struct Reader<'a> {
-    section: &'a [u8],
+    section: &'a [u8; 60],
     used: usize,
 }
 
@@ -90,7 +95,7 @@ struct KeyRead<'a> {
 
 impl<'a> Reader<'a> {
     // A reader over a section, of which `used` bits are used.
-    fn over(section: &'a [u8], used: usize) -> Reader<'a>
+    fn over(section: &'a [u8; 60], used: usize) -> Reader<'a>
         ensures { (result.section ≡ section.entry) × (result.used ≡ used) }
     {
         Reader { section, used }
@@ -101,8 +106,9 @@ impl<'a> Reader<'a> {
         requires { Left self n }
         ensures { result ≡ taken self.entry n }
     {
+        let section = self.section;
         Read {
-            value: bitfields::bits_at(self.section, self.used, n),
+            value: bitfields::bits_at(section, self.used, n),
             next: self.skip(n),
         }
     }
@@ -124,7 +130,8 @@ impl<'a> Reader<'a> {
         ensures { result ≡ key_taken self.entry n }
     {
         let mut key = [0u8; 32];
-        bitfields::bytes_at(self.section, self.used, n, &mut key);
+        let section = self.section;
+        bitfields::bytes_at(section, self.used, n, &mut key);
         KeyRead {
             key,
             next: self.skip(8 * n),

@@ -20,6 +20,7 @@ ghost use Rattle.nav_sets.specs.Table.{EachBit};
 // ---- eight bytes as a number: each of these is one instruction of the machine, or two
 
 // The number in the eight bytes from place `at` on.
+#[tactic(auto, using(crate::proofs::Bytes::bits_eight))]
 pub fn get_u64(s: &[u8], at: usize) -> u64
     requires { at + 8 ≤ length s.now }
     ensures { result ≡ bits s.now (8 * at) 64 }
@@ -55,6 +56,7 @@ pub fn put_five(out: &mut [u8], to: usize, x: u64)
 // ---- a set
 
 // The n bits of x from bit `from` on, then the bits of y from bit `to` on: 64 in all.
+#[tactic(auto, using(crate::proofs::Shifts::pair_is))]
 pub fn pair(x: u64, from: u64, n: u64, y: u64, to: u64) -> u64
     requires { ((1 ≤ n) × (n < 64)) × ((from + n ≤ 64) × (to ≤ n)) }
     ensures { (s : List ℕ) (a : ℕ) (u : List ℕ) (b : ℕ) → x ≡ bits s a 64 → y ≡ bits u b 64 → result ≡ pair_of s (a + from) n u (b + to) }
@@ -64,8 +66,16 @@ pub fn pair(x: u64, from: u64, n: u64, y: u64, to: u64) -> u64
 
 // Sixteen bytes of a set: of the word at place `at`, 64 bits from bit `from` on, then its next n bits and the first of the next word. `first` is
 // the word's first half. Gives the next word's.
-fn put_word(w: &[u8], at: usize, first: u64, from: u64, n: u64, out: &mut [u8], to: usize) -> u64
-    requires at_in_bounds { (at + 24 ≤ length w.now) × (to + 16 ≤ length out.old) }
+fn put_word(
+    w: &[u8; 80],
+    at: usize,
+    first: u64,
+    from: u64,
+    n: u64,
+    out: &mut [u8],
+    to: usize,
+) -> u64
+    requires at_in_bounds { (at + 24 ≤ 80) × (to + 16 ≤ length out.old) }
     requires le_n { ((6 ≤ n) × (1 ≤ from)) × ((from + n ≤ 64) × (first ≡ bits w.now (8 * at) 64)) }
     ensures { (out.new ≡ splice out.old to (piece_of w.now (8 * at) from n))
         × (result ≡ bits w.now (8 * (at + 16)) 64) }
@@ -78,8 +88,8 @@ fn put_word(w: &[u8], at: usize, first: u64, from: u64, n: u64, out: &mut [u8], 
 }
 
 // The last five bytes of a set: bits 36 to 72 of word 5, whose first half is `first`, and three zero bits.
-fn put_last(w: &[u8], first: u64, out: &mut [u8], to: usize)
-    requires { ((length w.now ≡ 80) × (first ≡ bits w.now 512 64)) × (to + 5 ≤ length out.old) }
+fn put_last(w: &[u8; 80], first: u64, out: &mut [u8], to: usize)
+    requires { (first ≡ bits w.now 512 64) × (to + 5 ≤ length out.old) }
     ensures { out.new ≡ splice out.old to (five_of (bits w.now 548 37 * 8)) }
 {
     let second = get_u64(w, 72);
@@ -87,9 +97,10 @@ fn put_last(w: &[u8], first: u64, out: &mut [u8], to: usize)
 }
 
 // The set of five words, one after the other, into `out` from place `to`. Where a piece begins grows from word to word by six bits and by
-// those that the word leaves out at its end: two, two, none, two.
-pub fn gather(w: &[u8], out: &mut [u8], to: usize)
-    requires { (length w.now ≡ 80) × (to + 69 ≤ length out.old) }
+// those that the word leaves out at its end: two, two, none, two. `out` is a slice: the set is written at any place of a longer one.
+#[tactic(auto, using(crate::proofs::Gathered::set_spliced))]
+pub fn gather(w: &[u8; 80], out: &mut [u8], to: usize)
+    requires { to + 69 ≤ length out.old }
     ensures { out.new ≡ splice out.old to
         (set_bytes (part w.now 0 16) (part w.now 16 16) (part w.now 32 16) (part w.now 48 16)
         (part w.now 64 16)) }

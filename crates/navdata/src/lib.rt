@@ -8,28 +8,30 @@ ghost use Rattle.laws.specs.Lists.{splice};
 ghost use Rattle.rules.specs.Tags.{status_and_set};
 ghost use Rattle.rules.specs.Navdata.{word_type, svid_of, word_issue, word_place, word_at, word_stored, set_of, set_issue, word_came, came_before, one_issue};
 ghost use Rattle.rules.specs.Navdata as rules;
-ghost use Rattle.rules.specs.State.{stamps_length, words_length};
 ghost use Rattle.navdata.specs.Pieces.{nav};
+
+use regions::{COPY_LENGTH, Stamps, Words};
 
 // ---- words
 
 // A word's type.
-pub fn word_type(w: &[u8]) -> usize
-    requires { length w.now ≡ 16 }
+#[tactic(auto, unfolding(rules::specs::Navdata::word_type))]
+pub fn word_type(w: &[u8; 16]) -> usize
     ensures { result ≡ word_type w.now }
 {
     bitfields::bits_at(w, 0, 6) as usize
 }
 
 // The SVID of a word 4.
-pub fn svid(w: &[u8]) -> usize
-    requires { length w.now ≡ 16 }
+#[tactic(auto, unfolding(rules::specs::Navdata::svid_of))]
+pub fn svid(w: &[u8; 16]) -> usize
     ensures { result ≡ svid_of w.now }
 {
     bitfields::bits_at(w, 16, 6) as usize
 }
 
 // The place of a satellite's word of a type.
+#[tactic(auto, unfolding(rules::specs::Navdata::word_place))]
 fn word_place(prn: usize, kind: usize) -> usize
     requires { ((1 ≤ prn) × (prn ≤ 36)) × ((1 ≤ kind) × (kind ≤ 5)) }
     ensures { (result ≡ word_place prn kind) × (result < 180) }
@@ -38,16 +40,16 @@ fn word_place(prn: usize, kind: usize) -> usize
 }
 
 // A word takes its place, with the stamp of its sub-frame.
+#[tactic(auto, unfolding(rules::specs::Navdata::word_stored))]
 pub fn store_word(
-    words: &mut [u8],
-    stamps: &mut [u32],
+    words: &mut Words,
+    stamps: &mut Stamps,
     prn: usize,
     kind: usize,
-    w: &[u8],
+    w: &[u8; 16],
     stamp: u32,
 )
-    requires words_len { ((length words.old ≡ words_length) × (length stamps.old ≡ stamps_length)) × (length w.now ≡ 16) }
-    requires le_prn { ((1 ≤ prn) × (prn ≤ 36)) × ((1 ≤ kind) × (kind ≤ 5)) }
+    requires { ((1 ≤ prn) × (prn ≤ 36)) × ((1 ≤ kind) × (kind ≤ 5)) }
     ensures { nav words.new stamps.new
         ≡ word_stored (nav words.old stamps.old) prn kind w.now stamp }
 {
@@ -59,9 +61,9 @@ pub fn store_word(
 // ---- sets that can be used
 
 // Bits 6 to 15 of a satellite's word: its IODnav in words 1 to 4.
-fn word_issue(words: &[u8], prn: usize, kind: usize) -> u64
-    requires words_len { length words.now ≡ words_length }
-    requires le_prn { ((1 ≤ prn) × (prn ≤ 36)) × ((1 ≤ kind) × (kind ≤ 5)) }
+#[tactic(auto, using(crate::proofs::Sets::bits_of_word), unfolding(rules::specs::Navdata::word_issue))]
+fn word_issue(words: &Words, prn: usize, kind: usize) -> u64
+    requires { ((1 ≤ prn) × (prn ≤ 36)) × ((1 ≤ kind) × (kind ≤ 5)) }
     ensures { result ≡ word_issue (word_at words.now prn kind) }
 {
     bitfields::bits_at(words, (prn - 1) * 640 + ((kind - 1) * 128 + 6), 10)
@@ -69,8 +71,8 @@ fn word_issue(words: &[u8], prn: usize, kind: usize) -> u64
 
 // Words 1 to 4 have one IODnav.
 #[tactic(auto, unfolding(rules::specs::Navdata::one_issue, rules::specs::Navdata::word_came))]
-fn one_issue(words: &[u8], prn: usize) -> bool
-    requires { (length words.now ≡ words_length) × ((1 ≤ prn) × (prn ≤ 36)) }
+fn one_issue(words: &Words, prn: usize) -> bool
+    requires { (1 ≤ prn) × (prn ≤ 36) }
     ensures { (stamps : List ℕ) →
         result ≡ one_issue (word_came (nav words.now stamps) prn 1) (word_came (nav words.now stamps) prn 2)
         (word_came (nav words.now stamps) prn 3) (word_came (nav words.now stamps) prn 4) }
@@ -84,8 +86,8 @@ fn one_issue(words: &[u8], prn: usize) -> bool
 
 // A word of the type is held, and came in an earlier sub-frame than t.
 #[tactic(auto, unfolding(rules::specs::Navdata::came_before, rules::specs::Navdata::word_came))]
-fn came_before(stamps: &[u32], prn: usize, t: u32, kind: usize) -> bool
-    requires { (length stamps.now ≡ stamps_length) × (((1 ≤ prn) × (prn ≤ 36)) × ((1 ≤ kind) × (kind ≤ 5))) }
+fn came_before(stamps: &Stamps, prn: usize, t: u32, kind: usize) -> bool
+    requires { ((1 ≤ prn) × (prn ≤ 36)) × ((1 ≤ kind) × (kind ≤ 5)) }
     ensures { (words : List ℕ) → result ≡ came_before t (word_came (nav words stamps.now) prn kind) }
 {
     let place = word_place(prn, kind);
@@ -95,8 +97,8 @@ fn came_before(stamps: &[u32], prn: usize, t: u32, kind: usize) -> bool
 
 // A satellite's set can be used for a section of sub-frame t. The words are asked one by one, as in the definition: a loop would be no shorter.
 #[tactic(auto, unfolding(rules::specs::Navdata::usable, rules::specs::Navdata::set_usable))]
-pub fn usable(words: &[u8], stamps: &[u32], prn: usize, t: u32) -> bool
-    requires { ((length words.now ≡ words_length) × (length stamps.now ≡ stamps_length)) × ((1 ≤ prn) × (prn ≤ 36)) }
+pub fn usable(words: &Words, stamps: &Stamps, prn: usize, t: u32) -> bool
+    requires { (1 ≤ prn) × (prn ≤ 36) }
     ensures { result ≡ rules.usable (nav words.now stamps.now) prn t }
 {
     let one = came_before(stamps, prn, t, 1);
@@ -110,36 +112,38 @@ pub fn usable(words: &[u8], stamps: &[u32], prn: usize, t: u32) -> bool
 // ---- a set's bytes
 
 // The IODnav of a set.
-pub fn set_issue(set: &[u8]) -> u16
-    requires { length set.now ≡ 69 }
+#[tactic(auto, using(rules::proofs::Bounds::bits_lt), unfolding(rules::specs::Navdata::set_issue))]
+pub fn set_issue(set: &[u8; COPY_LENGTH]) -> u16
     ensures { result ≡ set_issue set.now }
 {
     bitfields::bits_at(set, 0, 10) as u16
 }
 
-// The set of a satellite's held words into `out` from place `to`.
-pub fn set_bytes(words: &[u8], prn: usize, out: &mut [u8], to: usize)
-    requires { ((length words.now ≡ words_length) × ((1 ≤ prn) × (prn ≤ 36))) × (to + 69 ≤ length out.old) }
+// The set of a satellite's held words into `out` from place `to`. `out` is a slice: the set is written at any place of a longer one.
+#[tactic(auto, using(crate::proofs::Sets::set_of_five, laws::proofs::Splice::range_part))]
+pub fn set_bytes(words: &Words, prn: usize, out: &mut [u8], to: usize)
+    requires { ((1 ≤ prn) × (prn ≤ 36)) × (to + 69 ≤ length out.old) }
     ensures { out.new ≡ splice out.old to (set_of words.now prn) }
 {
     let first = (prn - 1) * 80;
-    nav_sets::gather(&words[first..first + 80], out, to);
+    let five = words[first..first + 80].as_array().unwrap();
+    nav_sets::gather(five, out, to);
 }
 
 // The set of a satellite's held words.
-pub fn set_of(words: &[u8], prn: usize) -> [u8; 69]
-    requires { (length words.now ≡ words_length) × ((1 ≤ prn) × (prn ≤ 36)) }
+pub fn set_of(words: &Words, prn: usize) -> [u8; COPY_LENGTH]
+    requires { (1 ≤ prn) × (prn ≤ 36) }
     ensures { result ≡ set_of words.now prn }
 {
-    let mut set = [0u8; 69];
+    let mut set = [0u8; COPY_LENGTH];
     set_bytes(words, prn, &mut set, 0);
     set
 }
 
 // The NMA status and a set's 549 bits, and a zero bit, into `out` from place `to`, in one pass: eight bytes are the last two bits before them
 // and the front of the eight that were read.
-pub fn status_and_set(status: u8, set: &[u8], out: &mut [u8], to: usize)
-    requires { (length set.now ≡ 69) × (to + 69 ≤ length out.old) }
+pub fn status_and_set(status: u8, set: &[u8; COPY_LENGTH], out: &mut [u8], to: usize)
+    requires { to + 69 ≤ length out.old }
     ensures { out.new ≡ splice out.old to (status_and_set status set.now) }
 {
     let mut before = u64::from(status);

@@ -8,9 +8,9 @@ ghost use Rattle.std.specs.Prelude.{◌≡◌, false, cond, ◌+◌, ◌≤◌, 
 ghost use Rattle.rules.specs.PublicKeys as K;
 ghost use Rattle.rules.specs.Pkr as S;
 ghost use Rattle.rules.specs.Refusals.{answer_number};
-ghost use Rattle.rules.specs.State.{pubkeys_length};
 ghost use Rattle.pkr.specs.Renewal.{stops};
 
+use regions::Pubkeys;
 use rules::Refusal;
 
 // What a complete DSM-PKR does that is not refused.
@@ -22,9 +22,9 @@ pub enum Renewal {
     Stops,
 }
 
-// Refused (6, 10 or 9), or proved; then a new key is added to those held.
-pub fn pkr_judge(pubkeys: &mut [u8], root: &[u8], d: &[u8]) -> Result<Renewal, Refusal>
-    requires { (length pubkeys.old ≡ pubkeys_length) × ((91 ≤ length d.now) × (length d.now ≤ 208)) }
+// Refused (6, 10 or 9), or proved; then a new key is added to those held. A root of another length than 32 proves none.
+pub fn pkr_judge(pubkeys: &mut Pubkeys, root: &[u8], d: &[u8]) -> Result<Renewal, Refusal>
+    requires { (91 ≤ length d.now) × (length d.now ≤ 208) }
     ensures { (answer_number result ≡ (S.pkr_judged pubkeys.old root.now d.now).code)
         × ((stops result ≡ (S.pkr_judged pubkeys.old root.now d.now).stops)
         × (pubkeys.new ≡ (S.pkr_judged pubkeys.old root.now d.now).pubkeys)) }
@@ -43,8 +43,8 @@ pub fn pkr_judge(pubkeys: &mut [u8], root: &[u8], d: &[u8]) -> Result<Renewal, R
 }
 
 // A proved key: held where it is the same as one held, or has an ID above all held and is added; else refused.
-fn renew(pubkeys: &mut [u8], d: &[u8]) -> Result<(), Refusal>
-    requires { (length pubkeys.old ≡ pubkeys_length) × ((S.new_type_of d.now < 4) × (130 + K.key_length (S.new_type_of d.now) ≤ length d.now)) }
+fn renew(pubkeys: &mut Pubkeys, d: &[u8]) -> Result<(), Refusal>
+    requires { (S.new_type_of d.now < 4) × (130 + K.key_length (S.new_type_of d.now) ≤ length d.now) }
     ensures { (answer_number result ≡ cond (S.key_welcome pubkeys.old d.now) 0 9)
         × (pubkeys.new ≡ cond (S.key_welcome pubkeys.old d.now) (S.key_added pubkeys.old d.now)
         pubkeys.old) }

@@ -1,7 +1,7 @@
 #![tactic(auto)]
 
 // The public keys held (01, "HKROOT" and "Verdicts"), in a region of 16 places of 68 bytes. Each function gives what the definition of
-// the same name in rules/specs/Keys.antt gives. A key ID is below 16; key types are 0 to 3.
+// the same name in rules/specs/Keys.antt gives. A key ID is below 16; key types are 0 to 3, and stay the numbers that messages and C carry.
 // Public calls:
 //   key_held, key_type, key_bytes     the key of an ID
 //   above_all, same_key               how a key of a DSM-PKR stands to those held
@@ -10,12 +10,13 @@
 ghost use Rattle.std.specs.Prelude.{◌≡◌, ◌≤◌, ◌<◌, length};
 ghost use Rattle.rules.specs.Bits.{filled};
 ghost use Rattle.rules.specs.PublicKeys as S;
-ghost use Rattle.rules.specs.State.{pubkeys_length};
+
+use regions::Pubkeys;
 
 // Whether the key with this ID is held.
 #[tactic(auto, unfolding(rules::specs::PublicKeys::key_held))]
-pub fn key_held(pubkeys: &[u8], id: u8) -> bool
-    requires { (length pubkeys.now ≡ pubkeys_length) × (id < 16) }
+pub fn key_held(pubkeys: &Pubkeys, id: u8) -> bool
+    requires { id < 16 }
     ensures { result ≡ S.key_held pubkeys.now id }
 {
     matches!(pubkeys[(id as usize) * 68], 1..=4)
@@ -23,24 +24,25 @@ pub fn key_held(pubkeys: &[u8], id: u8) -> bool
 
 // The type of the key with this ID; 0 where none is held.
 #[tactic(auto, unfolding(rules::specs::PublicKeys::key_type))]
-pub fn key_type(pubkeys: &[u8], id: u8) -> u8
-    requires { (length pubkeys.now ≡ pubkeys_length) × (id < 16) }
+pub fn key_type(pubkeys: &Pubkeys, id: u8) -> u8
+    requires { id < 16 }
     ensures { result ≡ S.key_type pubkeys.now id }
 {
     pubkeys[(id as usize) * 68].saturating_sub(1)
 }
 
 // The key's 67 bytes into `out`, zeros after a short one.
-pub fn key_bytes(pubkeys: &[u8], id: u8, out: &mut [u8])
-    requires { (length pubkeys.now ≡ pubkeys_length) × ((id < 16) × (length out.old ≡ 67)) }
+#[tactic(auto, using(laws::proofs::Splice::length_part, laws::proofs::Splice::splice_whole), unfolding(rules::specs::PublicKeys::key_bytes))]
+pub fn key_bytes(pubkeys: &Pubkeys, id: u8, out: &mut [u8; 67])
+    requires { id < 16 }
     ensures { out.new ≡ S.key_bytes pubkeys.now id }
 {
     buffer::copy_part(out, 0, pubkeys, (id as usize) * 68 + 1, 67);
 }
 
 // Whether neither this ID nor a higher one is held.
-pub fn above_all(pubkeys: &[u8], id: u8) -> bool
-    requires { (length pubkeys.now ≡ pubkeys_length) × (id < 16) }
+pub fn above_all(pubkeys: &Pubkeys, id: u8) -> bool
+    requires { id < 16 }
     ensures { result ≡ S.above_all pubkeys.now id }
 {
     for n in id..16 {
@@ -52,8 +54,8 @@ pub fn above_all(pubkeys: &[u8], id: u8) -> bool
 }
 
 // Whether the same key is held: ID, type and bytes.
-pub fn same_key(pubkeys: &[u8], id: u8, kind: u8, key: &[u8]) -> bool
-    requires { (length pubkeys.now ≡ pubkeys_length) × ((id < 16) × (length key.now ≤ 67)) }
+pub fn same_key(pubkeys: &Pubkeys, id: u8, kind: u8, key: &[u8]) -> bool
+    requires { (id < 16) × (length key.now ≤ 67) }
     ensures { result ≡ S.same_key pubkeys.now id kind key.now }
 {
     let at = (id as usize) * 68 + 1;
@@ -73,8 +75,8 @@ fn filled_key(key: &[u8]) -> [u8; 67]
 }
 
 // The key is held from now on.
-pub fn add_key(pubkeys: &mut [u8], id: u8, kind: u8, key: &[u8])
-    requires { ((length pubkeys.old ≡ pubkeys_length) × (id < 16)) × ((kind < 4) × (length key.now ≤ 67)) }
+pub fn add_key(pubkeys: &mut Pubkeys, id: u8, kind: u8, key: &[u8])
+    requires { (id < 16) × ((kind < 4) × (length key.now ≤ 67)) }
     ensures { pubkeys.new ≡ S.with_key pubkeys.old id kind key.now }
 {
     let whole = filled_key(key);
@@ -84,8 +86,9 @@ pub fn add_key(pubkeys: &mut [u8], id: u8, kind: u8, key: &[u8])
 }
 
 // Keys of lower ID are dropped.
-pub fn drop_lower(pubkeys: &mut [u8], id: u8)
-    requires { (length pubkeys.old ≡ pubkeys_length) × (id < 16) }
+#[tactic(auto, unfolding(rules::specs::PublicKeys::without_lower))]
+pub fn drop_lower(pubkeys: &mut Pubkeys, id: u8)
+    requires { id < 16 }
     ensures { pubkeys.new ≡ S.without_lower pubkeys.old id }
 {
     buffer::fill(pubkeys, 0, (id as usize) * 68, 0);

@@ -6,7 +6,7 @@
 //   field_came, fields_came   whether a field came, and how many did
 //   received                  the fields as they came
 //   bits_came, item_at        whether all of some bits of the MACK section came; their number, or that one of them is lost
-ghost use Rattle.std.specs.Prelude.{◌≡◌, ◌+◌, ◌≤◌, ◌<◌, length};
+ghost use Rattle.std.specs.Prelude.{◌≡◌, ◌+◌, ◌≤◌, ◌<◌};
 ghost use Rattle.rules.specs.Received.{field_came, fields_came, received, bits_came};
 ghost use Rattle.received.specs.Items.{item_at};
 
@@ -29,8 +29,7 @@ pub fn fields_came(marks: u16) -> usize
 }
 
 // The fifteen fields of five bytes as they came: zeros stand for a field that did not.
-pub fn received(marks: u16, f: &[u8]) -> [u8; 75]
-    requires { length f.now ≡ 75 }
+pub fn received(marks: u16, f: &[u8; 75]) -> [u8; 75]
     ensures { result ≡ received marks f.now 15 }
 {
     let mut fields = [0u8; 75];
@@ -60,8 +59,8 @@ pub fn bits_came(marks: u16, at: usize, n: usize) -> bool
 
 // The number in the n bits from bit `at` on, if all of them came.
 #[tactic(auto, unfolding(crate::specs::Items::item_at))]
-pub fn item_at(m: &[u8], marks: u16, at: usize, n: usize) -> Option<u64>
-    requires { (length m.now ≡ 60) × ((at + n ≤ 480) × (n ≤ 56)) }
+pub fn item_at(m: &[u8; 60], marks: u16, at: usize, n: usize) -> Option<u64>
+    requires { (at + n ≤ 480) × (n ≤ 56) }
     ensures { result ≡ item_at m.now marks at n }
 {
     if bits_came(marks, at, n) {

@@ -9,8 +9,8 @@
 //   note_subframe, note_word                     a time is noted
 //   later, reached                               a stamp against a time
 //   held_slot, waiting_count                     the held key's slot, and how many tags wait
-ghost use Rattle.std.specs.Prelude.{◌≡◌, true, ◌&&◌, ◌+◌, ◌≤◌, ◌<◌, leb, ltb, length, set};
-ghost use Rattle.rules.specs.State.{State, state, word_lent, verdict_lent, set_lent, offer_lent, four_lent, progress_lent, config_length, clocks_length, numbers_length, stopped_at};
+ghost use Rattle.std.specs.Prelude.{◌≡◌, true, ◌&&◌, ◌+◌, ◌≤◌, ◌<◌, leb, ltb, set};
+ghost use Rattle.rules.specs.State.{State, state, word_lent, verdict_lent, set_lent, offer_lent, four_lent, progress_lent, stopped_at};
 ghost use Rattle.rules.specs.State as S;
 ghost use Rattle.rules.specs.Times.{stamp_of};
 
@@ -206,8 +206,7 @@ pub fn progress_shaped(blocks: &[u8], present: &[u16]) -> bool
 
 // NS; a number that no start takes counts as 1.
 #[tactic(auto, unfolding(rules::specs::State::ns_of))]
-pub fn ns_of(config: &[u8]) -> u64
-    requires { length config.now ≡ config_length }
+pub fn ns_of(config: &Config) -> u64
     ensures { (result ≡ S.ns_of config.now) × ((1 ≤ result) × (result ≤ 36)) }
 {
     match config[0] {
@@ -218,8 +217,7 @@ pub fn ns_of(config: &[u8]) -> u64
 
 // The MACLT number of the start.
 #[tactic(auto, unfolding(rules::specs::State::maclt_of))]
-pub fn maclt_of(config: &[u8]) -> u8
-    requires { length config.now ≡ config_length }
+pub fn maclt_of(config: &Config) -> u8
     ensures { result ≡ S.maclt_of config.now }
 {
     config[1]
@@ -230,16 +228,14 @@ pub const STOPPED_AT: usize = 62;
 
 // An emergency message stopped the core.
 #[tactic(auto, unfolding(rules::specs::State::stopped))]
-pub fn stopped(config: &[u8]) -> bool
-    requires { length config.now ≡ config_length }
+pub fn stopped(config: &Config) -> bool
     ensures { result ≡ S.stopped config.now }
 {
     config[STOPPED_AT] != 0
 }
 
 // Stops the core until a new start.
-pub fn stop(config: &mut [u8])
-    requires { length config.old ≡ config_length }
+pub fn stop(config: &mut Config)
     ensures { config.new ≡ set config.old stopped_at 1 }
 {
     config[STOPPED_AT] = 1;
@@ -259,8 +255,7 @@ pub fn prn_valid(prn: u8) -> bool
 
 // The stamp of the last sub-frame.
 #[tactic(auto, unfolding(rules::specs::State::last_subframe))]
-pub fn last_subframe(clocks: &[u32]) -> u32
-    requires { length clocks.now ≡ clocks_length }
+pub fn last_subframe(clocks: &Clocks) -> u32
     ensures { result ≡ S.last_subframe clocks.now }
 {
     clocks[0]
@@ -268,8 +263,8 @@ pub fn last_subframe(clocks: &[u32]) -> u32
 
 // The stamp of a satellite's last sub-frame.
 #[tactic(auto, unfolding(rules::specs::State::last_subframe_of))]
-pub fn last_subframe_of(clocks: &[u32], prn: u8) -> u32
-    requires { (length clocks.now ≡ clocks_length) × (prn ≤ 36) }
+pub fn last_subframe_of(clocks: &Clocks, prn: u8) -> u32
+    requires { prn ≤ 36 }
     ensures { result ≡ S.last_subframe_of clocks.now prn }
 {
     clocks[prn as usize]
@@ -277,8 +272,8 @@ pub fn last_subframe_of(clocks: &[u32], prn: u8) -> u32
 
 // The stamp of a satellite's last word.
 #[tactic(auto, unfolding(rules::specs::State::last_word_of))]
-pub fn last_word_of(clocks: &[u32], prn: u8) -> u32
-    requires { (length clocks.now ≡ clocks_length) × (prn ≤ 36) }
+pub fn last_word_of(clocks: &Clocks, prn: u8) -> u32
+    requires { prn ≤ 36 }
     ensures { result ≡ S.last_word_of clocks.now prn }
 {
     clocks[36 + prn as usize]
@@ -286,8 +281,8 @@ pub fn last_word_of(clocks: &[u32], prn: u8) -> u32
 
 // The time of a sub-frame is noted: the last over all satellites, and this one's.
 #[tactic(auto, unfolding(rules::specs::Times::stamp_of))]
-pub fn note_subframe(clocks: &mut [u32], prn: u8, time: u32)
-    requires { (length clocks.old ≡ clocks_length) × ((prn ≤ 36) × (time < 4294967295)) }
+pub fn note_subframe(clocks: &mut Clocks, prn: u8, time: u32)
+    requires { (prn ≤ 36) × (time < 4294967295) }
     ensures { clocks.new ≡ set (set clocks.old 0 (stamp_of time)) prn (stamp_of time) }
 {
     clocks[0] = time + 1;
@@ -296,8 +291,8 @@ pub fn note_subframe(clocks: &mut [u32], prn: u8, time: u32)
 
 // The time of a satellite's word is noted.
 #[tactic(auto, unfolding(rules::specs::Times::stamp_of))]
-pub fn note_word(clocks: &mut [u32], prn: u8, time: u32)
-    requires { (length clocks.old ≡ clocks_length) × ((prn ≤ 36) × (time < 4294967295)) }
+pub fn note_word(clocks: &mut Clocks, prn: u8, time: u32)
+    requires { (prn ≤ 36) × (time < 4294967295) }
     ensures { clocks.new ≡ set clocks.old (36 + prn) (stamp_of time) }
 {
     let at = 36 + prn as usize;
@@ -330,8 +325,7 @@ const MOST_WAITING: u64 = 256;
 
 // The held key's slot; a number past every slot counts as 0.
 #[tactic(auto, unfolding(rules::specs::State::held_slot))]
-pub fn held_slot(numbers: &[u64]) -> u64
-    requires { length numbers.now ≡ numbers_length }
+pub fn held_slot(numbers: &Numbers) -> u64
     ensures { (result ≡ S.held_slot numbers.now) × (result < 17179869184) }
 {
     match numbers[0] {
@@ -342,8 +336,7 @@ pub fn held_slot(numbers: &[u64]) -> u64
 
 // How many tags wait; at most 256 do.
 #[tactic(auto, unfolding(rules::specs::State::waiting_count))]
-pub fn waiting_count(numbers: &[u64]) -> usize
-    requires { length numbers.now ≡ numbers_length }
+pub fn waiting_count(numbers: &Numbers) -> usize
     ensures { (result ≡ S.waiting_count numbers.now) × (result ≤ 256) }
 {
     match numbers[1] {

@@ -1,22 +1,24 @@
 -- A call's contract as the answer to a record of its kind. Assumes nothing.
 use mathlib.Core.Path.{◌≡◌, refl, sym}
-use mathlib.Core.Bool.{true, false, ◌&&◌, ◌||◌}
+use mathlib.Core.Bool.{◌&&◌}
 use mathlib.Core.List.{List}
-use Prim.Native.Nat.{ℕ, ◌+◌, ◌<◌, ◌≤◌}
-use lib.Dec.{T, eqb, leb, ltb, lit<, lit≤}
+use Prim.Native.Nat.{ℕ, ◌+◌}
+use lib.Dec.{T, leb, lit≤}
 use lib.ListN.{length, take, drop}
-use borrow.Author.Tests.{eq-eqb, ne_eqb}
+use borrow.Author.Tests.{ne_eqb}
 use Rattle.laws.specs.Refusal.{first_refusal, unless}
 use Rattle.laws.proofs.Refusal.{unless_refused}
 use Rattle.laws.specs.Lists.{part}
 use Rattle.laws.proofs.Splice.{length_part}
 use Rattle.laws.proofs.Tests.{and_true}
 use Rattle.regions.specs.Told.{told}
+use Rattle.regions.proofs.Faults.{refusal_above_0}
+use Rattle.rules.specs.Refusals.{refusal_number}
+use Rattle.rules.specs.declared.Refusal.{Refusal}
 use Rattle.call_start.proofs.Started.{refused, accepted}
-use Rattle.regions.specs.Told.{subframe_told}
-use Rattle.rules.specs.Calls.{start_call, start_checks, start_lengths, fresh, word_call, subframe_call, verdict_call}
+use Rattle.rules.specs.Calls.{start_call, start_checks, start_lengths, fresh, word_call, verdict_call}
 use Rattle.rules.specs.State.{State, shaped}
-use Rattle.rules.specs.Replay.{start_of, word_of, subframe_of, verdict_of, start_answered, word_answered, subframe_answered, verdict_answered, answered, kind_of, record_length, Session}
+use Rattle.rules.specs.Replay.{start_of, word_of, verdict_of, start_answered, word_answered, verdict_answered, record_length, Session}
 use Rattle.replay_answers.specs.Answers.{gave}
 
 abbrev pub session : State → List ℕ → ℕ → Session
@@ -40,12 +42,15 @@ start-answered : (s s' : State) (area : List ℕ) (code started started' : ℕ) 
 unfolding start_answered
 start-answered s s' area code started started' input e d = rw (← e, d)
 
-module _ (s : State) (area : List ℕ) (code started : ℕ) (input : List ℕ) (e : code ≡ first_refusal (start_checks s (start_of input))) where
-  pub start_refused : (code ≡ 0 → ⊥) → gave code 0 0 (session s area started) ≡ start_answered (session s area started) input
-  start_refused h = start-answered s s area code started started input (refused s (start_of input) code e h) (sym (unless_refused code 1 started h))
+module _ (s : State) (area : List ℕ) (started : ℕ) (input : List ℕ) where
+  pub start_refused : (r : Refusal) → refusal_number r ≡ first_refusal (start_checks s (start_of input))
+      → gave (refusal_number r) 0 0 (session s area started) ≡ start_answered (session s area started) input
+  start_refused r e =
+      start-answered s s area (refusal_number r) started started input (refused s (start_of input) r e) (sym (unless_refused (refusal_number r) 1 started (refusal_above_0 r)))
 
-  pub start_accepted : code ≡ 0 → (t : State) → t ≡ fresh (start_of input) → gave 0 0 0 (session t area 1) ≡ start_answered (session s area started) input
-  start_accepted z t q = start-answered s t area 0 started 1 input (accepted s (start_of input) code e z t q) refl
+  pub start_accepted : 0 ≡ first_refusal (start_checks s (start_of input)) → (t : State) → t ≡ fresh (start_of input)
+      → gave 0 0 0 (session t area 1) ≡ start_answered (session s area started) input
+  start_accepted e t q = start-answered s t area 0 started 1 input (accepted s (start_of input) e t q) refl
 
 module _ (s s' : State) (area : List ℕ) (code started : ℕ) (input : List ℕ) (on : started ≡ 0 → ⊥) where
   pub word_answered_lem : told code s' ≡ word_call s (word_of input) → gave code 0 0 (session s' area started) ≡ word_answered (session s area started) input

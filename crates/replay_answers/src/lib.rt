@@ -3,36 +3,37 @@
 // The replay program's calls (01, "The replay program"): a record as a call of the core, and the numbers that the program gives itself.
 //   Session::answer        the answers to a record: a short one, one of kinds 1 to 4 or 6, or another
 //   start, word, subframe, verdict    a record of that kind: its parts are lent to the call, with the regions that the call reads or writes
-// `input` is one record of the input.
-ghost use Rattle.std.specs.Prelude.{◌≡◌, ◌||◌, ◌+◌, ◌*◌, eqb, length};
-ghost use Rattle.rules.specs.Replay.{marks_of, start_answered, word_answered, subframe_answered, verdict_answered, answered, record_length};
+// `input` is one record of the input, `bytes` one of 256.
+ghost use Rattle.std.specs.Prelude.{◌≡◌};
+ghost use Rattle.rules.specs.Replay.{marks_of, start_answered, word_answered, subframe_answered, verdict_answered, answered};
+ghost use Rattle.rules.specs.Refusals.{answer_number};
 ghost use Rattle.replay_answers.specs.Answers.{gave, session_of};
 
 use regions::{
-    AREA_LENGTH, ARRIVALS_LENGTH, BLOCKS_LENGTH, CHAIN_LENGTH, CLOCKS_LENGTH, CONFIG_LENGTH,
-    DSM_IDS, HELDKEY_LENGTH, NUMBERS_LENGTH, OFFER_LENGTH, PUBKEYS_LENGTH, SETS_LENGTH,
-    STAMPS_LENGTH, WAITING_LENGTH, WORDS_LENGTH,
+    Area, Arrivals, Blocks, ChainInForce, Clocks, Config, Headers, HeldKey, Numbers, Offer,
+    Present, Pubkeys, Sets, Since, Stamps, Waiting, Words,
 };
+use rules::{Refusal, answer_number};
 
 // The core's sixteen regions.
 #[derive(Drop)]
 pub struct Core {
-    pub config: [u8; CONFIG_LENGTH],
-    pub clocks: [u32; CLOCKS_LENGTH],
-    pub words: [u8; WORDS_LENGTH],
-    pub stamps: [u32; STAMPS_LENGTH],
-    pub blocks: [u8; BLOCKS_LENGTH],
-    pub headers: [u8; DSM_IDS],
-    pub present: [u16; DSM_IDS],
-    pub since: [u32; DSM_IDS],
-    pub pubkeys: [u8; PUBKEYS_LENGTH],
-    pub offer: [u8; OFFER_LENGTH],
-    pub chain: [u8; CHAIN_LENGTH],
-    pub numbers: [u64; NUMBERS_LENGTH],
-    pub heldkey: [u8; HELDKEY_LENGTH],
-    pub waiting: [u8; WAITING_LENGTH],
-    pub sets: [u8; SETS_LENGTH],
-    pub arrivals: [u32; ARRIVALS_LENGTH],
+    pub config: Config,
+    pub clocks: Clocks,
+    pub words: Words,
+    pub stamps: Stamps,
+    pub blocks: Blocks,
+    pub headers: Headers,
+    pub present: Present,
+    pub since: Since,
+    pub pubkeys: Pubkeys,
+    pub offer: Offer,
+    pub chain: ChainInForce,
+    pub numbers: Numbers,
+    pub heldkey: HeldKey,
+    pub waiting: Waiting,
+    pub sets: Sets,
+    pub arrivals: Arrivals,
 }
 
 // What is kept between records: the core, the area for tag records that is lent to every sub-frame, and whether a start was accepted: 0 until then, 1 after, a
@@ -40,7 +41,7 @@ pub struct Core {
 #[derive(Drop)]
 pub struct Session {
     pub core: Core,
-    pub area: [u8; AREA_LENGTH],
+    pub area: Area,
     pub started: u8,
 }
 
@@ -74,24 +75,24 @@ impl Session {
     pub fn answer(&mut self, input: &[u8]) -> Answers
         ensures { gave result.first result.second result.count (session_of self.new) ≡ answered (session_of self.old) input.now }
     {
-        if input.len() != 256 {
+        let Some(bytes) = input.as_array::<256>() else {
             return Answers::single(1);
-        }
-        match input[0] {
-            1 => Answers::single(self.start(input)),
-            2 => Answers::single(self.word(input)),
-            3 | 6 => self.subframe(input),
-            4 => Answers::single(self.verdict(input)),
+        };
+        match bytes[0] {
+            1 => Answers::single(answer_number(self.start(bytes))),
+            2 => Answers::single(self.word(bytes)),
+            3 | 6 => self.subframe(bytes),
+            4 => Answers::single(self.verdict(bytes)),
             _ => Answers::single(2),
         }
     }
 
     // Kind 1: NS, key ID, type, MACLT, 14 + 14 marks, tree root 32, key 67.
-    fn start(&mut self, input: &[u8]) -> u32
-        requires { length input.now ≡ record_length }
-        ensures { gave result 0 0 (session_of self.new) ≡ start_answered (session_of self.old) input.now }
+    fn start(&mut self, bytes: &[u8; 256]) -> Result<(), Refusal>
+        ensures { gave (answer_number result) 0 0 (session_of self.new) ≡ start_answered (session_of self.old) bytes.now }
     {
         let core = &mut self.core;
+        let (ns, id, kind, maclt) = (bytes[1], bytes[2], bytes[3], bytes[4]);
         let fits = regions::shaped(
             &core.config,
             &core.clocks,
@@ -110,10 +111,7 @@ impl Session {
             &core.sets,
             &core.arrivals,
         );
-        let code = call_start::start_refusal(fits, input[1], input[2], input[3], &input[5..33]);
-        if code != 0 {
-            return code;
-        }
+        call_start::start_refusal(fits, ns, id, kind, &bytes[5..33])?;
         call_start::install_settings(
             &mut core.config,
             &mut core.clocks,
@@ -123,10 +121,10 @@ impl Session {
             &mut core.headers,
             &mut core.present,
             &mut core.since,
-            input[1],
-            input[4],
-            &input[5..33],
-            &input[33..65],
+            ns,
+            maclt,
+            bytes[5..33].as_array::<28>().unwrap(),
+            bytes[33..65].as_array::<32>().unwrap(),
         );
         call_start::install_key(
             &mut core.pubkeys,
@@ -137,41 +135,39 @@ impl Session {
             &mut core.waiting,
             &mut core.sets,
             &mut core.arrivals,
-            input[2],
-            input[3],
-            &input[65..132],
+            id,
+            kind,
+            bytes[65..132].as_array::<67>().unwrap(),
         );
         self.started = 1;
-        0
+        Ok(())
     }
 
     // Kind 2: PRN, GST_SF, 16 bytes; 11 before a start.
     #[tactic(auto, unfolding(rules::specs::Replay::word_answered, rules::specs::Replay::word_of, laws::specs::Lists::part))]
-    fn word(&mut self, input: &[u8]) -> u32
-        requires { length input.now ≡ record_length }
-        ensures { gave result 0 0 (session_of self.new) ≡ word_answered (session_of self.old) input.now }
+    fn word(&mut self, bytes: &[u8; 256]) -> u32
+        ensures { gave result 0 0 (session_of self.new) ≡ word_answered (session_of self.old) bytes.now }
     {
         if self.started == 0 {
             return NOT_STARTED;
         }
         let core = &mut self.core;
-        call_word::take_word(
+        answer_number(call_word::take_word(
             &core.config,
             &mut core.clocks,
             &mut core.words,
             &mut core.stamps,
-            input[1],
-            buffer::get_u32(input, 2),
-            &input[6..22],
-        )
+            bytes[1],
+            buffer::get_u32(bytes, 2),
+            bytes[6..22].as_array::<16>().unwrap(),
+        ))
     }
 
     // Kinds 3 and 6: PRN, GST_SF, 75 bytes, and of kind 6 the marks; 11 twice before a start. The HKROOT number is the first answer, the MACK number the
     // second.
     #[tactic(auto, unfolding(rules::specs::Replay::subframe_answered, rules::specs::Replay::subframe_of, laws::specs::Lists::part))]
-    fn subframe(&mut self, input: &[u8]) -> Answers
-        requires { length input.now ≡ record_length }
-        ensures { gave result.first result.second result.count (session_of self.new) ≡ subframe_answered (session_of self.old) input.now }
+    fn subframe(&mut self, bytes: &[u8; 256]) -> Answers
+        ensures { gave result.first result.second result.count (session_of self.new) ≡ subframe_answered (session_of self.old) bytes.now }
     {
         if self.started == 0 {
             return Answers {
@@ -181,7 +177,7 @@ impl Session {
             };
         }
         let core = &mut self.core;
-        let r = call_subframe::take_subframe(
+        let halves = call_subframe::take_subframe(
             &mut core.config,
             &mut core.clocks,
             &core.words,
@@ -199,29 +195,32 @@ impl Session {
             &mut core.sets,
             &mut core.arrivals,
             &mut self.area,
-            input[1],
-            buffer::get_u32(input, 2),
-            marks_of(input),
-            &input[6..81],
+            bytes[1],
+            buffer::get_u32(bytes, 2),
+            marks_of(bytes),
+            bytes[6..81].as_array::<75>().unwrap(),
         );
+        let (second, count) = match halves.mack {
+            Ok(count) => (0, count),
+            Err(refusal) => (refusal.number(), 0),
+        };
         Answers {
-            first: r.hkroot,
-            second: r.mack,
-            count: r.count,
+            first: answer_number(halves.hkroot),
+            second,
+            count,
         }
     }
 
     // Kind 4: 0 or 1, key ID, message 45, signature 132; 11 before a start.
     #[tactic(auto, unfolding(rules::specs::Replay::verdict_answered, rules::specs::Replay::verdict_of, laws::specs::Lists::part))]
-    fn verdict(&mut self, input: &[u8]) -> u32
-        requires { length input.now ≡ record_length }
-        ensures { gave result 0 0 (session_of self.new) ≡ verdict_answered (session_of self.old) input.now }
+    fn verdict(&mut self, bytes: &[u8; 256]) -> u32
+        ensures { gave result 0 0 (session_of self.new) ≡ verdict_answered (session_of self.old) bytes.now }
     {
         if self.started == 0 {
             return NOT_STARTED;
         }
         let core = &mut self.core;
-        call_verdict::judge_verdict(
+        answer_number(call_verdict::judge_verdict(
             &core.config,
             &mut core.pubkeys,
             &mut core.offer,
@@ -230,22 +229,21 @@ impl Session {
             &mut core.heldkey,
             &mut core.waiting,
             &mut core.arrivals,
-            input[1],
-            input[2],
-            &input[3..48],
-            &input[48..180],
-        )
+            bytes[1],
+            bytes[2],
+            bytes[3..48].as_array::<45>().unwrap(),
+            bytes[48..180].as_array::<132>().unwrap(),
+        ))
     }
 }
 
 // The marks of a sub-frame: kind 6 has them in bytes 81 and 82, of kind 3 all are 1.
 #[tactic(auto, unfolding(rules::specs::Replay::marks_of, rules::specs::Replay::kind_of))]
-fn marks_of(input: &[u8]) -> u16
-    requires { length input.now ≡ record_length }
-    ensures { result ≡ marks_of input.now }
+fn marks_of(bytes: &[u8; 256]) -> u16
+    ensures { result ≡ marks_of bytes.now }
 {
-    if input[0] != 6 {
+    if bytes[0] != 6 {
         return u16::MAX;
     }
-    u16::from_be_bytes([input[81], input[82]])
+    u16::from_be_bytes([bytes[81], bytes[82]])
 }

@@ -3,18 +3,18 @@
 // A section against the chain in force (01, row 11), before its keys are looked at.
 //   section_unfit    row 11: no chain, status 0 or 3, other CID, or before sub-frame 0
 //   chain_of         the numbers of the chain in force
-ghost use Rattle.std.specs.Prelude.{◌≡◌, true, false, ◌<◌, length};
+ghost use Rattle.std.specs.Prelude.{◌≡◌, true, false, ◌<◌};
 ghost use Rattle.rules.specs.Calls.{section_unfit};
 ghost use Rattle.rules.specs.Kroot.{in_force, chain_with, chain_contents};
-ghost use Rattle.rules.specs.State.{State, ns_of, config_length, chain_length};
+ghost use Rattle.rules.specs.State.{State, ns_of};
 ghost use Rattle.chain.specs.Sound.{Sound};
 ghost use Rattle.tags.specs.Layout.{Laid};
 
+use regions::{ChainInForce, Config};
 use rules::Chain;
 
 // The numbers of the chain in force.
-pub fn chain_of(config: &[u8], chain: &[u8]) -> Chain
-    requires { (length config.now ≡ config_length) × (length chain.now ≡ chain_length) }
+pub fn chain_of(config: &Config, chain: &ChainInForce) -> Chain
     ensures { (result ≡ chain_with (ns_of config.now) (chain_contents chain.now))
         × (in_force config.now chain.now ≡ true → Sound result × Laid result) }
 {
@@ -27,8 +27,7 @@ const TEST: u8 = 1;
 const OPERATIONAL: u8 = 2;
 
 // Row 11: no chain, status 0 or 3, other CID, or before sub-frame 0.
-pub fn section_unfit(config: &[u8], chain: &[u8], time: u32, header: u8) -> bool
-    requires { (length config.now ≡ config_length) × (length chain.now ≡ chain_length) }
+pub fn section_unfit(config: &Config, chain: &ChainInForce, time: u32, header: u8) -> bool
     ensures { ((s : State) → s.config ≡ config.now → s.chain ≡ chain.now → result ≡ section_unfit s time header)
         × (result ≡ false → in_force config.now chain.now ≡ true) }
 {

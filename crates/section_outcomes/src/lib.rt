@@ -5,11 +5,11 @@
 //                         met while the section's keys were proved
 //   heard                 the satellite whose words count
 //   outcome_of            the outcome of a field that came
-ghost use Rattle.std.specs.Prelude.{◌≡◌, true, not, ◌&&◌, ◌+◌, ◌-◌, ◌/◌, ◌^◌, ◌≤◌, ◌<◌, eqb, ltb, length, take};
+ghost use Rattle.std.specs.Prelude.{◌≡◌, true, not, ◌&&◌, ◌+◌, ◌-◌, ◌/◌, ◌^◌, ◌≤◌, ◌<◌, eqb, ltb, take};
 ghost use Rattle.mac.specs.Kept.{kept_of};
 ghost use Rattle.rules.specs.Chain.{Held, held, key_of_slot};
 ghost use Rattle.rules.specs.Outcomes.{outcome_number};
-ghost use Rattle.rules.specs.State.{prn_valid, config_length, stamps_length, words_length, copy_length};
+ghost use Rattle.rules.specs.State.{prn_valid};
 ghost use Rattle.rules.specs.Tags.{not_allowed, flexible, tag_matches};
 ghost use Rattle.rules.specs.Times.{delay_of};
 ghost use Rattle.rules.specs.Navdata.{usable};
@@ -18,6 +18,7 @@ ghost use Rattle.navdata.specs.Pieces.{nav};
 ghost use Rattle.section_outcomes.specs.Outcomes.{block_key, outcome_by};
 
 use chain::Way;
+use regions::{COPY_LENGTH, Config, Stamps, Words};
 use rules::{Chain, Outcome, Tag};
 
 // ---- keys
@@ -93,8 +94,8 @@ pub fn heard(prn: u8) -> usize
 }
 
 // A tag without delay that matches the set under its block's key.
-pub fn prompt_match(c: Chain, key: &[u8; 273], first: bool, t: Tag, set: &[u8]) -> bool
-    requires { (c.ms ≤ 40) × (length set.now ≡ copy_length) }
+pub fn prompt_match(c: Chain, key: &[u8; 273], first: bool, t: Tag, set: &[u8; COPY_LENGTH]) -> bool
+    requires { c.ms ≤ 40 }
     ensures { (h : Held) → key.now ≡ block_key c h t.time (t.block - 1) → 1 ≤ t.block →
         result ≡ (eqb (delay_of t.adkd) 0 && tag_matches c h first t set.now) }
 {
@@ -103,20 +104,18 @@ pub fn prompt_match(c: Chain, key: &[u8; 273], first: bool, t: Tag, set: &[u8]) 
 
 // The outcome of field j, the tag t, by the words of satellite p and their set; `fits` says that MACSEQ fits.
 pub fn outcome_of(
-    config: &[u8],
-    words: &[u8],
-    stamps: &[u32],
+    config: &Config,
+    words: &Words,
+    stamps: &Stamps,
     c: Chain,
     key: &[u8; 273],
     fits: bool,
     j: usize,
     t: Tag,
     p: usize,
-    set: &[u8],
+    set: &[u8; COPY_LENGTH],
     count: usize,
 ) -> Outcome
-    requires config_len { ((length config.now ≡ config_length) × (length words.now ≡ words_length))
-        × ((length stamps.now ≡ stamps_length) × (length set.now ≡ copy_length)) }
     requires ms_bound { ((c.ms ≤ 40) × (j < 14)) × ((1 ≤ p) × (p ≤ 36)) }
     ensures { (outcome_number result ≡ 5 → count < 256)
         × ((h : Held) → key.now ≡ block_key c h t.time (t.block - 1) → 1 ≤ t.block →

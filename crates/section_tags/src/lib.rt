@@ -2,12 +2,12 @@
 
 // The section's own tags (01, "MACK", "Tag outcomes"): field by field, each gets its outcome, its record, and where it agrees with its set, the
 // satellite's sets follow (02, P4); a tag whose key is still to come waits with a copy of its set. A field of which too much is lost has outcome 8
-// before any other (02, P3). `judge_own` is the public call.
-ghost use Rattle.std.specs.Prelude.{◌≡◌, ◌+◌, ◌*◌, ◌/◌, ◌^◌, ◌≤◌, ◌<◌, length, take};
+// before any other (02, P3). `judge_own` is the public call. The lent regions stay parameters of their own: C lends each by itself, and
+// `Leaves` says of each what is left in it.
+ghost use Rattle.std.specs.Prelude.{◌≡◌, ◌+◌, ◌*◌, ◌/◌, ◌^◌, ◌≤◌, ◌<◌, take};
 ghost use Rattle.rules.specs.Chain.{Held, held};
 ghost use Rattle.rules.specs.Outcomes.{outcome_number};
 ghost use Rattle.rules.specs.Received.{macseq_came, field_judged, fields_judged};
-ghost use Rattle.rules.specs.State.{area_length, config_length, sets_length, stamps_length, waiting_length, words_length, arrivals_length, copy_length};
 ghost use Rattle.rules.specs.Tags.{macseq_fits, own_judged};
 ghost use Rattle.chain.specs.Sound.{Walks, OnWay};
 ghost use Rattle.mack.specs.Layout.{KeysFit};
@@ -18,6 +18,7 @@ ghost use Rattle.section_outcomes.specs.Outcomes.{block_key};
 ghost use Rattle.section_tags.specs.Own.{settled, Grows};
 
 use chain::Way;
+use regions::{Area, Arrivals, COPY_LENGTH, Config, Sets, Stamps, Waiting, Words};
 use rules::{Chain, Outcome, Tag};
 use tags::Section;
 
@@ -29,21 +30,20 @@ fn settle(
     ms: u64,
     outcome: Outcome,
     t: Tag,
-    set: &[u8],
-    waiting: &mut [u8],
+    set: &[u8; COPY_LENGTH],
+    waiting: &mut Waiting,
     count: usize,
-    sets: &mut [u8],
-    arrivals: &mut [u32],
-    area: &mut [u8],
+    sets: &mut Sets,
+    arrivals: &mut Arrivals,
+    area: &mut Area,
     at: usize,
 ) -> usize
-    requires sets_len { ((length sets.old ≡ sets_length) × (length arrivals.old ≡ arrivals_length))
-        × ((length waiting.old ≡ waiting_length) × (length area.old ≡ area_length)) }
-    requires set_len { (((length set.now ≡ copy_length) × (at < 270)) × ((count ≤ 256) × (outcome_number outcome ≡ 5 → count < 256))) × (ms ≤ 40) }
+    requires { ((at < 270) × ((count ≤ 256) × (outcome_number outcome ≡ 5 → count < 256))) × (ms ≤ 40) }
     ensures { Leaves (settled ms (outcome_number outcome) t set.now (start count sets.old arrivals.old)) count at
         waiting.old area.old waiting.new sets.new arrivals.new area.new result }
 {
-    tag_records::tell(ms, outcome, t, set, sets, arrivals, area, at * 12);
+    let found = tags::outcome_number(outcome);
+    tag_records::tell(ms, found, t, set, sets, arrivals, area, at * 12);
     match outcome {
         Outcome::Waits => {
             waiting_tags::put_entry(waiting, count, t, set);
@@ -55,26 +55,22 @@ fn settle(
 
 // Field j that is not lost, after `count` tags that wait: its record goes to place `at`. Gives how many tags wait then.
 fn own_one(
-    config: &[u8],
-    words: &[u8],
-    stamps: &[u32],
+    config: &Config,
+    words: &Words,
+    stamps: &Stamps,
     c: Chain,
     key: &[u8; 273],
     fits: bool,
     x: Section<'_>,
     j: usize,
-    waiting: &mut [u8],
+    waiting: &mut Waiting,
     count: usize,
-    sets: &mut [u8],
-    arrivals: &mut [u32],
-    area: &mut [u8],
+    sets: &mut Sets,
+    arrivals: &mut Arrivals,
+    area: &mut Area,
     at: usize,
 ) -> usize
-    requires config_len { ((length config.now ≡ config_length) × (length words.now ≡ words_length))
-        × ((length stamps.now ≡ stamps_length) × (length x.mack.now ≡ 60)) }
-    requires sets_len { ((length sets.old ≡ sets_length) × (length arrivals.old ≡ arrivals_length))
-        × ((length waiting.old ≡ waiting_length) × (length area.old ≡ area_length)) }
-    requires laid { (Laid c × (j < c.nmack * c.fields)) × ((count ≤ 256) × (at < 270)) }
+    requires { (Laid c × (j < c.nmack * c.fields)) × ((count ≤ 256) × (at < 270)) }
     ensures { (h : Held) → key.now ≡ block_key c h x.entry.time (j / c.fields) →
         fits ≡ macseq_fits config.now c h (section_of x.entry) →
         Leaves
@@ -95,27 +91,23 @@ fn own_one(
 
 // Field j, lost or not. `fits` says that MACSEQ fits, and `macseq` that it came.
 fn field_one(
-    config: &[u8],
-    words: &[u8],
-    stamps: &[u32],
+    config: &Config,
+    words: &Words,
+    stamps: &Stamps,
     c: Chain,
     key: &[u8; 273],
     fits: bool,
     macseq: bool,
     x: Section<'_>,
     j: usize,
-    waiting: &mut [u8],
+    waiting: &mut Waiting,
     count: usize,
-    sets: &mut [u8],
-    arrivals: &mut [u32],
-    area: &mut [u8],
+    sets: &mut Sets,
+    arrivals: &mut Arrivals,
+    area: &mut Area,
     at: usize,
 ) -> usize
-    requires config_len { ((length config.now ≡ config_length) × (length words.now ≡ words_length))
-        × ((length stamps.now ≡ stamps_length) × (length x.mack.now ≡ 60)) }
-    requires sets_len { ((length sets.old ≡ sets_length) × (length arrivals.old ≡ arrivals_length))
-        × ((length waiting.old ≡ waiting_length) × (length area.old ≡ area_length)) }
-    requires laid { ((Laid c × KeysFit c) × (j < c.nmack * c.fields)) × ((count ≤ 256) × (at < 270)) }
+    requires { ((Laid c × KeysFit c) × (j < c.nmack * c.fields)) × ((count ≤ 256) × (at < 270)) }
     ensures { (h : Held) → key.now ≡ block_key c h x.entry.time (j / c.fields) →
         fits ≡ macseq_fits config.now c h (section_of x.entry) →
         macseq ≡ macseq_came config.now c x.entry.time x.entry.marks →
@@ -130,7 +122,7 @@ fn field_one(
             c.ms,
             Outcome::Lost,
             t,
-            &[0u8; 69],
+            &[0u8; COPY_LENGTH],
             waiting,
             count,
             sets,
@@ -148,9 +140,9 @@ fn field_one(
 // slot and the keys that were met below it; `count` tags wait and `at` records stand in the area. What waits then takes the next places of
 // `waiting`, the records follow in `area`, and the other bytes of both stay. Gives how many tags wait then.
 pub fn judge_own(
-    config: &[u8],
-    words: &[u8],
-    stamps: &[u32],
+    config: &Config,
+    words: &Words,
+    stamps: &Stamps,
     c: Chain,
     slot: u64,
     known: [u8; 32],
@@ -158,20 +150,16 @@ pub fn judge_own(
     prn: u8,
     time: u32,
     status: u8,
-    mack: &[u8],
+    mack: &[u8; 60],
     marks: u16,
-    waiting: &mut [u8],
+    waiting: &mut Waiting,
     count: usize,
-    sets: &mut [u8],
-    arrivals: &mut [u32],
-    area: &mut [u8],
+    sets: &mut Sets,
+    arrivals: &mut Arrivals,
+    area: &mut Area,
     at: usize,
 ) -> usize
-    requires config_len { ((length config.now ≡ config_length) × (length words.now ≡ words_length))
-        × ((length stamps.now ≡ stamps_length) × (length mack.now ≡ 60)) }
-    requires sets_len { ((length sets.old ≡ sets_length) × (length arrivals.old ≡ arrivals_length))
-        × ((length waiting.old ≡ waiting_length) × (length area.old ≡ area_length)) }
-    requires walks { (Walks c × (Laid c × KeysFit c)) × (((slot < 2 ^ 34) × OnWay c (held slot (take c.width known)) way) × ((count ≤ 256) × (at + c.nmack * c.fields ≤ 270))) }
+    requires { (Walks c × (Laid c × KeysFit c)) × (((slot < 2 ^ 34) × OnWay c (held slot (take c.width known)) way) × ((count ≤ 256) × (at + c.nmack * c.fields ≤ 270))) }
     ensures { Leaves
         (fields_judged config.now (nav words.now stamps.now) c (held slot (take c.width known))
         (section prn time status mack.now) marks (c.nmack * c.fields) (start count sets.old arrivals.old)) count at

@@ -12,22 +12,8 @@ use Rattle.authentic_sets.specs.Places.{Agrees as Entered}
 use Rattle.rules.specs.Candidates.{agreed, pair_at}
 use Rattle.rules.specs.Tags.{Work, names_satellite, told_plain, agreed_in, told_agreed, told, tag_record, record_issue}
 use Rattle.rules.specs.Times.{stamp_of}
-use Rattle.rules.specs.Outcomes.{outcome_number}
-use Rattle.rules.specs.declared.Outcome.{Outcome}
-use Rattle.rules.specs.declared.Outcome.TheVariants.{Agrees, Wrong, NoUsableSet, NotAllowed, Waits, SequenceUnfit, NoPlace, Lost}
 use Rattle.rules.specs.declared.Tag.{Tag}
 use Rattle.tag_records.specs.Told.{start, after, Finds, Tells}
-
--- only a tag that agrees has number 1
-pub other_number : (o : Outcome) → (o ≡ Agrees → ⊥) → outcome_number o ≡ 1 → ⊥
-other_number Agrees h e = h refl
-other_number Wrong h e = cc
-other_number NoUsableSet h e = cc
-other_number NotAllowed h e = cc
-other_number Waits h e = cc
-other_number SequenceUnfit h e = cc
-other_number NoPlace h e = cc
-other_number Lost h e = cc
 
 module _ (ms : ℕ) (t : Tag) (navdata : List ℕ) where
   -- a tag's work is its own, after what was there

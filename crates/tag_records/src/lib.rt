@@ -7,12 +7,12 @@
 //   record_issue, put_record   the parts of a record
 ghost use Rattle.std.specs.Prelude.{◌≡◌, true, ◌+◌, ◌≤◌, ◌<◌, length};
 ghost use Rattle.laws.specs.Lists.{splice};
-ghost use Rattle.rules.specs.Outcomes.{outcome_number};
 ghost use Rattle.rules.specs.Tags.{names_satellite, tag_record, record_issue, told};
-ghost use Rattle.rules.specs.State.{sets_length, arrivals_length, copy_length};
 ghost use Rattle.tag_records.specs.Told.{start, Finds, Tells};
 
-use rules::{Outcome, Tag};
+use authentic_sets::Agreement;
+use regions::{Arrivals, COPY_LENGTH, Sets};
+use rules::Tag;
 
 // ---- the outcome
 
@@ -23,41 +23,43 @@ fn names_satellite(t: Tag) -> bool
     1 <= t.prn && t.prn <= 36 && times::time_valid(t.time)
 }
 
-// The number of a record's outcome, of a tag of `ms` bits that was found to be this, after its satellite's sets have what it leaves there.
+// The number of a record's outcome, of a tag of `ms` bits that was found to be this, after its satellite's sets have what it leaves there. 1 says that it
+// agrees with its set, another number is its outcome: a number and no `Outcome`, since `tell` takes any byte.
 fn record_outcome(
     ms: u64,
-    found: Outcome,
+    found: u8,
     t: Tag,
-    set: &[u8],
-    sets: &mut [u8],
-    arrivals: &mut [u32],
+    set: &[u8; COPY_LENGTH],
+    sets: &mut Sets,
+    arrivals: &mut Arrivals,
 ) -> u8
-    requires { ((length sets.old ≡ sets_length) × (length arrivals.old ≡ arrivals_length)) × ((length set.now ≡ copy_length) × (ms ≤ 40)) }
-    ensures { Finds (told ms (outcome_number found) t set.now (start 0 sets.old arrivals.old)) t set.now
+    requires { ms ≤ 40 }
+    ensures { Finds (told ms found t set.now (start 0 sets.old arrivals.old)) t set.now
         sets.new arrivals.new result }
 {
-    match found {
-        Outcome::Agrees if names_satellite(t) => authentic_sets::agree(sets, arrivals, ms, t, set),
-        Outcome::Agrees => 9,
-        other => tags::outcome_number(other),
+    if found != 1 {
+        return found;
     }
+    if !names_satellite(t) {
+        return Agreement::Candidate.number();
+    }
+    authentic_sets::agree(sets, arrivals, ms, t, set).number()
 }
 
 // A tag of `ms` bits and what it was found to be: its record goes to place `at` of the area, and where it agrees, its satellite's sets follow.
+// The area stays a slice here and in `put_record`: their clause asks of any length that the record fits.
 pub fn tell(
     ms: u64,
-    found: Outcome,
+    found: u8,
     t: Tag,
-    set: &[u8],
-    sets: &mut [u8],
-    arrivals: &mut [u32],
+    set: &[u8; COPY_LENGTH],
+    sets: &mut Sets,
+    arrivals: &mut Arrivals,
     area: &mut [u8],
     at: usize,
 )
-    requires sets_len { ((length sets.old ≡ sets_length) × (length arrivals.old ≡ arrivals_length))
-        × ((length set.now ≡ copy_length) × (at + 12 ≤ length area.old)) }
-    requires ms_bound { ms ≤ 40 }
-    ensures { Tells (told ms (outcome_number found) t set.now (start 0 sets.old arrivals.old)) at area.old
+    requires { (at + 12 ≤ length area.old) × (ms ≤ 40) }
+    ensures { Tells (told ms found t set.now (start 0 sets.old arrivals.old)) at area.old
         sets.new arrivals.new area.new }
 {
     let outcome = record_outcome(ms, found, t, set, sets, arrivals);
@@ -67,10 +69,9 @@ pub fn tell(
 
 // ---- the record
 
-// The IODnav of a record: that of the set, or 0 for outcomes 3, 4, 6 and 8.
+// The IODnav of a record: that of the set, or 0 for outcomes 3, 4, 6 and 8. The outcome is the record's number: 9 (02, P4) is no `Outcome`.
 #[tactic(auto, unfolding(rules::specs::Tags::record_issue))]
-pub fn record_issue(outcome: u8, set: &[u8]) -> u16
-    requires { length set.now ≡ copy_length }
+pub fn record_issue(outcome: u8, set: &[u8; COPY_LENGTH]) -> u16
     ensures { result ≡ record_issue outcome set.now }
 {
     match outcome {

@@ -5,34 +5,35 @@
 //   Section                              a section as it came: `own_tag`, a field as a tag; `lost_tag`, what the record of a lost one says
 //   flexible, not_allowed                what a field's mark says
 //   own_outcome, judged, outcome_number  what becomes of a tag
-ghost use Rattle.std.specs.Prelude.{◌≡◌, true, cond, ◌&&◌, eqb, [], ◌∷◌, ◌*◌, ◌<◌, length};
+ghost use Rattle.std.specs.Prelude.{◌≡◌, true, cond, ◌&&◌, eqb, [], ◌∷◌, ◌*◌, ◌<◌};
 ghost use Rattle.laws.specs.Refusal.{refuse, first_refusal};
 ghost use Rattle.rules.specs.Bits.{any_of};
 ghost use Rattle.rules.specs.Outcomes.{outcome_number};
 ghost use Rattle.rules.specs.Received.{lost_tag};
-ghost use Rattle.rules.specs.State.{mark_of, config_length, prn_valid};
+ghost use Rattle.rules.specs.State.{mark_of, prn_valid};
 ghost use Rattle.rules.specs.Tags.{own_tag, second_half, not_allowed};
 ghost use Rattle.rules.specs.Tags as rules;
 ghost use Rattle.tags.specs.Layout.{Laid, section_of};
 
+use regions::Config;
 use rules::{Chain, Outcome, Tag};
 
 // ---- a field as a tag
 
-// A MACK section of 60 bytes: the satellite that sent it, GST_SF and NMA status, its bytes, and the marks of the fields that came.
+// A MACK section: the satellite that sent it, GST_SF and NMA status, its bytes, and the marks of the fields that came.
 #[derive(Clone, Copy)]
 pub struct Section<'a> {
     pub prn: u8,
     pub time: u32,
     pub status: u8,
-    pub mack: &'a [u8],
+    pub mack: &'a [u8; 60],
     pub marks: u16,
 }
 
 impl<'a> Section<'a> {
     // Field j as a tag. Tag0 is the sender's own, ADKD 0.
     pub fn own_tag(self, c: Chain, j: usize) -> Tag
-        requires { Laid c × ((j < c.nmack * c.fields) × (length self.mack.now ≡ 60)) }
+        requires { Laid c × (j < c.nmack * c.fields) }
         ensures { result ≡ own_tag c (section_of self.entry) j }
     {
         let fields = c.fields as usize;
@@ -60,7 +61,7 @@ impl<'a> Section<'a> {
     // What the record of outcome 8 says of field j: block and position as of any tag, PRN and ADKD as far as they came, 0 where a bit is lost. It has
     // no tag bits.
     pub fn lost_tag(self, c: Chain, j: usize) -> Tag
-        requires { Laid c × ((j < c.nmack * c.fields) × (length self.mack.now ≡ 60)) }
+        requires { Laid c × (j < c.nmack * c.fields) }
         ensures { result ≡ lost_tag c (section_of self.entry) self.entry.marks j }
     {
         let whole = self.own_tag(c, j);
@@ -86,8 +87,8 @@ fn second_half(time: u32) -> bool
 
 // The mark of field j.
 #[tactic(auto, unfolding(rules::specs::State::mark_of))]
-fn mark_of(config: &[u8], half: bool, j: usize) -> u8
-    requires { (length config.now ≡ config_length) × (j < 14) }
+fn mark_of(config: &Config, half: bool, j: usize) -> u8
+    requires { j < 14 }
     ensures { result ≡ mark_of config.now half j }
 {
     if half { config[16 + j] } else { config[2 + j] }
@@ -95,8 +96,8 @@ fn mark_of(config: &[u8], half: bool, j: usize) -> u8
 
 // Field j has a flexible ADKD.
 #[tactic(auto, unfolding(rules::specs::Tags::flexible))]
-pub fn flexible(config: &[u8], time: u32, j: usize) -> bool
-    requires { (length config.now ≡ config_length) × (j < 14) }
+pub fn flexible(config: &Config, time: u32, j: usize) -> bool
+    requires { j < 14 }
     ensures { result ≡ rules.flexible config.now time j }
 {
     mark_of(config, second_half(time), j) == 255
@@ -119,8 +120,8 @@ fn heard(prn: u8) -> bool
 
 // "4 ADKD not 0, 11, 12, or not the fixed one, or PRN not 1 to 36"
 #[tactic(auto, unfolding(rules::specs::Tags::not_allowed, rules::specs::Tags::flexible))]
-pub fn not_allowed(config: &[u8], j: usize, t: Tag) -> bool
-    requires { (length config.now ≡ config_length) × (j < 14) }
+pub fn not_allowed(config: &Config, j: usize, t: Tag) -> bool
+    requires { j < 14 }
     ensures { result ≡ not_allowed config.now j t }
 {
     let mark = mark_of(config, second_half(t.time), j);
@@ -141,7 +142,7 @@ pub fn judged(matches: bool) -> Outcome
 }
 
 // What becomes of a field's tag, by the first test that holds: it is not allowed, it is flexible and MACSEQ fails, there is no usable
-// set, its key is known (and it matches or not), a place is free.
+// set, its key is known (and it matches or not), a place is free. Six tests and no value to match on: a chain of `if` is the plain form.
 pub fn own_outcome(
     refused: bool,
     unfit: bool,

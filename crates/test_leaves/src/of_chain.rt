@@ -42,13 +42,13 @@ pub extern "C" fn osnma_walk(
     }
     let a = *alpha;
     let c = Chain {
-        ns: ns,
-        nmack: nmack,
-        root: root,
+        ns,
+        nmack,
+        root,
         alpha: a,
-        hf: hf,
+        hf,
         mf: 0,
-        width: width,
+        width,
         ms: 0,
         fields: 0,
     };
@@ -106,13 +106,13 @@ pub extern "C" fn leaf_key_fits(
 {
     let a = *alpha;
     let c = Chain {
-        ns: ns,
-        nmack: nmack,
-        root: root,
+        ns,
+        nmack,
+        root,
         alpha: a,
-        hf: hf,
+        hf,
         mf: 0,
-        width: width,
+        width,
         ms: 0,
         fields: 0,
     };

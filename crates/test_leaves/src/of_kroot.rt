@@ -16,5 +16,11 @@ pub extern "C" fn leaf_kroot_judge(
     ensures { (result ≡ (Kroot.kroot_judged pubkeys.now config.now offer.old header d.now).code)
         × (offer.new ≡ (Kroot.kroot_judged pubkeys.now config.now offer.old header d.now).offer) }
 {
-    rules::answer_number(kroot::kroot_judge(pubkeys, config, offer, header, d))
+    rules::answer_number(kroot::kroot_judge(
+        pubkeys.as_array().unwrap(),
+        config.as_array().unwrap(),
+        offer.as_mut_array().unwrap(),
+        header,
+        d,
+    ))
 }

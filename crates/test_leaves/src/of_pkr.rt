@@ -12,7 +12,7 @@ pub extern "C" fn leaf_pkr_code(pubkeys: &mut [u8], root: &[u8], d: &[u8]) -> u3
     ensures { (result ≡ (Pkr.pkr_judged pubkeys.old root.now d.now).code)
         × (pubkeys.new ≡ (Pkr.pkr_judged pubkeys.old root.now d.now).pubkeys) }
 {
-    match pkr::pkr_judge(pubkeys, root, d) {
+    match pkr::pkr_judge(pubkeys.as_mut_array().unwrap(), root, d) {
         Ok(_) => 0,
         Err(refusal) => refusal.number(),
     }
@@ -25,7 +25,7 @@ pub extern "C" fn leaf_pkr_stops(pubkeys: &mut [u8], root: &[u8], d: &[u8]) -> u
     ensures { (result ≡ cond (Pkr.pkr_judged pubkeys.old root.now d.now).stops 1 0)
         × (pubkeys.new ≡ (Pkr.pkr_judged pubkeys.old root.now d.now).pubkeys) }
 {
-    match pkr::pkr_judge(pubkeys, root, d) {
+    match pkr::pkr_judge(pubkeys.as_mut_array().unwrap(), root, d) {
         Ok(Renewal::Stops) => 1,
         _ => 0,
     }

@@ -39,16 +39,17 @@ pub extern "C" fn leaf_tag_matches(
         (tag_message (tag_of sender prn 0 1 position time status bits) set.now))) bits) 1 0 }
 {
     let t = Tag {
-        sender: sender,
-        prn: prn,
+        sender,
+        prn,
         adkd: 0,
         block: 1,
-        position: position,
-        time: time,
-        status: status,
-        bits: bits,
+        position,
+        time,
+        status,
+        bits,
     };
     let mut kept = [0u8; 273];
     mac::keep(mf, key, &mut kept);
+    let set = set.as_array().unwrap();
     bools::number(tag_codes::tag_matches(mf, ms, &kept, first == 1, t, set))
 }

@@ -54,6 +54,9 @@ pub fn subframe_at(from: u64, seconds: u64) -> u64
     seconds.saturating_sub(from) / 30
 }
 
+// ns and nmack stay two numbers in the four functions below: callers have them as fields of `rules::Chain`, the exports of test_leaves as numbers from C,
+// so that a struct of the two would be made at each call, and its ranges be asked for all the same.
+
 // The slot of the key that PRN p sends in block b of sub-frame s.
 pub fn slot_of(ns: u64, nmack: u64, s: u64, b: u64, p: u64) -> u64
     requires { ((1 ≤ ns) × (ns ≤ 36)) × ((nmack ≤ 3) × ((s < 2 ^ 33) × (b < 256))) }

@@ -15,8 +15,10 @@ ghost use Rattle.rules.specs.State.{State, four_lent};
 ghost use Rattle.valve_rules.specs.Gate as S;
 ghost use Rattle.valve_gate.specs.Asked.{decide_asked};
 
+use valves::Gate;
+
 // Bytes of the state.
-pub const GATE_LENGTH: usize = 49;
+pub const GATE_LENGTH: usize = valves::GATE_LENGTH;
 
 // Ages, in sub-frames, that satellites may have for the centre valves and for the outer ones.
 pub const CENTRE_LIMIT: u32 = 20;
@@ -31,15 +33,15 @@ pub fn valve_gate_layout_1() -> u32
 }
 
 // What `call` makes of a state that has its length, and 0; else 1, and nothing is changed.
-fn if_lent<F: FnOnce(&mut [u8])>(gate: &mut [u8], call: F) -> u32
-    requires { (state : _) → length state.now ≡ S.gate_length → F.pre call state }
+fn if_lent<F: FnOnce(&mut Gate)>(gate: &mut [u8], call: F) -> u32
+    requires { F.IsAlwaysCallable call }
     ensures lent { length gate.old ≡ S.gate_length → (result ≡ 0) × FnOnceReturnsAtMut F.FnOnce call gate.old tt gate.new }
     ensures refused { length gate.old ≢ S.gate_length → (result ≡ 1) × (gate.new ≡ gate.old) }
 {
-    if gate.len() != GATE_LENGTH {
+    let Some(state) = gate.as_mut_array::<GATE_LENGTH>() else {
         return 1;
-    }
-    call(gate);
+    };
+    call(state);
     0
 }
 
@@ -82,14 +84,12 @@ pub fn valve_gate_state_decide(gate: &mut [u8], met20: u8, met10: u8, free: &mut
     ensures { S.decision result gate.new free.new ≡ S.decide_call gate.old met20 met10 }
 {
     *free = 0;
-    let code = if_lent(
-        gate,
-        |state| valves::decide_all(state, met20 == 1, met10 == 1),
-    );
-    if code == 0 {
-        *free = valves::free_valves(gate);
-    }
-    code
+    let Some(state) = gate.as_mut_array::<GATE_LENGTH>() else {
+        return 1;
+    };
+    valves::decide_all(state, met20 == 1, met10 == 1);
+    *free = valves::free_valves(state);
+    0
 }
 
 // A decision that asks the core itself, lent the two regions that its question is lent. Where their lengths are wrong, 1 too.

@@ -2,7 +2,7 @@
 
 // The 48 valves (02, P14): one valve's decision, a decision of all, what the core's answers tell, over the gate's 49 bytes (`valve_rules`, Gate.antt).
 // Nothing of the core is lent here: what is known of it are the numbers that it answered.
-ghost use Rattle.std.specs.Prelude.{◌≡◌, ◌≤◌, length};
+ghost use Rattle.std.specs.Prelude.{◌≡◌, ◌≤◌};
 ghost use Rattle.valve_rules.specs.Valve.{next};
 ghost use Rattle.valve_rules.specs.Gate as S;
 ghost use Rattle.valves.specs.Rule.{rule_of};
@@ -90,9 +90,13 @@ fn met_then(stopped: bool, met: bool) -> bool
 
 // ---- the 48 valves
 
+// Bytes of the gate: one for each valve, valve 1 first, and one for whether the core is stopped.
+pub const GATE_LENGTH: usize = 49;
+
+pub type Gate = [u8; GATE_LENGTH];
+
 // Each valve decides, by its own limit.
-fn decide_valves(gate: &mut [u8], met20: bool, met10: bool)
-    requires { length gate.old ≡ S.gate_length }
+fn decide_valves(gate: &mut Gate, met20: bool, met10: bool)
     ensures { gate.new ≡ S.decided_to met20 met10 gate.old 48 }
 {
     for (k, byte) in gate[..48].iter_mut().enumerate() {
@@ -101,8 +105,7 @@ fn decide_valves(gate: &mut [u8], met20: bool, met10: bool)
 }
 
 // The free valves as binary digits, valve 1 in the lowest.
-pub fn free_valves(gate: &[u8]) -> u64
-    requires { length gate.now ≡ S.gate_length }
+pub fn free_valves(gate: &Gate) -> u64
     ensures { result ≡ S.free_valves gate.now }
 {
     let mut free: u64 = 0;
@@ -114,8 +117,7 @@ pub fn free_valves(gate: &[u8]) -> u64
 
 // A decision of all valves.
 #[tactic(auto, unfolding(valve_rules::specs::Gate::decided, valve_rules::specs::Gate::stop_seen))]
-pub fn decide_all(gate: &mut [u8], met20: bool, met10: bool)
-    requires { length gate.old ≡ S.gate_length }
+pub fn decide_all(gate: &mut Gate, met20: bool, met10: bool)
     ensures { gate.new ≡ S.decided gate.old met20 met10 }
 {
     let stopped = gate[48] != 0;
@@ -129,8 +131,7 @@ const STOPPED: u32 = 4;
 
 // The number of a start.
 #[tactic(auto, unfolding(valve_rules::specs::Gate::start_shown))]
-pub fn show_start(gate: &mut [u8], number: u32)
-    requires { length gate.old ≡ S.gate_length }
+pub fn show_start(gate: &mut Gate, number: u32)
     ensures { gate.new ≡ S.start_shown gate.old number }
 {
     if number == 0 {
@@ -140,8 +141,7 @@ pub fn show_start(gate: &mut [u8], number: u32)
 
 // The number of a word or a verdict.
 #[tactic(auto, unfolding(valve_rules::specs::Gate::answer_shown))]
-pub fn show_answer(gate: &mut [u8], number: u32)
-    requires { length gate.old ≡ S.gate_length }
+pub fn show_answer(gate: &mut Gate, number: u32)
     ensures { gate.new ≡ S.answer_shown gate.old number }
 {
     if number == STOPPED {
@@ -151,8 +151,7 @@ pub fn show_answer(gate: &mut [u8], number: u32)
 
 // The two numbers of a sub-frame.
 #[tactic(auto, unfolding(valve_rules::specs::Gate::subframe_shown))]
-pub fn show_subframe(gate: &mut [u8], hkroot: u32, mack: u32)
-    requires { length gate.old ≡ S.gate_length }
+pub fn show_subframe(gate: &mut Gate, hkroot: u32, mack: u32)
     ensures { gate.new ≡ S.subframe_shown gate.old hkroot mack }
 {
     if hkroot == STOPPED || mack == STOPPED {

@@ -4,6 +4,7 @@ use mathlib.Core.Bool.{true, ◌&&◌}
 use lib.Dec.{eqb}
 use lib.ListN.{length}
 use native.Mathlib.Omega.{arith}
+use borrow.Author.Rules.{rules}
 use Rattle.rules.specs.State.{State, verdict_lent, verdict_shaped}
 use Rattle.rules.specs.Verdict as S
 use Rattle.call_verdict.proofs.Effects.{not_a_verdict, not_an_id, is_stopped, judged, fits}
@@ -22,7 +23,10 @@ lent c s =
 
 -- every lent length is right
 long : (c : Start) (s : State) → (verdict_shaped (lent c s) && (eqb (length c.args.message.now) 45 && eqb (length c.args.signature.now) 132)) ≡ true
-long c s = fits (lent c s) (verdict c) c.requires.config_len c.requires.arrivals_len
+long c s =
+    fits (lent c s) (verdict c)
+    (((search rules, search rules), (search rules, search rules)), ((search rules, search rules), (search rules, (search rules, search rules))))
+    (search rules)
 
 pub returns-then-good-gt1 : goal.returns-then-good-gt1
 returns-then-good-gt1 c =

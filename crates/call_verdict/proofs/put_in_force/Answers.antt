@@ -9,9 +9,6 @@ use Rattle.call_verdict.proofs.put_in_force.Goals as goal
 pub copy_at-requires : goal.copy_at-requires
 copy_at-requires c = simp length-set (omega arith)
 
-pub shape_of-chain : goal.shape_of-chain
-shape_of-chain c = c.copy_at.auto.dst ∙ simp length-set
-
 pub returns : goal.returns
 unfolding S.forced
 returns c =

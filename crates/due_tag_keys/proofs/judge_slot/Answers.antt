@@ -36,4 +36,4 @@ loop-k-preserved c =
 pub returns : goal.returns
 returns c =
     let l = c.loop-k in
-    (l.invariant.0, λ h e k q. l.invariant.1.1 h e k (omega arith))
+    λ h e k q. l.invariant.1.1 h e k (omega arith)

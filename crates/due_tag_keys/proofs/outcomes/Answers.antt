@@ -34,10 +34,10 @@ pub loop-m-init : goal.loop-m-init
 loop-m-init c =
     let g = c.args in
     let r = c.next_below-m in (
-      (((begun (goal.at.loop-m-init c).After-nearer-at).not_above, begins (goal.at.loop-m-init c).After-nearer-at), (c.nearer-at.ensures.0.0, refl)),
+      ((begun (goal.at.loop-m-init c).After-nearer-at).not_above, begins (goal.at.loop-m-init c).After-nearer-at),
       λ h e k. (
         k,
-        none_above g.c h g.waiting.now g.n r.result (rw e r.ensures.1.0) (replicate 256 Waits) (λ k q. ap due_number (get_or-replicate 256 k Waits Waits (omega (arith, c.requires.walks.1.0.1)))),
+        none_above g.c h g.waiting.now g.n r.result (rw e r.ensures.1.0) (replicate 256 Waits) (λ k q. ap due_number (get_or-replicate 256 k Waits Waits (omega (arith, c.requires.walks.1.0)))),
       ),
     )
 
@@ -47,10 +47,10 @@ loop-m-preserved c =
     let l = c.loop-m in
     let g = c.args in
     let r = c.next_below-m-in-loop-m in (
-      ((omega arith, omega (arith, r.ensures.0)), d.ensures.0),
+      (omega arith, omega (arith, r.ensures.0)),
       λ h e k.
           let i = l.invariant.1 h e k in
-          let j = d.ensures.1 h (rw e l.invariant.0.0.0) i.0 in (
+          let j = d.ensures h (rw e l.invariant.0.0) i.0 in (
             j.0,
             next_above g.c h g.waiting.now g.n l.m r.result l.judged d.new.outcomes
                 (rw e (omega arith)) r.ensures.0 i.1 j.1 r.ensures.1.0,

@@ -12,7 +12,7 @@ loop-k-init c =
     none_swept g.ms g.outcomes.now g.waiting.now g.sets.now g.arrivals.now g.area.now
 
 pub sweep_one-kept-requires : goal.sweep_one-kept-requires
-sweep_one-kept-requires c = record { sets_len = search rules; kept_le_k = ((c.loop-k.invariant.1.few, search rules), search rules) }
+sweep_one-kept-requires c = (c.loop-k.invariant.1.few, (omega (arith, c.requires.0), c.requires.1))
 
 pub loop-k-preserved : goal.loop-k-preserved
 loop-k-preserved c =
@@ -22,7 +22,7 @@ loop-k-preserved c =
     one_swept g.ms g.outcomes.now g.waiting.now g.area.now l.waiting l.sets l.arrivals l.area
     p.new.waiting p.new.sets p.new.arrivals p.new.area
     l.k l.kept p.result (start 0 g.sets.now g.arrivals.now)
-    (omega (arith, c.requires)) (omega (arith, c.requires)) (omega (arith, c.requires)) (omega (arith, c.requires)) l.invariant.0 l.invariant.1 p.ensures
+    (omega (arith, c.requires)) (omega (arith, c.requires)) (search rules) (search rules) l.invariant.0 l.invariant.1 p.ensures
 
 pub returns : goal.returns
 returns c =

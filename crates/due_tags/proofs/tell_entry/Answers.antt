@@ -3,4 +3,4 @@ use Rattle.due_tags.proofs.tell_entry.Goals as goal
 
 pub returns : goal.returns
 returns c =
-    rw (← c.copy_set.ensures, ← c.entry_tag-t.ensures) c.tell.ensures
+    rw (← c.copy_set.ensures, ← c.entry_tag-t.ensures, ← c.outcome_number-found.ensures) c.tell.ensures

@@ -5,6 +5,7 @@ use mathlib.Core.Path.{sym, ◌∙◌}
 use native.Mathlib.Omega.{arith}
 use Prim.Native.Nat.{◌≤◌}
 use lib.Count.{ones-le}
+use borrow.Author.Rules.{rules}
 use lib.ListN.{get_or}
 use Rattle.gather.proofs.Counts.{marked_counts}
 use Rattle.gather.proofs.Stores.{without_first, not-counted, counted}
@@ -24,7 +25,7 @@ pub returns-then-not-marked : goal.returns-then-not-marked
 returns-then-not-marked c = ((λ h t. without_first _ _ (sym c.marked.ensures ∙ c.if-not-marked.true)), tt)
 
 pub overflow_cast-m : goal.overflow_cast-m
-overflow_cast-m c = omega (arith, ones-le 16 (get_or c.args.present.now c.args.id 0) (omega (arith, c.type_inv.present c.args.id)))
+overflow_cast-m c = omega (arith, ones-le 16 (get_or c.args.present.now c.args.id 0) (search rules))
 
 pub returns-then-m-total : goal.returns-then-m-total
 returns-then-m-total c = ((λ h t. not-counted _ _ _ (sym c.marked.ensures ∙ c.if-not-marked.false) c.total_of-total.ensures c.if-m-total.true), tt)

@@ -1,8 +1,7 @@
 -- `hkroot_half::hkroot_half` meets its contract: stored, complete or refused, by the rule's cases.
-use mathlib.Core.Path.{◌≡◌, refl, ◌∙◌}
+use mathlib.Core.Path.{◌≡◌, refl}
 use Prim.Native.Nat.{◌*◌}
 use lib.ListN.{length}
-use borrow.Author.Rules.{rules}
 use native.Mathlib.Omega.{arith}
 use Rattle.laws.proofs.Splice.{length_part}
 use Rattle.rules.specs.Gather.{dsm_id_of}
@@ -14,7 +13,7 @@ use Rattle.hkroot_half.proofs.Halves.{nothing-complete, one_complete}
 use Rattle.hkroot_half.proofs.hkroot_half.Goals as goal
 
 pub complete-requires : goal.complete-requires
-complete-requires c = let q = rw c.in-Complete.is at c.gather.ensures.1 in search (rules, q.0, q.1)
+complete-requires c = let q = rw c.in-Complete.is at c.gather.ensures.1 in (q.0, q.1)
 
 pub returns-in-Stored : goal.returns-in-Stored
 returns-in-Stored c = λ s ec es ek eo. nothing-complete s _ (Ok Goes) _ _ _ _ _ ec ek eo refl (rw es (rw c.in-Stored.is at c.gather.ensures.0))
@@ -24,7 +23,7 @@ returns-in-Complete c = λ s ec es ek eo.
     let d = c.complete.ensures in
     let e = rw c.in-Complete.is at c.gather.ensures.0 in
     let q = rw c.in-Complete.is at c.gather.ensures.1 in
-    let k : length c.gather.new.blocks ≡ blocks_length = c.gather.auto.blocks ∙ c.requires.0.blocks_long in
+    let k : length c.gather.new.blocks ≡ blocks_length = omega arith in
     let n = c.in-Complete.n in
     let hk = c.args.hk.now in
     one_complete s _ _ _ _ _ (rw (length_part c.gather.new.blocks (dsm_id_of hk * 208) n (omega (arith, d.1, q.0, q.1, k))) (omega (arith, q.0))) (rw es e) (d.0 s _ ec ek eo)

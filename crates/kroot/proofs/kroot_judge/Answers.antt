@@ -3,7 +3,6 @@ use mathlib.Core.Path.{◌≡◌, sym, ap, ◌∙◌}
 use mathlib.Core.Bool.{true}
 use Prim.Native.Nat.{ℕ, ◌+◌, ◌*◌, ◌<◌, ◌≤◌}
 use native.Mathlib.Omega.{arith}
-use borrow.Author.Rules.{rules}
 use Rattle.kroot.proofs.Parameters.{least_bound, least_fits}
 use Rattle.laws.specs.Lists.{part}
 use Rattle.rules.specs.PublicKeys.{key_held, key_type, signature_length}
@@ -57,7 +56,7 @@ id-small : (c : After-pkid-id) → c.pkid-id.result < 16
 id-small c = omega (arith, c.pkid-id.ensures, pkid_bound c.args.d.now)
 
 pub key_held-requires : goal.key_held-requires
-key_held-requires c = (search rules, omega (arith, id-small (goal.at.key_held-requires c).After-pkid-id))
+key_held-requires c = omega (arith, id-small (goal.at.key_held-requires c).After-pkid-id)
 
 pub returns-then-not-key_held : goal.returns-then-not-key_held
 returns-then-not-key_held c = no_key _ _ _ _ _ (held-is (goal.at.returns-then-not-key_held c).After-key_held ∙ c.if-not-key_held.true)
@@ -66,7 +65,7 @@ pub returns-then-parameters_bad : goal.returns-then-parameters_bad
 returns-then-parameters_bad c = bad_parameters _ _ _ _ _ (held (goal.at.returns-then-parameters_bad c).Else-not-key_held) (bad-is (goal.at.returns-then-parameters_bad c).After-parameters_bad ∙ c.if-parameters_bad.true)
 
 pub key_type-requires : goal.key_type-requires
-key_type-requires c = (search rules, omega (arith, id-small (goal.at.key_type-requires c).After-pkid-id))
+key_type-requires c = omega (arith, id-small (goal.at.key_type-requires c).After-pkid-id)
 
 pub overflow_add-width : goal.overflow_add-width
 overflow_add-width c = omega (arith, bounds (goal.at.overflow_add-width c).After-signature_length-signed)
@@ -89,8 +88,7 @@ pub store_offer-requires : goal.store_offer-requires
 store_offer-requires c =
     let w = c.key_width-width.result in
     let k = c.signature_length-signed.result in
-    let r = c.requires in
-    ((r.1.0, omega (arith, bounds (goal.at.store_offer-requires c).After-signature_length-signed)), (omega (arith, bounds (goal.at.store_offer-requires c).After-signature_length-signed), omega (arith, c.if-d-least_blocks.false, c.least_blocks.ensures, least_fits (13 + w + k))))
+    (omega (arith, bounds (goal.at.store_offer-requires c).After-signature_length-signed), (omega (arith, bounds (goal.at.store_offer-requires c).After-signature_length-signed), omega (arith, c.if-d-least_blocks.false, c.least_blocks.ensures, least_fits (13 + w + k))))
 
 pub returns : goal.returns
 unfolding S.signed_message S.signature_of

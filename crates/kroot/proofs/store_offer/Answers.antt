@@ -8,7 +8,7 @@ use Rattle.laws.proofs.Splice.{length_part}
 use Rattle.rules.specs.State.{offer_length}
 use Rattle.kroot.proofs.Judged.{first_three, stored}
 use Rattle.kroot.proofs.store_offer.Goals as goal
-use Rattle.kroot.proofs.store_offer.Goals.{After-copy_part, After-copy_part-2, After-fill, After-fill-2}
+use Rattle.kroot.proofs.store_offer.Goals.{After-copy_part, After-copy_part-2, After-fill}
 
 -- the region is as long as it was
 long1 : (c : After-copy_part) → length c.copy_part.new.dst ≡ offer_length
@@ -19,9 +19,6 @@ long2 c = c.fill.auto.dst ∙ c.copy_part.auto.dst ∙ simp length-set (omega ar
 
 long3 : (c : After-copy_part-2) → length c.copy_part-2.new.dst ≡ offer_length
 long3 c = c.copy_part-2.auto.dst ∙ c.fill.auto.dst ∙ c.copy_part.auto.dst ∙ simp length-set (omega arith)
-
-long4 : (c : After-fill-2) → length c.fill-2.new.dst ≡ offer_length
-long4 c = c.fill-2.auto.dst ∙ c.copy_part-2.auto.dst ∙ c.fill.auto.dst ∙ c.copy_part.auto.dst ∙ simp length-set (omega arith)
 
 pub copy_part-requires : goal.copy_part-requires
 copy_part-requires c = (simp length-set (omega arith), omega arith)
@@ -34,9 +31,6 @@ copy_part-requires-2 c = (omega (arith, long2 (goal.at.copy_part-requires-2 c).A
 
 pub fill-requires-2 : goal.fill-requires-2
 fill-requires-2 c = omega (arith, long3 (goal.at.fill-requires-2 c).After-copy_part-2)
-
-pub shape_of-offer : goal.shape_of-offer
-shape_of-offer c = long4 (goal.at.shape_of-offer c).After-fill-2 ∙ omega arith
 
 pub returns : goal.returns
 returns c =

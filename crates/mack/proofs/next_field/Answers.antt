@@ -10,11 +10,11 @@ use Rattle.mack.proofs.next_field.Goals as goal
 use Rattle.mack.proofs.next_field.Goals.{Else-j-fields, Start}
 
 some : (c : Start) → 1 ≤ c.args.c.fields
-some c = some_field c.args.c c.requires.0 c.args.j c.requires.1.1.0
+some c = some_field c.args.c c.requires.0 c.args.j c.requires.1.1
 
 pub take_field-f-requires : goal.take_field-f-requires
 take_field-f-requires c =
-    (rw c.requires.1.0 (field_inside c.args.c c.requires.0 c.args.j c.requires.1.1.0), (c.requires.0.ms_high, c.requires.1.1.1))
+    (rw c.requires.1.0 (field_inside c.args.c c.requires.0 c.args.j c.requires.1.1), c.requires.0.ms_high)
 
 pub nonzero_rem-j : goal.nonzero_rem-j
 nonzero_rem-j c = some (goal.at.nonzero_rem-j c).Start
@@ -34,11 +34,11 @@ returns-then-j-fields c =
 -- the fields of the block are all taken
 last : (c : Else-j-fields) → c.args.j % c.args.c.fields + 1 ≡ c.args.c.fields
 last c =
-    omega (arith, c.if-j-fields.false, mod-lt c.args.j (some_field c.args.c c.requires.0 c.args.j c.requires.1.1.0))
+    omega (arith, c.if-j-fields.false, mod-lt c.args.j (some_field c.args.c c.requires.0 c.args.j c.requires.1.1))
 
 pub overflow_add-result : goal.overflow_add-result
 overflow_add-result c =
-    let e = end_inside c.args.c c.requires.0 c.args.j c.requires.1.1.0 (last (goal.at.overflow_add-result c).Else-j-fields) in
+    let e = end_inside c.args.c c.requires.0 c.args.j c.requires.1.1 (last (goal.at.overflow_add-result c).Else-j-fields) in
     rw (c.take_field-f.ensures, c.rest_bits.ensures, c.requires.1.0) (omega (arith, e))
 
 pub returns : goal.returns

@@ -19,13 +19,13 @@ overflow_mul-fields c =
 
 -- the block ends inside the section
 inside : (c : Start) → c.args.k.used + block_bits c.args.c.nmack ≤ 480
-inside c = rw c.requires.1.0 (block_inside c.args.c c.requires.0.fields c.args.b c.requires.1.1.0.0 c.requires.1.1.0.1)
+inside c = rw c.requires.1.0 (block_inside c.args.c c.requires.0.fields c.args.b c.requires.1.1.0 c.requires.1.1.1)
 
 pub take_block-t-requires : goal.take_block-t-requires
 take_block-t-requires c =
     let f = c.requires.0 in
     let e = c.rest_bits.ensures in
-    (c.requires.1.1.1, (omega (arith, inside (goal.at.take_block-t-requires c).Start, f.fields.fields_fit, f.key_fits, e), (f.width_high, omega (arith, f.few_spare, e))))
+    (omega (arith, inside (goal.at.take_block-t-requires c).Start, f.fields.fields_fit, f.key_fits, e), (f.width_high, omega (arith, f.few_spare, e)))
 
 -- a block is read when its three parts are
 parts : (c : Chain) (m key : List ℕ) (b spare used : ℕ) → key ≡ splice (replicate 32 0) 0 (S.block_key c m b) → spare ≡ S.spare_bits c m b → used ≡ S.block_at c (b + 1)
@@ -42,4 +42,4 @@ returns c =
     parts g.c g.m.now _ g.b _ _
     (rw (t, c.requires.1.0))
     (rw (t, r, c.requires.1.0))
-    (rw (t, r, c.requires.1.0, block_follows g.c g.b c.requires.1.1.0.0) (omega (arith, f.fields.fields_fit, f.key_fits)))
+    (rw (t, r, c.requires.1.0, block_follows g.c g.b c.requires.1.1.0) (omega (arith, f.fields.fields_fit, f.key_fits)))

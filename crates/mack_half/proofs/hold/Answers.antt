@@ -15,6 +15,6 @@ long c = search rules
 pub returns : goal.returns
 returns c =
     let g = c.args in (
-      two_set g.numbers.now g.slot g.kept c.requires.0,
-      c.copy_at.ensures ∙ splice_whole g.heldkey.now g.key (omega (arith, c.requires.1, long (goal.at.returns c).Start)),
+      two_set g.numbers.now g.slot g.kept (search rules),
+      c.copy_at.ensures ∙ splice_whole g.heldkey.now g.key (omega (arith, long (goal.at.returns c).Start)),
     )

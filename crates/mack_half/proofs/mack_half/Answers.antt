@@ -32,12 +32,7 @@ returns-then-section_unfit c =
     )
 
 pub judge_section-requires : goal.judge_section-requires
-judge_section-requires c =
-    record {
-      config_len = c.requires.config_len;
-      sets_len = c.requires.sets_len;
-      chain_len = ((c.requires.chain_len.0, c.requires.chain_len.1.0), (c.requires.chain_len.1.1, c.section_unfit.ensures.1 c.if-section_unfit.false));
-    }
+judge_section-requires c = c.section_unfit.ensures.1 c.if-section_unfit.false
 
 pub returns : goal.returns
 returns c = (

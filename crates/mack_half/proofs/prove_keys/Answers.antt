@@ -7,13 +7,13 @@ use Rattle.chain.proofs.Bounds.{sent_bound}
 use Rattle.mack_half.proofs.prove_keys.Goals as goal
 
 pub overflow_cast-c : goal.overflow_cast-c
-overflow_cast-c c = omega (arith, c.requires.sound.0.walks.nmack_high)
+overflow_cast-c c = omega (arith, c.requires.0.walks.nmack_high)
 
 pub slot_to_keep-via-requires : goal.slot_to_keep-via-requires
 slot_to_keep-via-requires c =
     let g = c.args in
-    let w = c.requires.sound.0.walks in
-    ((w, (c.requires.sound.1.1.0, rw c.sent_slot-last.ensures (sent_bound g.c g.time g.c.nmack g.prn w (search rules) (omega (arith, w.nmack_high))))), c.requires.waiting_len)
+    let w = c.requires.0.walks in
+    ((w, (c.requires.1.0, rw c.sent_slot-last.ensures (sent_bound g.c g.time g.c.nmack g.prn w (search rules) (omega (arith, w.nmack_high))))), c.requires.1.1)
 
 pub returns : goal.returns
 returns c =

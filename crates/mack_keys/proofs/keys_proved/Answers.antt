@@ -26,7 +26,7 @@ loop-done-init c =
 
 pub next_key-block-requires : goal.next_key-block-requires
 next_key-block-requires c =
-    (keys_fit c.args.c c.requires.0, (c.loop-done.invariant.used_is, ((omega arith, omega arith), c.requires.1.0)))
+    (keys_fit c.args.c c.requires.0, (c.loop-done.invariant.used_is, (omega arith, omega arith)))
 
 pub loop-done-preserved : goal.loop-done-preserved
 loop-done-preserved c =
@@ -34,7 +34,7 @@ loop-done-preserved c =
     let i = l.invariant in
     let g = c.args in
     let t = c.in-Ok.ensures in
-    let w = length-take-le g.c.width g.key.now (omega (arith, c.requires.0.walks.width_high, c.requires.1.1.1)) in
+    let w = length-take-le g.c.width g.key.now (omega (arith, c.requires.0.walks.width_high)) in
     let e = c.next_key-block.ensures in
     record {
       hands = one_more g.c g.g g.prn g.marks l.done l.top.slot _ _ g.m.now g.key.now l.key _ _ w i.hands
@@ -52,7 +52,7 @@ returns-in-Err c =
     let i = l.invariant in
     let g = c.args in
     let t = c.in-Err.ensures in
-    let w = length-take-le g.c.width g.key.now (omega (arith, c.requires.0.walks.width_high, c.requires.1.1.1)) in
+    let w = length-take-le g.c.width g.key.now (omega (arith, c.requires.0.walks.width_high)) in
     let e = c.next_key-block.ensures in (
       all_refused g.c g.g g.prn g.marks (l.done + 1) g.c.nmack _ _ g.m.now g.key.now _ _ (omega arith) t.is_refused
           (one_more g.c g.g g.prn g.marks l.done l.top.slot _ _ g.m.now g.key.now l.key _ _ w i.hands

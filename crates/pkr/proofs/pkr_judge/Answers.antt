@@ -30,7 +30,7 @@ returns-then-new_type-eq4 c =
 
 pub renew-requires : goal.renew-requires
 renew-requires c =
-    (search rules, key_size _ (fits (goal.at.renew-requires c).Else-size_bad) (λ e. c.if-new_type-eq4.false (c.new_type.ensures ∙ e)))
+    key_size _ (fits (goal.at.renew-requires c).Else-size_bad) (λ e. c.if-new_type-eq4.false (c.new_type.ensures ∙ e))
 
 pub returns-in_err-renew : goal.returns-in_err-renew
 returns-in_err-renew c =

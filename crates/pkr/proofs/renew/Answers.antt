@@ -3,7 +3,6 @@ use mathlib.Core.Path.{◌≡◌, sym, ◌∙◌}
 use Prim.Native.Nat.{◌+◌, ◌≤◌, ◌<◌}
 use lib.ListN.{length, length-take, length-drop}
 use native.Mathlib.Omega.{arith}
-use borrow.Author.Rules.{rules}
 use Rattle.laws.proofs.Splice.{range_part}
 use Rattle.rules.specs.PublicKeys as K
 use Rattle.rules.specs.Pkr as S
@@ -25,7 +24,7 @@ above-is c = rw (← c.new_id-id.ensures) (sym c.above_all.ensures)
 facts : (c : After-key_length-end)
     → (c.new_type-kind.result < 4) × ((130 + c.key_length-end.result ≤ length c.args.d.now) × (c.key_length-end.result ≤ 67))
 facts c =
-    (rw c.new_type-kind.ensures c.requires.1.0, (rw (c.key_length-end.ensures, c.new_type-kind.ensures) c.requires.1.1, rw c.key_length-end.ensures (key-length_bound c.new_type-kind.result)))
+    (rw c.new_type-kind.ensures c.requires.0, (rw (c.key_length-end.ensures, c.new_type-kind.ensures) c.requires.1, rw c.key_length-end.ensures (key-length_bound c.new_type-kind.result)))
 
 id-small : (c : After-new_id-id) → c.new_id-id.result < 16
 id-small c = rw c.new_id-id.ensures (new_id_bound c.args.d.now)
@@ -38,14 +37,14 @@ slice_bounds-same_key-end c = omega (arith, facts (goal.at.slice_bounds-same_key
 
 pub same_key-requires : goal.same_key-requires
 same_key-requires c =
-    (search rules, (omega (arith, id-small (goal.at.same_key-requires c).After-new_id-id), simp (length-take, length-drop) (omega (arith, facts (goal.at.same_key-requires c).After-key_length-end))))
+    (omega (arith, id-small (goal.at.same_key-requires c).After-new_id-id), simp (length-take, length-drop) (omega (arith, facts (goal.at.same_key-requires c).After-key_length-end)))
 
 pub returns-then-same_key : goal.returns-then-same_key
 returns-then-same_key c = same_again _ _ (same-is (goal.at.returns-then-same_key c).After-same_key ∙ c.if-same_key.true)
 
 pub above_all-requires : goal.above_all-requires
 above_all-requires c =
-    (search rules, omega (arith, id-small (goal.at.above_all-requires c).After-new_id-id))
+    omega (arith, id-small (goal.at.above_all-requires c).After-new_id-id)
 
 pub returns-then-not-above_all : goal.returns-then-not-above_all
 returns-then-not-above_all c =
@@ -56,7 +55,7 @@ slice_bounds-add_key-end c = omega (arith, facts (goal.at.slice_bounds-add_key-e
 
 pub add_key-requires : goal.add_key-requires
 add_key-requires c =
-    ((search rules, omega (arith, id-small (goal.at.add_key-requires c).After-new_id-id)), (omega (arith, facts (goal.at.add_key-requires c).After-key_length-end), simp (length-take, length-drop) (omega (arith, facts (goal.at.add_key-requires c).After-key_length-end))))
+    (omega (arith, id-small (goal.at.add_key-requires c).After-new_id-id), (omega (arith, facts (goal.at.add_key-requires c).After-key_length-end), simp (length-take, length-drop) (omega (arith, facts (goal.at.add_key-requires c).After-key_length-end))))
 
 pub returns : goal.returns
 unfolding S.new_key_of

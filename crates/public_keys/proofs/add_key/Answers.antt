@@ -1,6 +1,6 @@
 use mathlib.Core.Path.{◌≡◌, ◌∙◌, ap}
 use Prim.Native.Nat.{◌+◌, ◌*◌}
-use lib.ListN.{length, length-set}
+use lib.ListN.{length}
 use native.Mathlib.Omega.{arith}
 use borrow.Author.Rules.{rules}
 use Rattle.rules.specs.PublicKeys as S
@@ -12,12 +12,6 @@ use Rattle.public_keys.proofs.add_key.Goals.{After-filled_key-whole}
 -- the key's bytes, filled, are 67
 long : (c : After-filled_key-whole) → length c.filled_key-whole.result ≡ 67
 long c = ap length c.filled_key-whole.ensures ∙ length-filled 67 _ (search rules)
-
-pub copy_at-requires : goal.copy_at-requires
-copy_at-requires c = simp length-set (omega (arith, long (goal.at.copy_at-requires c).After-filled_key-whole))
-
-pub shape_of-pubkeys : goal.shape_of-pubkeys
-shape_of-pubkeys c = c.copy_at.auto.dst ∙ simp length-set
 
 pub returns : goal.returns
 unfolding S.with_key

@@ -2,6 +2,7 @@
 use mathlib.Core.Path.{◌≡◌, ap, ◌∙◌}
 use Prim.Native.Nat.{ℕ, ◌*◌, ◌/◌}
 use native.Mathlib.Omega.{arith}
+use borrow.Author.Rules.{rules}
 use lib.ListN.{take}
 use Rattle.rules.specs.Chain.{held}
 use Rattle.navdata.specs.Pieces.{nav}
@@ -15,12 +16,9 @@ use Rattle.section_tags.proofs.judge_own.Goals as goal
 pub loop-j-init : goal.loop-j-init
 loop-j-init c =
     let g = c.args in (
-      (c.requires.sets_len.1.0, (c.requires.sets_len.0.0, (c.requires.sets_len.0.1, c.requires.sets_len.1.1))),
-      (
-        c.block_key.ensures,
-        none_judged g.config.now (nav g.words.now g.stamps.now) g.c (held g.slot (take g.c.width g.known)) (section g.prn g.time g.status g.mack.now)
-            g.waiting.now g.sets.now g.arrivals.now g.area.now g.marks g.count g.at c.requires.walks.1.1.0,
-      ),
+      c.block_key.ensures,
+      none_judged g.config.now (nav g.words.now g.stamps.now) g.c (held g.slot (take g.c.width g.known)) (section g.prn g.time g.status g.mack.now)
+          g.waiting.now g.sets.now g.arrivals.now g.area.now g.marks g.count g.at c.requires.1.1.0,
     )
 
 pub loop-j-preserved : goal.loop-j-preserved
@@ -30,17 +28,14 @@ loop-j-preserved c =
     let g = c.args in
     let h = held g.slot (take g.c.width g.known) in
     let x = section g.prn g.time g.status g.mack.now in (
-      (p.auto.waiting ∙ l.invariant.0.0, (p.auto.sets ∙ l.invariant.0.1.0, (p.auto.arrivals ∙ l.invariant.0.1.1.0, p.auto.area ∙ l.invariant.0.1.1.1))),
-      (
-        c.next_key.ensures ∙ ap (λ (c : ℕ). block_key g.c h g.time (c / g.c.fields)) (next-block l.j),
-        next_judged g.config.now (nav g.words.now g.stamps.now) g.c h x g.waiting.now g.area.now l.waiting l.sets l.arrivals l.area
-            c.field_one-kept.new.waiting c.field_one-kept.new.sets c.field_one-kept.new.arrivals c.field_one-kept.new.area
-            g.marks g.count g.at l.j l.kept p.result (start g.count g.sets.now g.arrivals.now)
-            (omega (arith, c.requires.walks.1.1.1, c.loop-j-test.true)) c.requires.sets_len.1.0 c.requires.sets_len.1.1 l.invariant.1.1.0 l.invariant.1.1.1
-            (p.ensures h c.next_key.ensures
-            (macseq_is g.config.now g.c h x _ c.macseq_fits-fits.result c.block_key.ensures (λ v e. c.macseq_fits-fits.ensures v g.status e))
-            c.macseq_came-macseq.ensures),
-      ),
+      c.next_key.ensures ∙ ap (λ (c : ℕ). block_key g.c h g.time (c / g.c.fields)) (next-block l.j),
+      next_judged g.config.now (nav g.words.now g.stamps.now) g.c h x g.waiting.now g.area.now l.waiting l.sets l.arrivals l.area
+          c.field_one-kept.new.waiting c.field_one-kept.new.sets c.field_one-kept.new.arrivals c.field_one-kept.new.area
+          g.marks g.count g.at l.j l.kept p.result (start g.count g.sets.now g.arrivals.now)
+          (omega (arith, c.requires.1.1.1, c.loop-j-test.true)) (search rules) (search rules) l.invariant.1.0 l.invariant.1.1
+          (p.ensures h c.next_key.ensures
+          (macseq_is g.config.now g.c h x _ c.macseq_fits-fits.result c.block_key.ensures (λ v e. c.macseq_fits-fits.ensures v g.status e))
+          c.macseq_came-macseq.ensures),
     )
 
 pub returns : goal.returns
@@ -48,4 +43,4 @@ returns c =
     let l = c.loop-j in
     let g = c.args in
     let h : l.j ≡ g.c.nmack * g.c.fields = omega arith in
-    rw (← h) l.invariant.1.1
+    rw (← h) l.invariant.1

@@ -8,10 +8,10 @@ pub returns-in-Waits : goal.returns-in-Waits
 returns-in-Waits c =
     let g = c.args in
     waits_leaves g.ms (outcome_number g.outcome) g.count g.at g.t g.set.now g.waiting.now g.sets.now g.arrivals.now g.area.now
-    c.put_entry.new.waiting c.tell.new.sets c.tell.new.arrivals c.tell.new.area (ap outcome_number c.in-Waits.is) c.tell.ensures c.put_entry.ensures
+    c.put_entry.new.waiting c.tell.new.sets c.tell.new.arrivals c.tell.new.area (ap outcome_number c.in-Waits.is) (rw (← c.outcome_number-found.ensures) c.tell.ensures) c.put_entry.ensures
 
 pub returns-in_default : goal.returns-in_default
 returns-in_default c =
     let g = c.args in
     told_leaves g.ms (outcome_number g.outcome) g.count g.at g.t g.set.now g.waiting.now g.sets.now g.arrivals.now g.area.now
-    c.tell.new.sets c.tell.new.arrivals c.tell.new.area (other_number g.outcome c.in_default.not-Waits) c.tell.ensures
+    c.tell.new.sets c.tell.new.arrivals c.tell.new.area (other_number g.outcome c.in_default.not-Waits) (rw (← c.outcome_number-found.ensures) c.tell.ensures)

@@ -9,7 +9,7 @@ use Rattle.tag_codes.proofs.tag_code.Goals as goal
 pub returns-then-first : goal.returns-then-first
 returns-then-first c k t navdata e m =
     let g = c.args in
-    rw c.if-first.true (c.mac_bits.ensures k e ∙ ap (λ (l : List ℕ). mac_bits g.mf g.ms k l) (rw c.requires.1 (rest_of_message g.message.now t navdata m)))
+    rw c.if-first.true (c.mac_bits.ensures k e ∙ ap (λ (l : List ℕ). mac_bits g.mf g.ms k l) ((rest_of_message g.message.now t navdata m)))
 
 pub returns-else-first : goal.returns-else-first
 returns-else-first c k t navdata e m =

@@ -1,22 +1,21 @@
 -- `tag_records::record_outcome` meets its contract: only a tag that agrees and names a satellite goes to the sets.
-use mathlib.Core.Path.{sym, ◌∙◌, ap}
-use Rattle.rules.specs.Outcomes.{outcome_number}
-use Rattle.tag_records.proofs.Told.{other_number, found_other, agrees_nowhere, agrees_there}
+use mathlib.Core.Path.{sym, ◌∙◌}
+use Rattle.tag_records.proofs.Told.{found_other, agrees_nowhere, agrees_there}
 use Rattle.tag_records.proofs.record_outcome.Goals as goal
 
-pub returns-in-Agrees : goal.returns-in-Agrees
-returns-in-Agrees c =
+pub returns-then-found-ne1 : goal.returns-then-found-ne1
+returns-then-found-ne1 c =
     let g = c.args in
-    agrees_there g.ms g.t g.set.now g.sets.now g.arrivals.now (outcome_number g.found) c.agree.new.sets c.agree.new.arrivals c.agree.result
-    (ap outcome_number c.in-Agrees.is) (sym c.names_satellite.ensures.0 ∙ c.if-names_satellite.true) c.agree.ensures
+    found_other g.ms g.t g.set.now g.sets.now g.arrivals.now g.found c.if-found-ne1.true
 
-pub returns-in-Agrees-2 : goal.returns-in-Agrees-2
-returns-in-Agrees-2 c =
+pub returns-then-not-names_satellite : goal.returns-then-not-names_satellite
+returns-then-not-names_satellite c =
     let g = c.args in
-    agrees_nowhere g.ms g.t g.set.now g.sets.now g.arrivals.now (outcome_number g.found) (ap outcome_number c.in-Agrees-2.is) (sym c.names_satellite.ensures.0 ∙ c.if-names_satellite.false)
+    rw c.number.ensures
+    (agrees_nowhere g.ms g.t g.set.now g.sets.now g.arrivals.now g.found c.if-found-ne1.false (sym c.names_satellite.ensures.0 ∙ c.if-not-names_satellite.true))
 
-pub returns-in_default : goal.returns-in_default
-returns-in_default c =
+pub returns : goal.returns
+returns c =
     let g = c.args in
-    rw c.outcome_number.ensures
-    (found_other g.ms g.t g.set.now g.sets.now g.arrivals.now (outcome_number g.found) (other_number g.found c.in_default.not-Agrees))
+    agrees_there g.ms g.t g.set.now g.sets.now g.arrivals.now g.found c.agree.new.sets c.agree.new.arrivals _
+    c.if-found-ne1.false (sym c.names_satellite.ensures.0 ∙ c.if-not-names_satellite.false) (rw c.number-2.ensures c.agree.ensures)

@@ -1,5 +1,5 @@
 -- The 48 bytes that the loop is lent, and the byte behind them, are the gate.
-use Rattle.std.proofs.Common.{◌≡◌, List, ℕ, ◌<◌, length, get_or, take, drop, sym, ap, ◌∙◌, arith}
+use Rattle.std.proofs.Common.{◌≡◌, List, ℕ, ◌<◌, length, get_or, take, drop, sym, ap, ◌∙◌, arith, rules}
 use Rattle.std.proofs.lemmas.List.{take-append-drop, length-take-le, set-append_left}
 use Rattle.std.proofs.Math.ListN.{get_or-append}
 use Rattle.valve_rules.specs.Gate.{gate_length, decided_to}
@@ -10,7 +10,7 @@ valves : (gate : List ℕ) → length gate ≡ gate_length → length (take 48 g
 valves gate h = length-take-le 48 gate (omega arith)
 
 pub slice_bounds-byte-items-end-2 : goal.slice_bounds-byte-items-end-2
-slice_bounds-byte-items-end-2 c = sym (valves c.args.gate.now c.requires)
+slice_bounds-byte-items-end-2 c = sym (valves c.args.gate.now (search rules))
 
 pub loop-k-init : goal.loop-k-init
 unfolding decided_to
@@ -32,5 +32,6 @@ pub returns : goal.returns
 returns c =
     let l = c.loop-k in
     let g = c.args in
-    let e : l.k ≡ 48 = omega (arith, valves g.gate.now c.requires) in
+    let long : length g.gate.now ≡ gate_length = search rules in
+    let e : l.k ≡ 48 = omega (arith, valves g.gate.now long) in
     l.invariant ∙ ap (decided_to g.met20 g.met10 g.gate.now) e

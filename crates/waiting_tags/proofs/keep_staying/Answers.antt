@@ -1,25 +1,11 @@
 -- `waiting_tags::keep_staying` meets its contract: after k turns those of the first k entries that stay are at the front.
-use mathlib.Core.Path.{◌≡◌, ap, ◌∙◌}
 use native.Mathlib.Omega.{arith}
-use lib.ListN.{length}
-use Rattle.laws.proofs.Splice.{length_splice}
-use Rattle.rules.specs.Verdict.{staying}
 use Rattle.waiting_tags.proofs.Entries.{none_yet, stay_region, stay_length}
 use Rattle.waiting_tags.proofs.keep_staying.Goals as goal
 use Rattle.waiting_tags.proofs.keep_staying.Goals.{At-loop-k}
 
--- the region is as long as it was
-long : (c : At-loop-k) → length c.loop-k.waiting ≡ length c.args.waiting.now
-long c =
-    let g = c.args in
-    let l = c.loop-k in
-    ap length l.invariant.1.1 ∙ length_splice g.waiting.now 0 (staying g.root g.waiting.now l.k) (omega arith)
-
 pub loop-k-init : goal.loop-k-init
 loop-k-init c = (omega arith, none_yet c.args.root c.args.waiting.now)
-
-pub keep_one-kept-requires : goal.keep_one-kept-requires
-keep_one-kept-requires c = (omega arith, (omega arith, omega (arith, long (goal.at.keep_one-kept-requires c).At-loop-k)))
 
 pub loop-k-preserved : goal.loop-k-preserved
 loop-k-preserved c =
@@ -30,12 +16,3 @@ loop-k-preserved c =
     let m = stay_length g.root g.waiting.now l.waiting s.new.waiting l.k l.kept s.result l.invariant.0 (omega arith) i.0 i.1 s.ensures.0 s.ensures.1 in
     let u = stay_region g.root g.waiting.now l.waiting s.new.waiting l.k l.kept s.result l.invariant.0 (omega arith) i.0 i.1 s.ensures.0 s.ensures.1 in
     (m.1, (m.0, u))
-
-pub shape_of-waiting : goal.shape_of-waiting
-shape_of-waiting c = long (goal.at.shape_of-waiting c).At-loop-k
-
-pub returns : goal.returns
-returns c =
-    let l = c.loop-k in
-    let h : l.k ≡ c.args.n = omega arith in
-    rw (← h) (l.invariant.1.1, (l.invariant.1.0, l.invariant.0))

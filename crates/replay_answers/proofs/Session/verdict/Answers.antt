@@ -7,4 +7,8 @@ use Rattle.replay_answers.proofs.Session.verdict.Goals as goal
 
 pub returns : goal.returns
 unfolding verdict_of part
-returns c = verdict_answered_lem (state_of c.args.self.now.core) _ _ _ _ _ c.if-self-eq0.false (c.judge_verdict.ensures (state_of c.args.self.now.core))
+returns c =
+    let message = rw c.unwrap.ensures at c.as_array.ensures.cases in
+    let signature = rw c.unwrap-2.ensures at c.as_array-2.ensures.cases in
+    verdict_answered_lem (state_of c.args.self.now.core) _ _ _ _ _ c.if-self-eq0.false
+    (rw c.answer_number.ensures (rw (message.same, signature.same) at (c.judge_verdict.ensures (state_of c.args.self.now.core))))
