@@ -8,8 +8,8 @@ use Rattle.call_start_parts.proofs.Cleared.{cleared, key-held}
 use Rattle.rules.specs.State.{pubkeys_length}
 use Rattle.call_start_parts.proofs.hold_key.Goals as goal
 
-pub slice_bounds-add_key-end-2 : goal.slice_bounds-add_key-end-2
-slice_bounds-add_key-end-2 c =
+pub slice_bounds-add_key-end : goal.slice_bounds-add_key-end
+slice_bounds-add_key-end c =
     omega (arith, c.key_length-n.ensures, key-length_bound c.args.kind)
 
 pub returns : goal.returns
