@@ -98,15 +98,20 @@ pub fn four_met(clocks: &Clocks, arrivals: &Arrivals, limit: u32) -> bool
     }
     let last = times::seconds_of(clock - 1);
     let mut met: u32 = 0;
-    for i in 0..36 {
+    let mut i: usize = 0;
+    // A `loop` left by `break`, the form that 01 names for this scan ("Language forms in the code").
+    loop {
+        if i == 36 {
+            break false;
+        }
         if recent(last, limit, arrivals[i]) {
             if met == 3 {
-                return true;
+                break true;
             }
             met += 1;
         }
+        i += 1;
     }
-    false
 }
 
 // ---- progress (02, P9)

@@ -6,7 +6,7 @@
 // Public calls:
 //   same_contents   whether the contents are those in force
 //   vouch_refusal   a verdict past 1, 2 and 4 is refused (14, 15, 11 or 9) or not
-ghost use Rattle.std.specs.Prelude.{◌≡◌, ◌&&◌, ◌≤◌, length};
+ghost use Rattle.std.specs.Prelude.{◌≡◌, ◌&&◌};
 ghost use Rattle.laws.specs.Refusal.{first_refusal};
 ghost use Rattle.rules.specs.Bits.{within};
 ghost use Rattle.rules.specs.Gather.{status_of};

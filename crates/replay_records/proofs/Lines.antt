@@ -4,7 +4,7 @@ use mathlib.Core.List.{List}
 use Prim.Native.Nat.{ℕ, ◌+◌}
 use lib.ListN.{length}
 use Rattle.laws.specs.Lists.{splice}
-use Rattle.rules.specs.Replay.{Session, Replay, answered, replayed, lines_of}
+use Rattle.rules.specs.Replay.{Session, answered, replayed, lines_of}
 use Rattle.replay_answers.specs.Answers.{gave}
 use Rattle.replay_records.specs.Written.{wrote, written}
 

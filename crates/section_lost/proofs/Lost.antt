@@ -11,7 +11,7 @@ use native.Mathlib.Numerals.{add-one}
 use borrow.Author.Tests.{eq-eqb, ne_eqb}
 use Rattle.laws.proofs.Splice.{below?}
 use Rattle.laws.proofs.Tests.{or_false}
-use Rattle.std.specs.Prelude.{Option, is_some}
+use Rattle.std.specs.Prelude.{Option, Some, None}
 use Rattle.received.specs.Items.{item_at}
 use Rattle.received.proofs.Cases.{item_came}
 use Rattle.rules.specs.Received.{bits_came, key_came, tag_came, info_came, flexible_came, macseq_came, field_lost}
@@ -88,11 +88,11 @@ module _ (config : List ℕ) (c : Chain) (time marks j : ℕ) where
         unfolding field_lost
         by_info e = rw (k, t, f, ne_eqb j 0 e) (or_false (not (info_came c marks j)))
 
--- ---- an item that is not there
+-- ---- an item that came, or is lost
 
-pub none_is : (r s : Bool) → s ≡ not r → r ≡ not s
-none_is true s e = rw e refl
-none_is false s e = rw e refl
+pub some_came : (m : List ℕ) (marks at n : ℕ) (o : Option ℕ) (x : ℕ) → o ≡ item_at m marks at n → o ≡ Some x → bits_came marks at n ≡ true
+some_came m marks at n o x e i = sym (item_came m marks at n) ∙ rw (← e, i) refl
 
-pub none_came : (m : List ℕ) (marks at n : ℕ) (o : Option ℕ) (r : Bool) → o ≡ item_at m marks at n → is_some o ≡ not r → bits_came marks at n ≡ not r
-none_came m marks at n o r e i = sym (item_came m marks at n) ∙ rw (← e) i
+pub none_came : (m : List ℕ) (marks at n : ℕ) (o : Option ℕ) → o ≡ item_at m marks at n → ((x : ℕ) → o ≡ Some x → ⊥) → bits_came marks at n ≡ false
+none_came m marks at n None e h = sym (item_came m marks at n) ∙ rw (← e) refl
+none_came m marks at n (Some x) e h = absurd (h x refl)

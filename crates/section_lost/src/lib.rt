@@ -19,7 +19,13 @@ pub fn flexible_came(config: &Config, c: Chain, x: Section<'_>, j: usize) -> boo
     requires { Laid c × (j < c.nmack * c.fields) }
     ensures { result ≡ (not (flexible config.now x.entry.time j) || info_came c x.entry.marks j) }
 {
-    !tags::flexible(config, x.time, j) || mack_items::info_item(c, x.mack, x.marks, j).is_some()
+    if !tags::flexible(config, x.time, j) {
+        return true;
+    }
+    let Some(_) = mack_items::info_item(c, x.mack, x.marks, j) else {
+        return false;
+    };
+    true
 }
 
 // MACSEQ and the MAC-Info of every flexible field came.
@@ -27,9 +33,9 @@ pub fn macseq_came(config: &Config, c: Chain, x: Section<'_>) -> bool
     requires { Laid c }
     ensures { result ≡ macseq_came config.now c x.entry.time x.entry.marks }
 {
-    if mack_items::macseq_item(c, x.mack, x.marks).is_none() {
+    let Some(_) = mack_items::macseq_item(c, x.mack, x.marks) else {
         return false;
-    }
+    };
     for j in 0..(c.nmack * c.fields) as usize {
         if !flexible_came(config, c, x, j) {
             return false;
@@ -48,11 +54,17 @@ pub fn field_lost(config: &Config, c: Chain, x: Section<'_>, macseq: bool, j: us
     if !mack_items::key_came(c, x.marks, block) {
         return true;
     }
-    if mack_items::tag_item(c, x.mack, x.marks, j).is_none() {
+    let Some(_) = mack_items::tag_item(c, x.mack, x.marks, j) else {
         return true;
-    }
+    };
     if tags::flexible(config, x.time, j) {
         return !macseq;
     }
-    j != 0 && mack_items::info_item(c, x.mack, x.marks, j).is_none()
+    if j == 0 {
+        return false;
+    }
+    let Some(_) = mack_items::info_item(c, x.mack, x.marks, j) else {
+        return true;
+    };
+    false
 }

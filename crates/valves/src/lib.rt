@@ -39,12 +39,10 @@ impl Valve {
         ensures { rule_of result ≡ next (rule_of self) met }
     {
         match self {
-            Valve::Free if met => Valve::Free,
+            Valve::Free | Valve::Closed if met => Valve::Free,
             Valve::Free => Valve::ClosedTwo,
             Valve::ClosedTwo => Valve::ClosedOne,
-            Valve::ClosedOne => Valve::Closed,
-            Valve::Closed if met => Valve::Free,
-            Valve::Closed => Valve::Closed,
+            Valve::ClosedOne | Valve::Closed => Valve::Closed,
         }
     }
 

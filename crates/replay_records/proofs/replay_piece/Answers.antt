@@ -1,7 +1,7 @@
 -- The library cuts the next record off what is left; its lines stand behind those that are written.
-use Rattle.std.proofs.Common.{◌≡◌, ◌*◌, ◌<◌, List, ℕ, [], length, ◌∙◌}
+use Rattle.std.proofs.Common.{[], length, ◌∙◌}
 use Rattle.std.proofs.lemmas.List.{length_push}
-use Rattle.std.specs.Slice.Iter.{chunks_rest, chunks_size}
+use Rattle.std.specs.Slice.Iter.{chunks_rest}
 use Rattle.replay_records.proofs.Pieces.{none_read, on, past, record_is, rest_is, room_left, rest_long, place_left, read_on, read_all}
 use Rattle.replay_records.proofs.replay_piece.Goals as goal
 

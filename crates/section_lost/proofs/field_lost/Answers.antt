@@ -1,23 +1,22 @@
 -- `section_lost::field_lost` meets its contract: the tests are those of `field_lost`.
-use mathlib.Core.Path.{◌≡◌, refl, sym, ap, ◌∙◌}
+use mathlib.Core.Path.{◌≡◌, sym, ap, ◌∙◌}
 use mathlib.Core.Bool.{true, false, not}
 use Prim.Native.Nat.{◌+◌, ◌/◌}
-use borrow.Author.Tests.{eq-eqb}
 use Rattle.rules.specs.Mack.{field_at}
 use Rattle.rules.specs.Received.{key_came, tag_came, info_came}
 use Rattle.rules.specs.Tags.{flexible}
-use Rattle.section_lost.proofs.Lost.{lost_key, lost_tag, lost_macseq, first_whole, by_info, none_is, none_came}
+use Rattle.section_lost.proofs.Lost.{lost_key, lost_tag, lost_macseq, first_whole, by_info, some_came, none_came}
 use Rattle.section_lost.proofs.field_lost.Goals as goal
-use Rattle.section_lost.proofs.field_lost.Goals.{Else-flexible, Else-not-key_came, Else-is_none}
+use Rattle.section_lost.proofs.field_lost.Goals.{Else-flexible, Else-not-key_came, In-Some}
 
 key_in : (c : Else-not-key_came) → key_came c.args.c c.args.x.marks (c.args.j / c.args.c.fields + 1) ≡ true
 key_in c = sym c.key_came.ensures ∙ c.if-not-key_came.false
 
-tag_in : (c : Else-is_none) → tag_came c.args.c c.args.x.marks c.args.j ≡ true
+tag_in : (c : In-Some) → tag_came c.args.c c.args.x.marks c.args.j ≡ true
 unfolding tag_came
 tag_in c =
     let g = c.args in
-    none_came g.x.mack.now g.x.marks (field_at g.c g.j) g.c.ms _ _ c.tag_item.ensures c.is_none.ensures ∙ rw c.if-is_none.false refl
+    some_came g.x.mack.now g.x.marks (field_at g.c g.j) g.c.ms _ _ c.tag_item.ensures c.in-Some.is
 
 fixed : (c : Else-flexible) → flexible c.args.config.now c.args.x.time c.args.j ≡ false
 fixed c = sym c.flexible.ensures ∙ c.if-flexible.false
@@ -27,32 +26,41 @@ returns-then-not-key_came c m =
     let g = c.args in
     sym (lost_key g.config.now g.c g.x.time g.x.marks g.j (sym c.key_came.ensures ∙ c.if-not-key_came.true))
 
-pub returns-then-is_none : goal.returns-then-is_none
+pub returns-in_default : goal.returns-in_default
 unfolding tag_came
-returns-then-is_none c m =
+returns-in_default c m =
     let g = c.args in
     sym
-    (lost_tag g.config.now g.c g.x.time g.x.marks g.j (key_in (goal.at.returns-then-is_none c).Else-not-key_came)
-    (none_came g.x.mack.now g.x.marks (field_at g.c g.j) g.c.ms _ _ c.tag_item.ensures c.is_none.ensures ∙ rw c.if-is_none.true refl))
+    (lost_tag g.config.now g.c g.x.time g.x.marks g.j (key_in (goal.at.returns-in_default c).Else-not-key_came)
+    (none_came g.x.mack.now g.x.marks (field_at g.c g.j) g.c.ms _ c.tag_item.ensures c.in_default.not-Some))
 
 pub returns-then-flexible : goal.returns-then-flexible
 returns-then-flexible c m =
     let g = c.args in
     let a = goal.at.returns-then-flexible c in
     ap not m
-    ∙ sym (lost_macseq g.config.now g.c g.x.time g.x.marks g.j (key_in a.Else-not-key_came) (tag_in a.Else-is_none) (sym c.flexible.ensures ∙ c.if-flexible.true))
+    ∙ sym (lost_macseq g.config.now g.c g.x.time g.x.marks g.j (key_in a.Else-not-key_came) (tag_in a.In-Some) (sym c.flexible.ensures ∙ c.if-flexible.true))
 
-pub returns-then-j-ne0 : goal.returns-then-j-ne0
+pub returns-then-j-eq0 : goal.returns-then-j-eq0
+returns-then-j-eq0 c m =
+    let g = c.args in
+    let a = goal.at.returns-then-j-eq0 c in
+    sym (first_whole g.config.now g.c g.x.time g.x.marks g.j (key_in a.Else-not-key_came) (tag_in a.In-Some) (fixed a.Else-flexible) c.if-j-eq0.true)
+
+pub returns-in_default-info_item : goal.returns-in_default-info_item
 unfolding info_came
-returns-then-j-ne0 c m =
+returns-in_default-info_item c m =
     let g = c.args in
-    let a = goal.at.returns-then-j-ne0 c in
-    none_is _ _ (none_came g.x.mack.now g.x.marks (field_at g.c g.j + g.c.ms) 16 _ _ c.info_item.ensures c.is_none-then-j-ne0.ensures)
-    ∙ sym (by_info g.config.now g.c g.x.time g.x.marks g.j (key_in a.Else-not-key_came) (tag_in a.Else-is_none) (fixed a.Else-flexible) c.if-j-ne0.true)
+    let a = goal.at.returns-in_default-info_item c in
+    sym
+    (by_info g.config.now g.c g.x.time g.x.marks g.j (key_in a.Else-not-key_came) (tag_in a.In-Some) (fixed a.Else-flexible) c.if-j-eq0.false
+    ∙ ap not (none_came g.x.mack.now g.x.marks (field_at g.c g.j + g.c.ms) 16 _ c.info_item.ensures c.in_default-info_item.not-Some))
 
-pub returns-else-j-ne0 : goal.returns-else-j-ne0
-returns-else-j-ne0 c m =
+pub returns : goal.returns
+unfolding info_came
+returns c m =
     let g = c.args in
-    let a = goal.at.returns-else-j-ne0 c in
-    rw (eq-eqb g.j 0 c.if-j-ne0.false)
-    (sym (first_whole g.config.now g.c g.x.time g.x.marks g.j (key_in a.Else-not-key_came) (tag_in a.Else-is_none) (fixed a.Else-flexible) c.if-j-ne0.false))
+    let a = goal.at.returns c in
+    sym
+    (by_info g.config.now g.c g.x.time g.x.marks g.j (key_in a.Else-not-key_came) (tag_in a.In-Some) (fixed a.Else-flexible) c.if-j-eq0.false
+    ∙ ap not (some_came g.x.mack.now g.x.marks (field_at g.c g.j + g.c.ms) 16 _ _ c.info_item.ensures c.in-Some-info_item.is))

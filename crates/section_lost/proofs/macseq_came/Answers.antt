@@ -4,21 +4,21 @@ use mathlib.Core.Bool.{true}
 use Prim.Native.Nat.{◌*◌}
 use native.Mathlib.Omega.{arith}
 use Rattle.rules.specs.Received.{bits_came}
-use Rattle.section_lost.proofs.Lost.{none_flexible, next_flexible, one_lost, macseq_lost, macseq_whole, none_came}
+use Rattle.section_lost.proofs.Lost.{none_flexible, next_flexible, one_lost, macseq_lost, macseq_whole, some_came, none_came}
 use Rattle.section_lost.proofs.macseq_came.Goals as goal
-use Rattle.section_lost.proofs.macseq_came.Goals.{Else-is_none}
+use Rattle.section_lost.proofs.macseq_came.Goals.{In-Some}
 
-whole : (c : Else-is_none) → bits_came c.args.x.marks c.args.c.ms 12 ≡ true
+whole : (c : In-Some) → bits_came c.args.x.marks c.args.c.ms 12 ≡ true
 whole c =
     let g = c.args in
-    none_came g.x.mack.now g.x.marks g.c.ms 12 _ _ c.macseq_item.ensures c.is_none.ensures ∙ rw c.if-is_none.false refl
+    some_came g.x.mack.now g.x.marks g.c.ms 12 _ _ c.macseq_item.ensures c.in-Some.is
 
-pub returns-then-is_none : goal.returns-then-is_none
-returns-then-is_none c =
+pub returns-in_default : goal.returns-in_default
+returns-in_default c =
     let g = c.args in
     sym
     (macseq_lost g.config.now g.c g.x.time g.x.marks
-    (none_came g.x.mack.now g.x.marks g.c.ms 12 _ _ c.macseq_item.ensures c.is_none.ensures ∙ rw c.if-is_none.true refl))
+    (none_came g.x.mack.now g.x.marks g.c.ms 12 _ c.macseq_item.ensures c.in_default.not-Some))
 
 pub loop-j-init : goal.loop-j-init
 loop-j-init c = let g = c.args in none_flexible g.config.now g.c g.x.time g.x.marks
@@ -27,7 +27,7 @@ pub returns-then-not-flexible_came : goal.returns-then-not-flexible_came
 returns-then-not-flexible_came c =
     let g = c.args in
     sym
-    (macseq_whole g.config.now g.c g.x.time g.x.marks (whole (goal.at.returns-then-not-flexible_came c).Else-is_none)
+    (macseq_whole g.config.now g.c g.x.time g.x.marks (whole (goal.at.returns-then-not-flexible_came c).In-Some)
     ∙ one_lost g.config.now g.c g.x.time g.x.marks (g.c.nmack * g.c.fields) c.loop-j.j (omega arith) (sym c.flexible_came.ensures ∙ c.if-not-flexible_came.true))
 
 pub loop-j-preserved : goal.loop-j-preserved
@@ -40,4 +40,4 @@ pub returns : goal.returns
 returns c =
     let g = c.args in
     let h : c.loop-j.j ≡ g.c.nmack * g.c.fields = omega arith in
-    sym (macseq_whole g.config.now g.c g.x.time g.x.marks (whole (goal.at.returns c).Else-is_none) ∙ rw (← h) c.loop-j.invariant)
+    sym (macseq_whole g.config.now g.c g.x.time g.x.marks (whole (goal.at.returns c).In-Some) ∙ rw (← h) c.loop-j.invariant)
