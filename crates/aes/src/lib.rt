@@ -7,7 +7,7 @@
 //   cipher       a block under round keys
 // A state is worked on as four numbers, its columns, so that one operation serves the four bytes of a column.
 ghost use Rattle.std.specs.Prelude.{◌≡◌, List, [], ◌∷◌, ℕ, ◌+◌, ◌-◌, ◌*◌, ◌/◌, ◌%◌, ◌≤◌, ◌<◌, length};
-ghost use Rattle.laws.specs.Lists.{part, splice};
+ghost use Rattle.laws.specs.Lists.{part};
 ghost use Rattle.laws.specs.Bytes.{be4};
 ghost use Rattle.aes.specs.Aes as S;
 ghost use Rattle.aes.specs.Steps as C;
@@ -187,7 +187,7 @@ fn lay_key(key: &[u8], nk: usize, w: &mut [u8])
 {
     let n = key.len().min(4 * nk);
     w.fill(0);
-    w[..n].copy_from_slice(&key[..n]);
+    buffer::copy_at(w, 0, &key[..n]);
 }
 
 // x^n.

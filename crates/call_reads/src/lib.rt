@@ -72,8 +72,8 @@ pub fn read_message(
         return Err(Refusal::NotWaiting);
     }
     let id = offer[1] % 16;
-    message.copy_from_slice(&offer[2..47]);
-    signature.copy_from_slice(&offer[47..179]);
+    buffer::copy_part(message, 0, offer, 2, 45);
+    buffer::copy_part(signature, 0, offer, 47, 132);
     public_keys::key_bytes(pubkeys, id, pubkey);
     let kind = public_keys::key_type(pubkeys, id);
     Ok(SignedBy { id, kind })

@@ -1,5 +1,7 @@
 -- `call_reads::read_message` meets its contract: each part of the region goes to the bytes lent for it.
-use mathlib.Core.Path.{◌≡◌}
+use mathlib.Core.Path.{◌≡◌, sym, ◌∙◌}
+use lib.ListN.{length}
+use Rattle.laws.proofs.Splice.{length_part, splice_whole}
 use Rattle.std.proofs.Common.{rules}
 use Rattle.laws.specs.Lists.{part}
 use Rattle.rules.specs.Kroot.{offer_id, offer_message, offer_signature}
@@ -14,19 +16,21 @@ returns-then-offer-ne1 c =
 
 -- the lent bytes are those of the region
 pub returns : goal.returns
-unfolding offer_id offer_message offer_signature part
+unfolding offer_id offer_message offer_signature
 returns c =
     let g = c.args in
-    let m : c.copy_from_slice.new.self ≡ part g.offer.now 2 45 = c.copy_from_slice.ensures.after in
-    let n : c.copy_from_slice-2.new.self ≡ part g.offer.now 47 132 = c.copy_from_slice-2.ensures.after in
+    let lm = length_part g.offer.now 2 45 (search rules) in
+    let ln = length_part g.offer.now 47 132 (search rules) in
+    let wm : length g.message.now ≡ 45 = search rules in
+    let wn : length g.signature.now ≡ 132 = search rules in
     λ s.
     offer_found s g.pubkeys.now g.offer.now g.message.now g.signature.now g.pubkey.now ((search rules, search rules), (search rules, (search rules, search rules)))
     c.if-offer-ne1.false
-    c.copy_from_slice.new.self
-    c.copy_from_slice-2.new.self
+    c.copy_part.new.dst
+    c.copy_part-2.new.dst
     c.key_bytes.new.out
     c.key_type-kind.result
-    m
-    n
+    (c.copy_part.ensures ∙ splice_whole g.message.now (part g.offer.now 2 45) (lm ∙ sym wm))
+    (c.copy_part-2.ensures ∙ splice_whole g.signature.now (part g.offer.now 47 132) (ln ∙ sym wn))
     c.key_bytes.ensures
     c.key_type-kind.ensures
