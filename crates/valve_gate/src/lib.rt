@@ -18,7 +18,7 @@ ghost use Rattle.valve_gate.specs.Asked.{decide_asked};
 use valves::Gate;
 
 // Bytes of the state.
-pub const GATE_LENGTH: usize = valves::GATE_LENGTH;
+pub const GATE_LENGTH: usize = 49;
 
 // Ages, in sub-frames, that satellites may have for the centre valves and for the outer ones.
 pub const CENTRE_LIMIT: u32 = 20;
