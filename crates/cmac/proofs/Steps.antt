@@ -12,7 +12,7 @@ use lib.ListN.{length, take, drop, set, replicate, length-append, length-drop}
 use borrow.Rule.Slice.PartMut.{put_mid}
 use lib.Seq.{set_at, take_all}
 use Rattle.laws.specs.Lists.{part, splice}
-use Rattle.laws.proofs.Splice.{below?, lent, length_splice, length_part, splice_one, splice-after, drop-replicate}
+use Rattle.laws.proofs.Splice.{below?, lent, length_splice, length_part, splice_one, splice-after, splice-start}
 use Rattle.cmac.specs.Cmac as S
 use Rattle.cmac.proofs.Counts.{blocks_hold}
 
@@ -40,19 +40,19 @@ module _ (k1 k2 m : List ℕ) (i : ℕ) where
       let e : S.blocks (length m) - 1 ≡ i = ⊎_elim (λ z. omega arith) (λ z. omega (arith, n.needed z)) (below? (length m) 1) in
       rw (le-ltb (i + 1) (S.blocks (length m)) (omega arith), e, rest_is m i)
 
--- ---- the last block, from bytes b that are what is left of the message
-module _ (r b : List ℕ) (e : b ≡ r) where
-  pub padded_complete : length r ≤ 16 → 16 ≤ length r → b ++ drop (length r) (replicate 16 0) ≡ S.padded r
+-- ---- the last block, from bytes b that begin with what is left of the message
+module _ (r b : List ℕ) (e : b ≡ splice (replicate 16 0) 0 r) where
+  pub padded_complete : length r ≤ 16 → 16 ≤ length r → b ≡ S.padded r
   unfolding S.padded
   padded_complete g h =
       let z : 16 - length r ≡ 0 = omega arith in
-      rw (eq-eqb (length r) 16 (omega arith), e, drop-replicate (length r) 16 0, z) (append-nil r)
+      rw (eq-eqb (length r) 16 (omega arith), e, splice-start 16 0 r, z) (append-nil r)
 
-  pub padded_partial : length r < 16 → set (b ++ drop (length r) (replicate 16 0)) (length r) 0x80 ≡ S.padded r
+  pub padded_partial : length r < 16 → set b (length r) 0x80 ≡ S.padded r
   unfolding S.padded
   padded_partial h =
       let z : 16 - length r ≡ suc (15 - length r) = omega arith in
-      rw (ne_eqb (length r) 16 (omega arith), e, drop-replicate (length r) 16 0, z) (set_at r 0 (replicate (15 - length r) 0) 0x80 (length r) refl)
+      rw (ne_eqb (length r) 16 (omega arith), e, splice-start 16 0 r, z) (set_at r 0 (replicate (15 - length r) 0) 0x80 (length r) refl)
 
 -- its subkey
 pub subkey-length : (t : Bool) (l : List ℕ) → length l ≡ 273 → length (cond t (part l 240 16) (part l 256 16)) ≡ 16

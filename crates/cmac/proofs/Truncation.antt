@@ -13,7 +13,7 @@ use lib.Bits.{shifted_even}
 use lib.Pow.{split, shr-shr, shl-shr, pow-add}
 use borrow.Author.Tests.{lt-ltb, le-ltb}
 use Rattle.laws.proofs.Splice.{below?}
-use lib.ListN.{length, get_or}
+use lib.ListN.{length, get_or, take}
 use Rattle.cmac.specs.Cmac as S
 
 pub length-truncated : (n : ℕ) (code : List ℕ) → length (S.truncated n code) ≡ length code
@@ -33,6 +33,19 @@ get_or-truncated n (x ∷ xs) zero = simp unary_clauses
 get_or-truncated n (x ∷ xs) (suc i) =
     let e : n - 8 - 8 * i ≡ n - 8 * suc i = omega arith in
     get_or-truncated (n - 8) xs i ∙ ap (λ (k : ℕ). S.first_bits k (get_or xs i 0)) e
+
+-- whole bytes are kept
+first_all : (n x : ℕ) → 8 ≤ n → S.first_bits n x ≡ x
+unfolding S.first_bits
+first_all n x h =
+    let e : 8 - n ≡ 0 = omega arith in
+    rw e (omega arith)
+
+pub whole_bytes : (n : ℕ) (code : List ℕ) (k : ℕ) → 8 * k ≤ n → take k code ≡ take k (S.truncated n code)
+unfolding S.truncated
+whole_bytes n [] k h = refl
+whole_bytes n (x ∷ xs) zero h = refl
+whole_bytes n (x ∷ xs) (suc k) h = rw (first_all n x (omega arith), ← whole_bytes (n - 8) xs k (omega arith))
 
 fits : (x y r : ℕ) → y + r ≡ x → x < 256 → y % 65536 ≡ y
 fits x y r e h = omega arith

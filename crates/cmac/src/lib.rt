@@ -108,7 +108,7 @@ fn padded(rest: &[u8]) -> [u8; 16]
     ensures { result ≡ S.padded rest.now }
 {
     let mut b = [0; 16];
-    b[..rest.len()].copy_from_slice(rest);
+    buffer::copy_at(&mut b, 0, rest);
     if rest.len() < 16 {
         b[rest.len()] = 0x80;
     }
@@ -162,12 +162,12 @@ fn shifted(x: [u8; 16]) -> [u8; 16]
     d
 }
 
-// The first n bits of a code; the bits after them are zero.
+// The first n bits of a code; the bits after them are zero. The bytes that are kept whole are passed over.
 pub fn truncate(code: [u8; 16], n: usize) -> [u8; 16]
     ensures { result ≡ S.truncated n code }
 {
-    let mut d = [0; 16];
-    for i in 0..16 {
+    let mut d = code;
+    for i in (n / 8).min(16)..16 {
         d[i] = first_bits(code[i], n.saturating_sub(8 * i));
     }
     d

@@ -63,7 +63,7 @@ fn zero_padded(b: &[u8]) -> [u8; 64]
     ensures { result ≡ Spec.zero_padded b.now }
 {
     let mut d = [0u8; 64];
-    d[..b.len()].copy_from_slice(b);
+    buffer::copy_at(&mut d, 0, b);
     d
 }
 

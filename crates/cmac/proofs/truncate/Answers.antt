@@ -3,13 +3,13 @@ use mathlib.Core.Path.{◌≡◌, refl, sym, ◌∙◌}
 use lib.ListN.{length, length-set}
 use Rattle.laws.proofs.Fill.{fill_one, fill_all}
 use Rattle.cmac.specs.Cmac as S
-use Rattle.cmac.proofs.Truncation.{get_or-truncated, length-truncated}
+use Rattle.cmac.proofs.Truncation.{get_or-truncated, length-truncated, whole_bytes}
 use borrow.Author.Rules.{rules}
 use native.Mathlib.Omega.{arith}
 use Rattle.cmac.proofs.truncate.Goals as goal
 
 pub loop-i-init : goal.loop-i-init
-loop-i-init c = (refl, refl)
+loop-i-init c = (search rules, whole_bytes c.args.n c.args.code c.min-i.result (omega arith))
 
 pub loop-i-preserved : goal.loop-i-preserved
 loop-i-preserved c =
